@@ -1,0 +1,164 @@
+-- Laws of the checks.
+--     passed, stopped, clear      the first check of a list that catches
+--     parts-refusal               checks 5 to 9 on the parts of a table are the document's, on the decoded table
+-- Assumes nothing.
+use mathlib.Core.Bool.{Bool, true, false, cond, not, _||_}
+use mathlib.Core.List.{List, [], _∷_}
+use mathlib.Core.Path.{_≡_, refl, sym, ap, _∙_}
+use Prim.Native.Nat.{ℕ, _+_, _-_, _*_, _<_, _≤_}
+use native.Mathlib.Omega.{arith}
+use borrow.Author.Tests.{leb-false, lt-ltb, le-ltb, eq-eqb, ne-eqb}
+use lib.Dec.{leb}
+use lib.ListN.{length, take, drop}
+use Rattle.run_table.proofs.FormatLaws.{decode-count, decode-processes}
+use Rattle.run_table.proofs.NumberLaws.{any-tabulate, anyBelow-ext, anyBelow-or, none-below, or-false-left, or-false-right}
+use Rattle.run_table.specs.Checks.{Check, badCount, badLength, badProcessCount, badReceipt, badSend, firstCaught, outside, tableChecks, tableRefusal, toItself, tooManyMessages, tooShort, unknownProcess}
+use Rattle.run_table.specs.Format.{checkpointAt, countAt, countsPart, decode, messageAt, messagesIn, processAt, processesIn, receiptsPart, sendsPart, tableLength}
+use Rattle.run_table.specs.Numbers.{any, u16At}
+use Rattle.run_table.specs.Parts.{anyBelow, badCountAt, notBelowAt, partsRefusal, toItselfAt, unknownAt}
+use Rattle.run_table.specs.Table.{Message, Table, countOf, processCount}
+
+-- a check that catches nothing is passed over; one that catches gives its number; a list that ends gives 0
+pub passed : (c : Check) (rest : List Check) (n : ℕ) → c .caught ≡ false → firstCaught rest ≡ n → firstCaught (c ∷ rest) ≡ n
+unfolding firstCaught
+passed c rest n e later = rw e later
+
+pub stopped : (c : Check) (rest : List Check) → c .caught ≡ true → firstCaught (c ∷ rest) ≡ c .number
+unfolding firstCaught
+stopped c rest e = rw e
+
+pub clear : firstCaught [] ≡ 0
+unfolding firstCaught
+clear = refl
+
+-- two lists that begin with one test and agree once it catches nothing
+same-check : (a b : Bool) (n : ℕ) (rest rest′ : List Check) → a ≡ b → (b ≡ false → firstCaught rest ≡ firstCaught rest′)
+    → firstCaught (record { caught = a; number = n } ∷ rest) ≡ firstCaught (record { caught = b; number = n } ∷ rest′)
+unfolding firstCaught
+same-check a b n rest rest′ e later = ap (λ (x : Bool). firstCaught (record { caught = x; number = n } ∷ rest)) e ∙ go b later
+  where
+    go : (x : Bool) → (x ≡ false → firstCaught rest ≡ firstCaught rest′)
+        → firstCaught (record { caught = x; number = n } ∷ rest) ≡ firstCaught (record { caught = x; number = n } ∷ rest′)
+    go true f = refl
+    go false f = f refl
+
+-- one check of two tests, as two checks of one number, where the rest agrees once neither catches
+split-check : (c a b : Bool) (n : ℕ) (rest rest′ : List Check) → c ≡ (a || b) → ((a || b) ≡ false → firstCaught rest ≡ firstCaught rest′)
+    → firstCaught (record { caught = c; number = n } ∷ rest)
+    ≡ firstCaught (record { caught = a; number = n } ∷ record { caught = b; number = n } ∷ rest′)
+unfolding firstCaught
+split-check c a b n rest rest′ e later = ap (λ (x : Bool). firstCaught (record { caught = x; number = n } ∷ rest)) e ∙ go a b later
+  where
+    go : (x y : Bool) → ((x || y) ≡ false → firstCaught rest ≡ firstCaught rest′)
+        → firstCaught (record { caught = x || y; number = n } ∷ rest)
+        ≡ firstCaught (record { caught = x; number = n } ∷ record { caught = y; number = n } ∷ rest′)
+    go true y f = refl
+    go false true f = refl
+    go false false f = f refl
+
+-- checks 1 to 4, from the numbers that the code read
+module _ (bytes : List ℕ) where
+  pub short : length bytes < 4 → tooShort bytes ≡ true
+  unfolding tooShort
+  short l = lt-ltb (length bytes) 4 l
+
+  pub not-short : 4 ≤ length bytes → tooShort bytes ≡ false
+  unfolding tooShort
+  not-short l = le-ltb (length bytes) 4 l
+
+  module _ (n m : ℕ) (read-n : n ≡ u16At bytes 0) (read-m : m ≡ u16At bytes 2) where
+    pub process-count : badProcessCount bytes ≡ outside 32 n
+    unfolding badProcessCount processesIn
+    process-count = ap (outside 32) (sym read-n)
+
+    pub many-messages : 4096 < m → tooManyMessages bytes ≡ true
+    unfolding tooManyMessages messagesIn
+    many-messages l = rw (← read-m) (lt-ltb 4096 m l)
+
+    pub few-messages : m ≤ 4096 → tooManyMessages bytes ≡ false
+    unfolding tooManyMessages messagesIn
+    few-messages l = rw (← read-m) (le-ltb 4096 m l)
+
+    pub wrong-length : (length bytes ≡ tableLength n m → ⊥) → badLength bytes ≡ true
+    unfolding badLength messagesIn processesIn
+    wrong-length f = rw (← read-n, ← read-m) (ap not (ne-eqb (length bytes) (tableLength n m) f))
+
+    pub right-length : length bytes ≡ tableLength n m → badLength bytes ≡ false
+    unfolding badLength messagesIn processesIn
+    right-length e = rw (← read-n, ← read-m) (ap not (eq-eqb (length bytes) (tableLength n m) e))
+
+    -- the parts as the code takes them, from a start to an end
+    pub parts-read :
+        partsRefusal n m (take (4 + 2 * n - 4) (drop 4 bytes)) (take (4 + 2 * n + 4 * m - (4 + 2 * n)) (drop (4 + 2 * n) bytes))
+        (take (4 + 2 * n + 4 * m + 4 * m - (4 + 2 * n + 4 * m)) (drop (4 + 2 * n + 4 * m) bytes))
+        ≡ partsRefusal (processesIn bytes) (messagesIn bytes) (countsPart bytes) (sendsPart bytes) (receiptsPart bytes)
+    unfolding countsPart sendsPart receiptsPart messagesIn processesIn
+    parts-read =
+        let counts : 4 + 2 * n - 4 ≡ 2 * n = omega arith in
+        let sends : 4 + 2 * n + 4 * m - (4 + 2 * n) ≡ 4 * m = omega arith in
+        let receipts : 4 + 2 * n + 4 * m + 4 * m - (4 + 2 * n + 4 * m) ≡ 4 * m = omega arith in
+        rw (counts, sends, receipts, read-n, read-m)
+
+-- checks 5 to 9 of the decoded table, in terms of the parts of its bytes
+module _ (bytes : List ℕ) where
+  abbrev N : ℕ
+  N = processesIn bytes
+
+  abbrev M : ℕ
+  M = messagesIn bytes
+
+  abbrev t : Table
+  t = decode bytes
+
+  abbrev at : ℕ → Message
+  at = messageAt (sendsPart bytes) (receiptsPart bytes)
+
+  any-message : (test : Message → Bool) → any test (t .messages) ≡ anyBelow M (λ k. test (at k))
+  unfolding decode
+  any-message test = any-tabulate test M at
+
+  check-5 : any badCount (t .counts) ≡ anyBelow N (badCountAt (countsPart bytes))
+  unfolding decode badCountAt
+  check-5 = any-tabulate badCount N (countAt (countsPart bytes))
+
+  check-6 : any (unknownProcess (processCount t)) (t .messages)
+      ≡ (anyBelow M (unknownAt N (sendsPart bytes)) || anyBelow M (unknownAt N (receiptsPart bytes)))
+  unfolding unknownProcess unknownAt messageAt
+  check-6 =
+      any-message (unknownProcess (processCount t))
+      ∙ ap (λ (n : ℕ). anyBelow M (λ k. unknownProcess n (at k))) (decode-processes bytes)
+      ∙ anyBelow-or (unknownAt N (sendsPart bytes)) (unknownAt N (receiptsPart bytes)) M
+
+  check-7 : any toItself (t .messages) ≡ anyBelow M (toItselfAt (sendsPart bytes) (receiptsPart bytes))
+  unfolding toItself toItselfAt messageAt
+  check-7 = any-message toItself
+
+  -- the count of a known process is that of the bytes
+  count-at : (part : List ℕ) → anyBelow M (unknownAt N part) ≡ false → (k : ℕ) → k < M
+      → leb (countOf t (processAt part k)) (checkpointAt part k) ≡ notBelowAt (countsPart bytes) part k
+  unfolding notBelowAt unknownAt
+  count-at part none k l =
+      ap (λ (n : ℕ). leb n (checkpointAt part k))
+      (decode-count bytes (processAt part k) (leb-false N (processAt part k) (none-below (unknownAt N part) M none k l)))
+
+  check-8 : anyBelow M (unknownAt N (sendsPart bytes)) ≡ false → any (badSend t) (t .messages) ≡ anyBelow M (notBelowAt (countsPart bytes) (sendsPart bytes))
+  unfolding badSend messageAt
+  check-8 none = any-message (badSend t) ∙ anyBelow-ext (λ k. badSend t (at k)) (notBelowAt (countsPart bytes) (sendsPart bytes)) M (count-at (sendsPart bytes) none)
+
+  check-9 : anyBelow M (unknownAt N (receiptsPart bytes)) ≡ false
+      → any (badReceipt t) (t .messages) ≡ anyBelow M (notBelowAt (countsPart bytes) (receiptsPart bytes))
+  unfolding badReceipt messageAt
+  check-9 none =
+      any-message (badReceipt t) ∙ anyBelow-ext (λ k. badReceipt t (at k)) (notBelowAt (countsPart bytes) (receiptsPart bytes)) M (count-at (receiptsPart bytes) none)
+
+  -- where the sizes are right, the refusal is that of the parts
+  pub parts-refusal : tooShort bytes ≡ false → badProcessCount bytes ≡ false → tooManyMessages bytes ≡ false → badLength bytes ≡ false
+      → tableRefusal bytes ≡ partsRefusal N M (countsPart bytes) (sendsPart bytes) (receiptsPart bytes)
+  unfolding tableRefusal tableChecks partsRefusal
+  parts-refusal e1 e2 e3 e4 =
+      passed _ _ _ e1 (passed _ _ _ e2 (passed _ _ _ e3 (passed _ _ _ e4
+      (same-check _ _ _ _ _ check-5 (λ _.
+      split-check _ _ _ _ _ _ check-6 (λ known.
+      same-check _ _ _ _ _ check-7 (λ _.
+      same-check _ _ _ _ _ (check-8 (or-false-left (anyBelow M (unknownAt N (sendsPart bytes))) (anyBelow M (unknownAt N (receiptsPart bytes))) known)) (λ _.
+      same-check _ _ _ _ _ (check-9 (or-false-right (anyBelow M (unknownAt N (sendsPart bytes))) (anyBelow M (unknownAt N (receiptsPart bytes))) known)) (λ _. refl)))))))))

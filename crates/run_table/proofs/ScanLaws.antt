@@ -1,0 +1,88 @@
+-- What the loops of the checks find. A loop goes up over the indices below n and leaves at the first that passes its test.
+--     Passed                               the loop's invariant: no index below k passes
+--     passed-none, passed-more, passed-all how it begins, goes on and ends
+--     outside-zero, outside-above, inside  a number and its limit
+--     count-read .. below                  one index's test, from the numbers that the code read there
+-- Assumes nothing.
+use mathlib.Core.Bool.{Bool, true, false, _||_, or-true}
+use mathlib.Core.List.{List}
+use mathlib.Core.Path.{_≡_, refl, sym, ap, _∙_}
+use Prim.Native.Nat.{ℕ, _+_, _*_, _<_, _≤_, zero-le}
+use native.Mathlib.Nat.{le-antisymm}
+use native.Mathlib.Omega.{arith}
+use lib.Dec.{eqb}
+use borrow.Author.Tests.{lt-ltb, le-ltb, le-leb, lt-leb, leb-false, eq-eqb, ne-eqb}
+use Rattle.run_table.proofs.NumberLaws.{anyBelow-more, none-below}
+use Rattle.run_table.specs.Checks.{badCount, outside}
+use Rattle.run_table.specs.Format.{checkpointAt, countAt, processAt}
+use Rattle.run_table.specs.Numbers.{u16At}
+use Rattle.run_table.specs.Parts.{anyBelow, badCountAt, notBelowAt, toItselfAt, unknownAt}
+
+-- The loop stands at k, and no index below k passes the test.
+pub record Passed (n : ℕ) (test : ℕ → Bool) (k : ℕ) : Type 0 where
+  pub within : k ≤ n
+  pub none : anyBelow k test ≡ false
+
+pub passed-none : (n : ℕ) (test : ℕ → Bool) → Passed n test 0
+unfolding anyBelow
+passed-none n test = record { within = zero-le; none = refl }
+
+pub passed-more : (n : ℕ) (test : ℕ → Bool) (k : ℕ) → Passed n test k → k < n → test k ≡ false → Passed n test (k + 1)
+passed-more n test k p l h = record { within = omega arith; none = anyBelow-more test k (p .none) h }
+
+pub passed-all : (n : ℕ) (test : ℕ → Bool) (k : ℕ) → Passed n test k → n ≤ k → false ≡ anyBelow n test
+passed-all n test k p l =
+    let same : k ≡ n = le-antisymm (p .within) l in
+    rw same at (sym (p .none))
+
+-- a number that is 0 or above a limit, and one that is neither
+module _ (limit n : ℕ) where
+  pub outside-zero : n ≡ 0 → outside limit n ≡ true
+  unfolding outside
+  outside-zero z = rw z
+
+  pub outside-above : limit < n → outside limit n ≡ true
+  unfolding outside
+  outside-above l = rw (lt-ltb limit n l) (or-true (eqb n 0))
+
+  pub inside : (n ≡ 0 → ⊥) → n ≤ limit → outside limit n ≡ false
+  unfolding outside
+  inside z l = rw (ne-eqb n 0 z, le-ltb limit n l)
+
+-- the count that was read is that of the test
+pub count-read : (part : List ℕ) (p r : ℕ) → r ≡ u16At part (2 * p) → badCountAt part p ≡ outside 4096 r
+unfolding badCountAt badCount countAt
+count-read part p r read = ap (outside 4096) (sym read)
+
+module _ (n : ℕ) (part : List ℕ) (k r : ℕ) (read : r ≡ u16At part (4 * k)) where
+  pub unknown : n ≤ r → unknownAt n part k ≡ true
+  unfolding unknownAt processAt
+  unknown l = rw (← read) (le-leb n r l)
+
+  pub known : r < n → unknownAt n part k ≡ false
+  unfolding unknownAt processAt
+  known l = rw (← read) (lt-leb n r l)
+
+-- the entry's process is below n, as the check before has shown
+pub process-known : (n m : ℕ) (part : List ℕ) → anyBelow m (unknownAt n part) ≡ false → (k : ℕ) → k < m → u16At part (4 * k) < n
+unfolding unknownAt processAt
+process-known n m part none k l = leb-false n (u16At part (4 * k)) (none-below (unknownAt n part) m none k l)
+
+module _ (sends receipts : List ℕ) (k a b : ℕ) (read : a ≡ u16At sends (4 * k)) (read′ : b ≡ u16At receipts (4 * k)) where
+  pub one-process : a ≡ b → toItselfAt sends receipts k ≡ true
+  unfolding toItselfAt processAt
+  one-process e = rw (← read, ← read′) (eq-eqb a b e)
+
+  pub two-processes : (a ≡ b → ⊥) → toItselfAt sends receipts k ≡ false
+  unfolding toItselfAt processAt
+  two-processes e = rw (← read, ← read′) (ne-eqb a b e)
+
+module _ (counts part : List ℕ) (k p c s : ℕ) (read : p ≡ u16At part (4 * k)) (read′ : s ≡ u16At part (4 * k + 2))
+  (read″ : c ≡ u16At counts (2 * p)) where
+  pub not-below : c ≤ s → notBelowAt counts part k ≡ true
+  unfolding notBelowAt processAt checkpointAt countAt
+  not-below l = rw (← read, ← read′, ← read″) (le-leb c s l)
+
+  pub below : s < c → notBelowAt counts part k ≡ false
+  unfolding notBelowAt processAt checkpointAt countAt
+  below l = rw (← read, ← read′, ← read″) (lt-leb c s l)

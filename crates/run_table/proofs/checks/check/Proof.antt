@@ -1,0 +1,164 @@
+-- `checks::check` meets its contract: the sizes are checked in the order of the list, and `entry_checks` answers the rest.
+-- Assumes nothing.
+use borrow.Author.Needs.{needs}
+use native.Mathlib.Omega.{arith}
+use mathlib.Core.Bool.{false}
+use mathlib.Core.List.{List}
+use mathlib.Core.Path.{_≡_, sym, _∙_}
+use Prim.Native.Nat.{ℕ}
+use denote.Ref.{now}
+use Rattle.run_table.proofs.CheckLaws.{passed, stopped, short, not-short, process-count, many-messages, few-messages, wrong-length, right-length, parts-read, parts-refusal}
+use Rattle.run_table.proofs.ScanLaws.{outside-zero, outside-above, inside}
+use Rattle.run_table.specs.Checks.{badLength, badProcessCount, tableChecks, tableRefusal, tooManyMessages, tooShort}
+use Rattle.run_table.specs.Format.{tableLength}
+use Rattle.run_table.proofs.checks.check.Statement.{statement}
+use Rattle.run_table.proofs.checks.check.Tie as tie
+
+-- the bytes, and what each check has shown where it caught nothing
+abbrev B : tie.Else1 → List ℕ
+B c = now (c .before .before .args .table)
+
+passed-1 : (c : tie.Else1) → tooShort (B c) ≡ false
+passed-1 c = not-short (B c) (c .if1 .left)
+
+passed-2 : (c : tie.Else3) → badProcessCount (B (c .before .before .before .before)) ≡ false
+passed-2 c =
+    let read = c .before .before in
+    process-count _ _ _ (read .before .u16-at .ensures) (read .u16-at2 .ensures) ∙ inside _ _ (c .before .if2 .left) (c .if3 .left)
+
+passed-3 : (c : tie.Else4) → tooManyMessages (B (c .before .before .before .before .before)) ≡ false
+passed-3 c =
+    let read = c .before .before .before in
+    few-messages _ _ _ (read .before .u16-at .ensures) (read .u16-at2 .ensures) (c .if4 .left)
+
+passed-4 : (c : tie.Else5) → badLength (B (c .before .before .before .before .before .before)) ≡ false
+unfolding tableLength
+passed-4 c =
+    let read = c .before .before .before .before in
+    right-length _ _ _ (read .before .u16-at .ensures) (read .u16-at2 .ensures) (omega arith)
+
+returns : tie.Need-returns
+unfolding tableRefusal tableChecks
+returns c = sym (stopped _ _ (short _ (c .if1 .taken)))
+
+u16-at-requires : tie.Need-u16-at-requires
+u16-at-requires c κs = search needs
+
+cast-n : tie.Need-cast-n
+cast-n c = search needs
+
+u16-at-requires-2 : tie.Need-u16-at-requires-2
+u16-at-requires-2 c κs = search needs
+
+cast-m : tie.Need-cast-m
+cast-m c = search needs
+
+returns-2 : tie.Need-returns-2
+unfolding tableRefusal tableChecks
+returns-2 c =
+    let read = c .before in
+    sym (passed _ _ _ (passed-1 (read .before .before)) (stopped _ _ (process-count _ _ _ (read .before .u16-at .ensures) (read .u16-at2 .ensures) ∙ outside-zero _ _ (c .if2 .taken))))
+
+returns-3 : tie.Need-returns-3
+unfolding tableRefusal tableChecks
+returns-3 c =
+    let read = c .before .before in
+    sym (passed _ _ _ (passed-1 (read .before .before)) (stopped _ _ (process-count _ _ _ (read .before .u16-at .ensures) (read .u16-at2 .ensures) ∙ outside-above _ _ (c .if3 .taken))))
+
+returns-4 : tie.Need-returns-4
+unfolding tableRefusal tableChecks
+returns-4 c =
+    let read = c .before .before .before in
+    sym (passed _ _ _ (passed-1 (read .before .before)) (passed _ _ _ (passed-2 (c .before)) (stopped _ _ (many-messages _ _ _ (read .before .u16-at .ensures) (read .u16-at2 .ensures) (c .if4 .taken)))))
+
+mul-sends-at : tie.Need-mul-sends-at
+mul-sends-at c = search needs
+
+add-sends-at : tie.Need-add-sends-at
+add-sends-at c = search needs
+
+mul-receipts-at : tie.Need-mul-receipts-at
+mul-receipts-at c = search needs
+
+add-receipts-at : tie.Need-add-receipts-at
+add-receipts-at c = search needs
+
+mul-end : tie.Need-mul-end
+mul-end c = search needs
+
+add-end : tie.Need-add-end
+add-end c = search needs
+
+returns-5 : tie.Need-returns-5
+unfolding tableRefusal tableChecks tableLength
+returns-5 c =
+    let read = c .before .before .before .before in
+    sym (passed _ _ _ (passed-1 (read .before .before)) (passed _ _ _ (passed-2 (c .before .before)) (passed _ _ _ (passed-3 (c .before)) (stopped _ _ (wrong-length _ _ _ (read .before .u16-at .ensures) (read .u16-at2 .ensures) (λ e. c .if5 .taken (omega (arith, e))))))))
+
+sub-counts : tie.Need-sub-counts
+sub-counts c = search needs
+
+part-counts-start : tie.Need-part-counts-start
+part-counts-start c = search needs
+
+part-counts-end : tie.Need-part-counts-end
+part-counts-end c = search needs
+
+sub-sends : tie.Need-sub-sends
+sub-sends c = search needs
+
+part-sends-start : tie.Need-part-sends-start
+part-sends-start c = search needs
+
+part-sends-end : tie.Need-part-sends-end
+part-sends-end c = search needs
+
+sub-receipts : tie.Need-sub-receipts
+sub-receipts c = search needs
+
+part-receipts-start : tie.Need-part-receipts-start
+part-receipts-start c = search needs
+
+part-receipts-end : tie.Need-part-receipts-end
+part-receipts-end c = search needs
+
+entry-checks-requires : tie.Need-entry-checks-requires
+entry-checks-requires c κs = search needs
+
+returns-6 : tie.Need-returns-6
+returns-6 c =
+    let right = c .before .before .before .before in
+    let read = right .before .before .before .before in
+    c .entry-checks .ensures ∙ parts-read _ _ _ (read .before .u16-at .ensures) (read .u16-at2 .ensures)
+    ∙ sym (parts-refusal _ (passed-1 (read .before .before)) (passed-2 (right .before .before)) (passed-3 (right .before)) (passed-4 right))
+
+pub check-spec : {M : Type 1} → statement M
+check-spec =
+    tie.close
+    (tie.spec
+    returns
+    u16-at-requires
+    cast-n
+    u16-at-requires-2
+    cast-m
+    returns-2
+    returns-3
+    returns-4
+    mul-sends-at
+    add-sends-at
+    mul-receipts-at
+    add-receipts-at
+    mul-end
+    add-end
+    returns-5
+    sub-counts
+    part-counts-start
+    part-counts-end
+    sub-sends
+    part-sends-start
+    part-sends-end
+    sub-receipts
+    part-receipts-start
+    part-receipts-end
+    entry-checks-requires
+    returns-6)

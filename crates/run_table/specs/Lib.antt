@@ -1,0 +1,11 @@
+-- What a run table's bytes say, in the order of document 01, "The run table" and "In checking order".
+--     Numbers    16-bit numbers in bytes, and lists that are given by their entries
+--     Table      messages and tables, free of bytes
+--     Format     the bytes of a table, read (decode) and written (encode)
+--     Checks     checks 1 to 9, the refusal, and what an accepted table satisfies
+--     Parts      what the loops of the code read off a part of a table's bytes
+pub mod Checks
+pub mod Format
+pub mod Numbers
+pub mod Parts
+pub mod Table

@@ -1,0 +1,37 @@
+-- Messages and tables, free of bytes (document 01, "The run table"). Numbers have no upper bound here. Assumes nothing.
+use mathlib.Core.List.{List}
+use Prim.Native.Nat.{ℕ}
+use lib.ListN.{length, getD}
+
+-- A message: its sender and the latest checkpoint that the sender took before sending; its receiver and the first checkpoint that the
+-- receiver took after receiving, where 0 says that the message is undelivered (01: waiting).
+pub record Message : Type 0 where
+  pub sender : ℕ
+  pub sent : ℕ
+  pub receiver : ℕ
+  pub received : ℕ
+
+-- A run: for each process its count of checkpoints (01: saved states), numbered from 0; and its messages, by position.
+pub record Table : Type 0 where
+  pub counts : List ℕ
+  pub messages : List Message
+
+-- N, the number of processes.
+unfoldable pub processCount : Table → ℕ
+processCount t = length (t .counts)
+
+-- M, the number of messages.
+unfoldable pub messageCount : Table → ℕ
+messageCount t = length (t .messages)
+
+-- The count of a process; 0 beyond the last one.
+unfoldable pub countOf : Table → ℕ → ℕ
+countOf t p = getD (t .counts) p 0
+
+-- What stands beyond the last message: one that is undelivered, with every number 0.
+abbrev pub noMessage : Message
+noMessage = record { sender = 0; sent = 0; receiver = 0; received = 0 }
+
+-- The message at a position.
+unfoldable pub messageOf : Table → ℕ → Message
+messageOf t k = getD (t .messages) k noMessage
