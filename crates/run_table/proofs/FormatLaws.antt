@@ -3,13 +3,14 @@
 --     decode-processes, decode-messages                 N and M of the decoded table
 --     decode-count, decode-message                      its entries
 -- Assumes nothing.
-use mathlib.Core.List.{List}
-use mathlib.Core.Path.{_≡_, refl, sym, ap, _∙_}
+use mathlib.Core.List.{List, [], _∷_, _++_}
+use mathlib.Core.Path.{_≡_, refl, sym, ap, _∙_, subst, subst⁻¹}
 use Prim.Native.Nat.{ℕ, _+_, _*_, _-_, _<_, _≤_}
 use native.Mathlib.Omega.{arith}
-use lib.ListN.{length, take, drop, length-take, length-drop}
-use Rattle.run_table.proofs.NumberLaws.{length-tabulate, getD-tabulate}
-use Rattle.run_table.specs.Format.{countAt, countsPart, decode, messageAt, messagesIn, processesIn, receiptsPart, sendsPart, tableLength}
+use lib.ListN.{length, length-append, take, drop, length-take, length-drop, List·getD-eq-default}
+use Rattle.run_table.proofs.NumberLaws.{length-tabulate, getD-tabulate, length-u16s, u16At-take, u16At-drop}
+use Rattle.run_table.specs.Format.{checkpointAt, countAt, countsPart, decode, encode, messageAt, messagesIn, processAt, processesIn, receiptsOf, receiptsPart, sendsOf, sendsPart, tableLength}
+use Rattle.run_table.specs.Numbers.{u16At}
 use Rattle.run_table.specs.Table.{Message, Table, countOf, messageCount, messageOf, noMessage, processCount}
 
 module _ (bytes : List ℕ) (whole : length bytes ≡ tableLength (processesIn bytes) (messagesIn bytes)) where
@@ -41,3 +42,86 @@ module _ (bytes : List ℕ) where
   pub decode-message : (k : ℕ) → k < messagesIn bytes → messageOf (decode bytes) k ≡ messageAt (sendsPart bytes) (receiptsPart bytes) k
   unfolding messageOf decode
   decode-message k l = getD-tabulate (messagesIn bytes) (messageAt (sendsPart bytes) (receiptsPart bytes)) k noMessage l
+
+-- where the numbers of the parts stand among the bytes
+module _ (bytes : List ℕ) where
+  pub count-place : (p : ℕ) → p < processesIn bytes → countAt (countsPart bytes) p ≡ u16At bytes (4 + 2 * p)
+  unfolding countAt countsPart
+  count-place p l = u16At-take (2 * processesIn bytes) (drop 4 bytes) (2 * p) (omega arith) ∙ u16At-drop 4 bytes (2 * p)
+
+  module _ (at : ℕ) (l : at + 1 < 4 * messagesIn bytes) where
+    pub send-place : u16At (sendsPart bytes) at ≡ u16At bytes (4 + 2 * processesIn bytes + at)
+    unfolding sendsPart
+    send-place =
+        u16At-take (4 * messagesIn bytes) (drop (4 + 2 * processesIn bytes) bytes) at l
+        ∙ u16At-drop (4 + 2 * processesIn bytes) bytes at
+
+    pub receipt-place : u16At (receiptsPart bytes) at ≡ u16At bytes (4 + 2 * processesIn bytes + 4 * messagesIn bytes + at)
+    unfolding receiptsPart
+    receipt-place =
+        u16At-take (4 * messagesIn bytes) (drop (4 + 2 * processesIn bytes + 4 * messagesIn bytes) bytes) at l
+        ∙ u16At-drop (4 + 2 * processesIn bytes + 4 * messagesIn bytes) bytes at
+
+-- what stands beyond the last process and the last message of a table
+pub count-beyond : (t : Table) (p : ℕ) → processCount t ≤ p → countOf t p ≡ 0
+unfolding countOf processCount
+count-beyond t p l = List·getD-eq-default (t .counts) 0 l
+
+pub message-beyond : (t : Table) (k : ℕ) → messageCount t ≤ k → messageOf t k ≡ noMessage
+unfolding messageOf messageCount
+message-beyond t k l = List·getD-eq-default (t .messages) noMessage l
+
+-- the lookups of a decoded table, from the numbers that the code reads
+module _ (bytes : List ℕ) (n m : ℕ) (read-n : n ≡ u16At bytes 0) (read-m : m ≡ u16At bytes 2) where
+  pub count-none : (p : ℕ) → n ≤ p → countOf (decode bytes) p ≡ 0
+  unfolding processesIn
+  count-none p l = count-beyond (decode bytes) p (subst⁻¹ (λ (x : ℕ). x ≤ p) (decode-processes bytes ∙ sym read-n) l)
+
+  pub count-some : (p : ℕ) → p < n → countOf (decode bytes) p ≡ u16At bytes (4 + 2 * p)
+  unfolding processesIn
+  count-some p l =
+      let below : p < processesIn bytes = subst (λ (x : ℕ). p < x) read-n l in
+      decode-count bytes p below ∙ count-place bytes p below
+
+  pub message-none : (k : ℕ) → m ≤ k → messageOf (decode bytes) k ≡ noMessage
+  unfolding messagesIn
+  message-none k l = message-beyond (decode bytes) k (subst⁻¹ (λ (x : ℕ). x ≤ k) (decode-messages bytes ∙ sym read-m) l)
+
+  pub message-some : (k : ℕ) → k < m → messageOf (decode bytes) k ≡ record {
+    sender = u16At bytes (4 + 2 * n + 4 * k);
+    sent = u16At bytes (4 + 2 * n + (4 * k + 2));
+    receiver = u16At bytes (4 + 2 * n + 4 * m + 4 * k);
+    received = u16At bytes (4 + 2 * n + 4 * m + (4 * k + 2));
+  }
+  unfolding messagesIn processesIn messageAt processAt checkpointAt
+  message-some k l =
+      let below : k < messagesIn bytes = subst (λ (x : ℕ). k < x) read-m l in
+      let a = send-place bytes (4 * k) (omega arith) in
+      let b = send-place bytes (4 * k + 2) (omega arith) in
+      let c = receipt-place bytes (4 * k) (omega arith) in
+      let d = receipt-place bytes (4 * k + 2) (omega arith) in
+      decode-message bytes k below ∙ rw (read-n, read-m) (cc (a, b, c, d))
+
+-- ---- writing and reading
+-- the length of an encoded table
+length-sends : (ms : List Message) → length (sendsOf ms) ≡ 2 * length ms
+unfolding sendsOf
+length-sends [] = refl
+length-sends (m ∷ rest) =
+    let ih : length (sendsOf rest) ≡ 2 * length rest = length-sends rest in
+    omega arith
+
+length-receipts : (ms : List Message) → length (receiptsOf ms) ≡ 2 * length ms
+unfolding receiptsOf
+length-receipts [] = refl
+length-receipts (m ∷ rest) =
+    let ih : length (receiptsOf rest) ≡ 2 * length rest = length-receipts rest in
+    omega arith
+
+pub encode-length : (t : Table) → length (encode t) ≡ tableLength (processCount t) (messageCount t)
+unfolding encode tableLength processCount messageCount
+encode-length t =
+    let all = length-u16s (length (t .counts) ∷ length (t .messages) ∷ (t .counts ++ (sendsOf (t .messages) ++ receiptsOf (t .messages)))) in
+    let outer = length-append (t .counts) (sendsOf (t .messages) ++ receiptsOf (t .messages)) in
+    let inner = length-append (sendsOf (t .messages)) (receiptsOf (t .messages)) in
+    omega (arith, all, outer, inner, length-sends (t .messages), length-receipts (t .messages))

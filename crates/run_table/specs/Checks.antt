@@ -100,3 +100,9 @@ pub record Limits (t : Table) : Type 0 where
   pub processes-limit : processCount t ≤ 32
   pub messages-limit : messageCount t ≤ 4096
   pub counts-limit : (p : ℕ) → p < processCount t → countOf t p ≤ 4096
+
+-- An accepted table: none of the checks 1 to 9 catches.
+pub record Accepted (bytes : List ℕ) : Type 0 where
+  pub whole : length bytes ≡ tableLength (processCount (decode bytes)) (messageCount (decode bytes))
+  pub well-formed : WellFormed (decode bytes)
+  pub limits : Limits (decode bytes)

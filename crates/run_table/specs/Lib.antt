@@ -3,8 +3,10 @@
 --     Table      messages and tables, free of bytes
 --     Format     the bytes of a table, read (decode) and written (encode)
 --     Checks     checks 1 to 9, the refusal, and what an accepted table satisfies
+--     Fields     the numbers of a message, by name
 --     Parts      what the loops of the code read off a part of a table's bytes
 pub mod Checks
+pub mod Fields
 pub mod Format
 pub mod Numbers
 pub mod Parts

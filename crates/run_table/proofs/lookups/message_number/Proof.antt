@@ -1,0 +1,162 @@
+-- `lookups::message_number` meets its contract, below M and beyond.
+-- Assumes nothing.
+use borrow.Author.Needs.{needs}
+use mathlib.Core.Path.{_≡_, refl, sym, ap, ap₂, _∙_}
+use Prim.Native.Nat.{ℕ}
+use Rattle.run_table.proofs.FormatLaws.{message-none, message-some}
+use Rattle.run_table.specs.Fields.{numberOf}
+use Rattle.run_table.specs.Table.{Message, noMessage}
+use Rattle.run_table.specs.declared.lookups.Field.{Field}
+use Rattle.run_table.specs.declared.lookups.Field.the-variants.{Sender, Sent, Receiver, Received}
+use Rattle.run_table.proofs.lookups.message_number.Statement.{statement}
+use Rattle.run_table.proofs.lookups.message_number.Tie as tie
+
+none-number : (f : Field) → numberOf f noMessage ≡ 0
+none-number Sender = refl
+none-number Sent = refl
+none-number Receiver = refl
+none-number Received = refl
+
+-- the number that was read is that of the named field
+named : (f g : Field) (m m′ : Message) (r : ℕ) → f ≡ g → m ≡ m′ → r ≡ numberOf g m′ → r ≡ numberOf f m
+named f g m m′ r e e′ read = read ∙ sym (ap₂ numberOf e e′)
+
+u16-or-zero-requires : tie.Need-u16-or-zero-requires
+u16-or-zero-requires c κs = search needs
+
+cast-n : tie.Need-cast-n
+cast-n c = search needs
+
+u16-or-zero-requires-2 : tie.Need-u16-or-zero-requires-2
+u16-or-zero-requires-2 c κs = search needs
+
+cast-m : tie.Need-cast-m
+cast-m c = search needs
+
+returns : tie.Need-returns
+returns c =
+    let read = c .before in
+    let field = read .before .before .before .args .field in
+    sym (ap (numberOf field) (message-none _ _ _ (read .before .u16-or-zero .ensures) (read .u16-or-zero2 .ensures) _ (c .if1 .taken)) ∙ none-number field)
+
+mul-sends-at : tie.Need-mul-sends-at
+mul-sends-at c = search needs
+
+add-sends-at : tie.Need-add-sends-at
+add-sends-at c = search needs
+
+mul-receipts-at : tie.Need-mul-receipts-at
+mul-receipts-at c = search needs
+
+add-receipts-at : tie.Need-add-receipts-at
+add-receipts-at c = search needs
+
+enum-told : tie.Need-enum-told
+enum-told c = search needs
+
+mul-u16-or-zero : tie.Need-mul-u16-or-zero
+mul-u16-or-zero c = search needs
+
+add-u16-or-zero : tie.Need-add-u16-or-zero
+add-u16-or-zero c = search needs
+
+u16-or-zero-requires-3 : tie.Need-u16-or-zero-requires-3
+u16-or-zero-requires-3 c κs = search needs
+
+enum-told-2 : tie.Need-enum-told-2
+enum-told-2 c = search needs
+
+mul-u16-or-zero-2 : tie.Need-mul-u16-or-zero-2
+mul-u16-or-zero-2 c = search needs
+
+add-u16-or-zero-2 : tie.Need-add-u16-or-zero-2
+add-u16-or-zero-2 c = search needs
+
+add-u16-or-zero-3 : tie.Need-add-u16-or-zero-3
+add-u16-or-zero-3 c = search needs
+
+u16-or-zero-requires-4 : tie.Need-u16-or-zero-requires-4
+u16-or-zero-requires-4 c κs = search needs
+
+enum-told-3 : tie.Need-enum-told-3
+enum-told-3 c = search needs
+
+mul-u16-or-zero-3 : tie.Need-mul-u16-or-zero-3
+mul-u16-or-zero-3 c = search needs
+
+add-u16-or-zero-4 : tie.Need-add-u16-or-zero-4
+add-u16-or-zero-4 c = search needs
+
+u16-or-zero-requires-5 : tie.Need-u16-or-zero-requires-5
+u16-or-zero-requires-5 c κs = search needs
+
+enum-told-4 : tie.Need-enum-told-4
+enum-told-4 c = search needs
+
+mul-u16-or-zero-4 : tie.Need-mul-u16-or-zero-4
+mul-u16-or-zero-4 c = search needs
+
+add-u16-or-zero-5 : tie.Need-add-u16-or-zero-5
+add-u16-or-zero-5 c = search needs
+
+add-u16-or-zero-6 : tie.Need-add-u16-or-zero-6
+add-u16-or-zero-6 c = search needs
+
+u16-or-zero-requires-6 : tie.Need-u16-or-zero-requires-6
+u16-or-zero-requires-6 c κs = search needs
+
+returns-2 : tie.Need-returns-2
+returns-2 c =
+    let at = c .before .before .before in
+    named _ Sender _ _ _ (c .before .enum-told .given .1) (message-some _ _ _ (at .before .before .u16-or-zero .ensures) (at .before .u16-or-zero2 .ensures) _ (at .if1 .left)) (c .u16-or-zero3 .ensures)
+
+returns-3 : tie.Need-returns-3
+returns-3 c =
+    let at = c .before .before .before in
+    named _ Sent _ _ _ (c .before .enum-told2 .given .1) (message-some _ _ _ (at .before .before .u16-or-zero .ensures) (at .before .u16-or-zero2 .ensures) _ (at .if1 .left)) (c .u16-or-zero4 .ensures)
+
+returns-4 : tie.Need-returns-4
+returns-4 c =
+    let at = c .before .before .before in
+    named _ Receiver _ _ _ (c .before .enum-told3 .given .1) (message-some _ _ _ (at .before .before .u16-or-zero .ensures) (at .before .u16-or-zero2 .ensures) _ (at .if1 .left)) (c .u16-or-zero5 .ensures)
+
+returns-5 : tie.Need-returns-5
+returns-5 c =
+    let at = c .before .before .before in
+    named _ Received _ _ _ (c .before .enum-told4 .given .1) (message-some _ _ _ (at .before .before .u16-or-zero .ensures) (at .before .u16-or-zero2 .ensures) _ (at .if1 .left)) (c .u16-or-zero6 .ensures)
+
+pub message-number-spec : {M : Type 1} → statement M
+message-number-spec =
+    tie.close
+    (tie.spec
+    u16-or-zero-requires
+    cast-n
+    u16-or-zero-requires-2
+    cast-m
+    returns
+    mul-sends-at
+    add-sends-at
+    mul-receipts-at
+    add-receipts-at
+    enum-told
+    mul-u16-or-zero
+    add-u16-or-zero
+    u16-or-zero-requires-3
+    enum-told-2
+    mul-u16-or-zero-2
+    add-u16-or-zero-2
+    add-u16-or-zero-3
+    u16-or-zero-requires-4
+    enum-told-3
+    mul-u16-or-zero-3
+    add-u16-or-zero-4
+    u16-or-zero-requires-5
+    enum-told-4
+    mul-u16-or-zero-4
+    add-u16-or-zero-5
+    add-u16-or-zero-6
+    u16-or-zero-requires-6
+    returns-2
+    returns-3
+    returns-4
+    returns-5)

@@ -1,0 +1,18 @@
+-- `run_table_messages` meets its contract: the second number of the bytes is M.
+-- Assumes nothing.
+use borrow.Author.Needs.{needs}
+use mathlib.Core.Path.{sym, _∙_}
+use Rattle.run_table.proofs.FormatLaws.{decode-messages}
+use Rattle.run_table.specs.Format.{messagesIn}
+use Rattle.run_table.proofs.run_table_messages.Statement.{statement}
+use Rattle.run_table.proofs.run_table_messages.Tie as tie
+
+u16-or-zero-requires : tie.Need-u16-or-zero-requires
+u16-or-zero-requires c κs = search needs
+
+returns : tie.Need-returns
+unfolding messagesIn
+returns c = c .u16-or-zero .ensures ∙ sym (decode-messages _)
+
+pub run-table-messages-spec : {M : Type 1} → statement M
+run-table-messages-spec = tie.close (tie.spec u16-or-zero-requires returns)

@@ -1,0 +1,18 @@
+-- `run_table_processes` meets its contract: the first number of the bytes is N.
+-- Assumes nothing.
+use borrow.Author.Needs.{needs}
+use mathlib.Core.Path.{sym, _∙_}
+use Rattle.run_table.proofs.FormatLaws.{decode-processes}
+use Rattle.run_table.specs.Format.{processesIn}
+use Rattle.run_table.proofs.run_table_processes.Statement.{statement}
+use Rattle.run_table.proofs.run_table_processes.Tie as tie
+
+u16-or-zero-requires : tie.Need-u16-or-zero-requires
+u16-or-zero-requires c κs = search needs
+
+returns : tie.Need-returns
+unfolding processesIn
+returns c = c .u16-or-zero .ensures ∙ sym (decode-processes _)
+
+pub run-table-processes-spec : {M : Type 1} → statement M
+run-table-processes-spec = tie.close (tie.spec u16-or-zero-requires returns)

@@ -1,0 +1,12 @@
+-- The numbers of a message, by name. Assumes nothing.
+use Prim.Native.Nat.{ℕ}
+use Rattle.run_table.specs.Table.{Message}
+use Rattle.run_table.specs.declared.lookups.Field.{Field}
+use Rattle.run_table.specs.declared.lookups.Field.the-variants.{Sender, Sent, Receiver, Received}
+
+-- The number of a message that a field names.
+abbrev pub numberOf : Field → Message → ℕ
+numberOf Sender m = m .sender
+numberOf Sent m = m .sent
+numberOf Receiver m = m .receiver
+numberOf Received m = m .received

@@ -1,0 +1,44 @@
+// Total lookups in the bytes of a table, accepted or not: what stands beyond is 0.
+use crate::numbers::u16_or_zero;
+ghost use mathlib.Core.Path.{_≡_};
+ghost use Rattle.run_table.specs.Fields.{numberOf};
+ghost use Rattle.run_table.specs.Format.{decode};
+ghost use Rattle.run_table.specs.Table.{countOf, messageOf};
+
+// The numbers of a message.
+pub enum Field {
+    Sender,
+    Sent,
+    Receiver,
+    Received,
+}
+
+// The count of process p.
+pub fn count(table: &[u8], p: usize) -> u16
+    ensures { λ r. ⌜ r ≡ countOf (decode (now (table .entry))) p ⌝ }
+{
+    let n = u16_or_zero(table, 0) as usize;
+    if n <= p {
+        return 0;
+    }
+    u16_or_zero(table, 4 + 2 * p)
+}
+
+// A number of message k.
+pub fn message_number(table: &[u8], k: usize, field: Field) -> u16
+    ensures { λ r. ⌜ r ≡ numberOf field (messageOf (decode (now (table .entry))) k) ⌝ }
+{
+    let n = u16_or_zero(table, 0) as usize;
+    let m = u16_or_zero(table, 2) as usize;
+    if m <= k {
+        return 0;
+    }
+    let sends_at = 4 + 2 * n;
+    let receipts_at = sends_at + 4 * m;
+    match field {
+        Field::Sender => u16_or_zero(table, sends_at + 4 * k),
+        Field::Sent => u16_or_zero(table, sends_at + (4 * k + 2)),
+        Field::Receiver => u16_or_zero(table, receipts_at + 4 * k),
+        Field::Received => u16_or_zero(table, receipts_at + (4 * k + 2)),
+    }
+}
