@@ -9,7 +9,7 @@ use Prim.Native.Nat.{ℕ, _+_, _*_, _-_, _<_, _≤_}
 use native.Mathlib.Omega.{arith}
 use lib.ListN.{length, length-append, take, drop, length-take, length-drop, List·getD-eq-default}
 use Rattle.run_table.proofs.NumberLaws.{length-tabulate, getD-tabulate, length-u16s, u16At-take, u16At-drop}
-use Rattle.run_table.specs.Format.{checkpointAt, countAt, countsPart, decode, encode, messageAt, messagesIn, processAt, processesIn, receiptsOf, receiptsPart, sendsOf, sendsPart, tableLength}
+use Rattle.run_table.specs.Format.{checkpointAt, countAt, countsPart, decode, encode, entriesOf, messageAt, messagesIn, processAt, processesIn, receiptsOf, receiptsPart, sendsOf, sendsPart, tableLength}
 use Rattle.run_table.specs.Numbers.{u16At}
 use Rattle.run_table.specs.Table.{Message, Table, countOf, messageCount, messageOf, noMessage, processCount}
 
@@ -104,18 +104,11 @@ module _ (bytes : List ℕ) (n m : ℕ) (read-n : n ≡ u16At bytes 0) (read-m :
 
 -- ---- writing and reading
 -- the length of an encoded table
-length-sends : (ms : List Message) → length (sendsOf ms) ≡ 2 * length ms
-unfolding sendsOf
-length-sends [] = refl
-length-sends (m ∷ rest) =
-    let ih : length (sendsOf rest) ≡ 2 * length rest = length-sends rest in
-    omega arith
-
-length-receipts : (ms : List Message) → length (receiptsOf ms) ≡ 2 * length ms
-unfolding receiptsOf
-length-receipts [] = refl
-length-receipts (m ∷ rest) =
-    let ih : length (receiptsOf rest) ≡ 2 * length rest = length-receipts rest in
+pub length-entries : (f g : Message → ℕ) (ms : List Message) → length (entriesOf f g ms) ≡ 2 * length ms
+unfolding entriesOf
+length-entries f g [] = refl
+length-entries f g (m ∷ rest) =
+    let ih : length (entriesOf f g rest) ≡ 2 * length rest = length-entries f g rest in
     omega arith
 
 pub encode-length : (t : Table) → length (encode t) ≡ tableLength (processCount t) (messageCount t)
@@ -124,4 +117,4 @@ encode-length t =
     let all = length-u16s (length (t .counts) ∷ length (t .messages) ∷ (t .counts ++ (sendsOf (t .messages) ++ receiptsOf (t .messages)))) in
     let outer = length-append (t .counts) (sendsOf (t .messages) ++ receiptsOf (t .messages)) in
     let inner = length-append (sendsOf (t .messages)) (receiptsOf (t .messages)) in
-    omega (arith, all, outer, inner, length-sends (t .messages), length-receipts (t .messages))
+    omega (arith, all, outer, inner, length-entries (λ m. m .sender) (λ m. m .sent) (t .messages), length-entries (λ m. m .receiver) (λ m. m .received) (t .messages))

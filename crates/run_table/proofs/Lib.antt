@@ -3,6 +3,7 @@
 --     FormatLaws    the parts of a table's bytes; reading and writing undo each other
 --     CheckLaws     what the checks say of a table, and an accepted table's facts
 pub mod CheckLaws
+pub mod CodingLaws
 pub mod FormatLaws
 pub mod NumberLaws
 mod ScanLaws

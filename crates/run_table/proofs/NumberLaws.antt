@@ -4,6 +4,7 @@
 --     length-u16s, u16At-u16s                  the bytes of numbers
 --     length-tabulate, getD-tabulate           the two laws of `tabulate`
 --     tabulate-ext, tabulate-getD              two such lists are equal by their entries; every list is one
+--     tabulate-append                          one after another
 --     any-none, any-some, none-of              `any`, by the entries of the list
 --     anyBelow-more, anyBelow-found, none-below          `anyBelow`, as a loop finds it
 --     any-tabulate, anyBelow-ext, anyBelow-or  one test in the other's terms
@@ -13,7 +14,7 @@ use mathlib.Core.List.{List, [], _∷_, _++_}
 use mathlib.Core.Logic.{⊎-elim}
 use mathlib.Core.Path.{_≡_, refl, sym, ap, _∙_, subst}
 use Prim.Native.Nat.{ℕ, zero, suc, _+_, _*_, _/_, _%_, _<_, _≤_, zero-le, suc-le-suc}
-use native.Mathlib.Nat.{le-of-suc-le-suc, not-suc-le-zero, eq-or-lt-of-le}
+use native.Mathlib.Nat.{zero-add, suc-add, le-of-suc-le-suc, not-suc-le-zero, eq-or-lt-of-le}
 use native.Mathlib.Numerals.{add-one}
 use native.Mathlib.Omega.{arith}
 use lib.ListN.{length, getD, take, drop, length-append, List·getD-eq-default}
@@ -101,6 +102,13 @@ module _ {A : Type 0} where
   unfolding tabulate
   tabulate-getD [] d = refl
   tabulate-getD (x ∷ rest) d = ap (λ (l : List A). x ∷ l) (tabulate-getD rest d)
+
+  pub tabulate-append : (n m : ℕ) (f : ℕ → A) → tabulate (n + m) f ≡ tabulate n f ++ tabulate m (λ k. f (n + k))
+  unfolding tabulate
+  tabulate-append zero m f = simp zero-add
+  tabulate-append (suc n) m f =
+      let rest : tabulate (n + m) (λ k. f (suc k)) ≡ tabulate n (λ k. f (suc k)) ++ tabulate m (λ k. f (suc (n + k))) = tabulate-append n m (λ k. f (suc k)) in
+      simp (suc-add n, rest)
 
   pub any-none : (test : A → Bool) (l : List A) (d : A) → ((k : ℕ) → k < length l → test (getD l k d) ≡ false) → any test l ≡ false
   unfolding any

@@ -54,14 +54,16 @@ decode bytes = record {
   messages = tabulate (messagesIn bytes) (messageAt (sendsPart bytes) (receiptsPart bytes));
 }
 
--- The numbers of all sends, and of all receipts, in order.
-unfoldable pub sendsOf : List Message → List ℕ
-sendsOf [] = []
-sendsOf (m ∷ rest) = m .sender ∷ m .sent ∷ sendsOf rest
+-- The numbers of one array, entry after entry: a process and a checkpoint of each message.
+unfoldable pub entriesOf : (Message → ℕ) → (Message → ℕ) → List Message → List ℕ
+entriesOf process checkpoint [] = []
+entriesOf process checkpoint (m ∷ rest) = process m ∷ checkpoint m ∷ entriesOf process checkpoint rest
 
-unfoldable pub receiptsOf : List Message → List ℕ
-receiptsOf [] = []
-receiptsOf (m ∷ rest) = m .receiver ∷ m .received ∷ receiptsOf rest
+abbrev pub sendsOf : List Message → List ℕ
+sendsOf = entriesOf (λ m. m .sender) (λ m. m .sent)
+
+abbrev pub receiptsOf : List Message → List ℕ
+receiptsOf = entriesOf (λ m. m .receiver) (λ m. m .received)
 
 -- The bytes of a table.
 unfoldable pub encode : Table → List ℕ
