@@ -1,0 +1,217 @@
+-- An accepted table's facts.
+--     accepted, refusal-zero         the refusal is 0 just when the table is accepted
+--     numbers-fit                    a well formed table within the limits fits 16 bits
+--     accepted-encode, reread        such a table, written, is accepted and is read as it was
+--     rewritten                      an accepted table's bytes, read and written again
+-- Assumes nothing.
+use mathlib.Core.Bool.{Bool, true, false, cond, not, _||_, false≢true}
+use mathlib.Core.List.{List, [], _∷_}
+use mathlib.Core.Path.{_≡_, refl, sym, ap, _∙_, subst, subst⁻¹}
+use Prim.Native.Nat.{ℕ, suc, _+_, _*_, _<_, _≤_}
+use native.Mathlib.Omega.{arith}
+use borrow.Author.Tests.{eqb-false, eqb-true, leb-false, ltb-false, lt-ltb, le-ltb, lt-leb, eq-eqb, ne-eqb, not-false}
+use lib.Dec.{eqb, leb, ltb}
+use lib.ListN.{length, getD}
+use Rattle.run_table.proofs.CheckLaws.{clear, few-messages, not-short, passed, process-count as checked-processes, right-length}
+use Rattle.run_table.proofs.CodingLaws.{AreBytes, Fits16, decode-encode, encode-decode}
+use Rattle.run_table.proofs.FormatLaws.{decode-messages, decode-processes, encode-length}
+use Rattle.run_table.proofs.NumberLaws.{any-none, none-of, or-false-left, or-false-right}
+use Rattle.run_table.proofs.ScanLaws.{inside}
+use Rattle.run_table.specs.Checks.{Accepted, Check, GoodMessage, Limits, WellFormed, badCount, badLength, badProcessCount, badReceipt, badSend, firstCaught, outside, tableChecks, tableRefusal, toItself, tooManyMessages, tooShort, unknownProcess}
+use Rattle.run_table.specs.Format.{decode, encode, messagesIn, processesIn, tableLength}
+use Rattle.run_table.specs.Numbers.{any}
+use Rattle.run_table.specs.Table.{Message, Table, countOf, messageCount, messageOf, noMessage, processCount}
+
+-- a list that refuses with nothing: its first check catches nothing, and neither does the rest
+quiet-first : (c : Check) (rest : List Check) → 0 < c .number → firstCaught (c ∷ rest) ≡ 0 → c .caught ≡ false
+unfolding firstCaught
+quiet-first c rest p e = go (c .caught) e
+  where
+    go : (b : Bool) → cond b (c .number) (firstCaught rest) ≡ 0 → b ≡ false
+    go true e = absurd (omega arith)
+    go false e = refl
+
+quiet-rest : (c : Check) (rest : List Check) → 0 < c .number → firstCaught (c ∷ rest) ≡ 0 → firstCaught rest ≡ 0
+unfolding firstCaught
+quiet-rest c rest p e = go (c .caught) e
+  where
+    go : (b : Bool) → cond b (c .number) (firstCaught rest) ≡ 0 → firstCaught rest ≡ 0
+    go true e = absurd (omega arith)
+    go false e = e
+
+-- a number that is not outside its limit
+within-positive : (limit n : ℕ) → outside limit n ≡ false → 0 < n
+unfolding outside
+within-positive limit n e =
+    let z : n ≡ 0 → ⊥ = eqb-false n 0 (or-false-left (eqb n 0) (ltb limit n) e) in
+    omega arith
+
+within-limit : (limit n : ℕ) → outside limit n ≡ false → n ≤ limit
+unfolding outside
+within-limit limit n e = ltb-false limit n (or-false-right (eqb n 0) (ltb limit n) e)
+
+-- the tests of one message, and what it satisfies
+module _ (t : Table) (m : Message) where
+  good-message : unknownProcess (processCount t) m ≡ false → toItself m ≡ false → badSend t m ≡ false → badReceipt t m ≡ false → GoodMessage t m
+  unfolding unknownProcess toItself badSend badReceipt
+  good-message e6 e7 e8 e9 = record {
+    sender-known = leb-false (processCount t) (m .sender) (or-false-left (leb (processCount t) (m .sender)) (leb (processCount t) (m .receiver)) e6);
+    receiver-known = leb-false (processCount t) (m .receiver) (or-false-right (leb (processCount t) (m .sender)) (leb (processCount t) (m .receiver)) e6);
+    two-processes = eqb-false (m .sender) (m .receiver) e7;
+    sent-below = leb-false (countOf t (m .sender)) (m .sent) e8;
+    received-below = leb-false (countOf t (m .receiver)) (m .received) e9;
+  }
+
+  module _ (g : GoodMessage t m) where
+    known-process : unknownProcess (processCount t) m ≡ false
+    unfolding unknownProcess
+    known-process = rw (lt-leb (processCount t) (m .sender) (g .sender-known), lt-leb (processCount t) (m .receiver) (g .receiver-known))
+
+    not-to-itself : toItself m ≡ false
+    unfolding toItself
+    not-to-itself = ne-eqb (m .sender) (m .receiver) (g .two-processes)
+
+    good-send : badSend t m ≡ false
+    unfolding badSend
+    good-send = lt-leb (countOf t (m .sender)) (m .sent) (g .sent-below)
+
+    good-receipt : badReceipt t m ≡ false
+    unfolding badReceipt
+    good-receipt = lt-leb (countOf t (m .receiver)) (m .received) (g .received-below)
+
+module _ (bytes : List ℕ) where
+  abbrev t : Table
+  t = decode bytes
+
+  -- what the nine checks leave, put together
+  sizes-right : badLength bytes ≡ false → length bytes ≡ tableLength (processCount t) (messageCount t)
+  unfolding badLength
+  sizes-right e =
+      let length-is = eqb-true (length bytes) (tableLength (processesIn bytes) (messagesIn bytes)) (not-false (eqb (length bytes) (tableLength (processesIn bytes) (messagesIn bytes))) e) in
+      rw (decode-processes bytes, decode-messages bytes) length-is
+
+  process-count : badProcessCount bytes ≡ false → outside 32 (processCount t) ≡ false
+  unfolding badProcessCount
+  process-count e = rw (decode-processes bytes) e
+
+  message-count : tooManyMessages bytes ≡ false → messageCount t ≤ 4096
+  unfolding tooManyMessages
+  message-count e = rw (decode-messages bytes) (ltb-false 4096 (messagesIn bytes) e)
+
+  each-count : any badCount (t .counts) ≡ false → (p : ℕ) → p < processCount t → outside 4096 (countOf t p) ≡ false
+  unfolding processCount countOf badCount
+  each-count e p l = none-of badCount (t .counts) 0 e p l
+
+  each-message : (test : Message → Bool) → any test (t .messages) ≡ false → (k : ℕ) → k < messageCount t → test (messageOf t k) ≡ false
+  unfolding messageCount messageOf
+  each-message test e k l = none-of test (t .messages) noMessage e k l
+
+  facts : badProcessCount bytes ≡ false → tooManyMessages bytes ≡ false → badLength bytes ≡ false → any badCount (t .counts) ≡ false
+      → any (unknownProcess (processCount t)) (t .messages) ≡ false → any toItself (t .messages) ≡ false → any (badSend t) (t .messages) ≡ false
+      → any (badReceipt t) (t .messages) ≡ false → Accepted bytes
+  facts e2 e3 e4 e5 e6 e7 e8 e9 = record {
+    whole = sizes-right e4;
+    well-formed = record {
+      some-process = within-positive 32 (processCount t) (process-count e2);
+      some-checkpoint = λ p l. within-positive 4096 (countOf t p) (each-count e5 p l);
+      good-messages = λ k l.
+          good-message t (messageOf t k) (each-message (unknownProcess (processCount t)) e6 k l) (each-message toItself e7 k l)
+          (each-message (badSend t) e8 k l) (each-message (badReceipt t) e9 k l);
+    };
+    limits = record {
+      processes-limit = within-limit 32 (processCount t) (process-count e2);
+      messages-limit = message-count e3;
+      counts-limit = λ p l. within-limit 4096 (countOf t p) (each-count e5 p l);
+    };
+  }
+
+  pub accepted : tableRefusal bytes ≡ 0 → Accepted bytes
+  unfolding tableRefusal tableChecks
+  accepted r1 =
+      let r2 = quiet-rest _ _ (omega arith) r1 in
+      let r3 = quiet-rest _ _ (omega arith) r2 in
+      let r4 = quiet-rest _ _ (omega arith) r3 in
+      let r5 = quiet-rest _ _ (omega arith) r4 in
+      let r6 = quiet-rest _ _ (omega arith) r5 in
+      let r7 = quiet-rest _ _ (omega arith) r6 in
+      let r8 = quiet-rest _ _ (omega arith) r7 in
+      let r9 = quiet-rest _ _ (omega arith) r8 in
+      facts
+      (quiet-first _ _ (omega arith) r2) (quiet-first _ _ (omega arith) r3) (quiet-first _ _ (omega arith) r4) (quiet-first _ _ (omega arith) r5)
+      (quiet-first _ _ (omega arith) r6) (quiet-first _ _ (omega arith) r7) (quiet-first _ _ (omega arith) r8) (quiet-first _ _ (omega arith) r9)
+
+  -- ---- the other way
+  no-message : (test : Message → Bool) → ((k : ℕ) → k < messageCount t → test (messageOf t k) ≡ false) → any test (t .messages) ≡ false
+  unfolding messageCount messageOf
+  no-message test h = any-none test (t .messages) noMessage h
+
+  no-count : ((p : ℕ) → p < processCount t → outside 4096 (countOf t p) ≡ false) → any badCount (t .counts) ≡ false
+  unfolding processCount countOf badCount
+  no-count h = any-none badCount (t .counts) 0 h
+
+  in-limits : (limit n : ℕ) → 0 < n → n ≤ limit → outside limit n ≡ false
+  in-limits limit n p l = inside limit n (λ z. omega arith) l
+
+  module _ (a : Accepted bytes) where
+    whole : length bytes ≡ tableLength (processesIn bytes) (messagesIn bytes)
+    whole = rw (← decode-processes bytes, ← decode-messages bytes) (a .whole)
+
+    long-enough : 4 ≤ length bytes
+    unfolding tableLength
+    long-enough = omega (arith, whole)
+
+    processes-good : badProcessCount bytes ≡ false
+    unfolding processesIn messagesIn
+    processes-good =
+        checked-processes bytes (processesIn bytes) (messagesIn bytes) refl refl
+        ∙ in-limits 32 (processesIn bytes) (omega (arith, a .well-formed .some-process, decode-processes bytes)) (omega (arith, a .limits .processes-limit, decode-processes bytes))
+
+    messages-good : tooManyMessages bytes ≡ false
+    unfolding processesIn messagesIn
+    messages-good = few-messages bytes (processesIn bytes) (messagesIn bytes) refl refl (omega (arith, a .limits .messages-limit, decode-messages bytes))
+
+    length-good : badLength bytes ≡ false
+    unfolding processesIn messagesIn
+    length-good = right-length bytes (processesIn bytes) (messagesIn bytes) refl refl whole
+
+    pub refusal-zero : tableRefusal bytes ≡ 0
+    unfolding tableRefusal tableChecks
+    refusal-zero =
+        let w = a .well-formed in
+        let good = w .good-messages in
+        passed _ _ _ (not-short bytes long-enough) (passed _ _ _ processes-good (passed _ _ _ messages-good (passed _ _ _ length-good
+        (passed _ _ _ (no-count (λ p l. in-limits 4096 (countOf t p) (w .some-checkpoint p l) (a .limits .counts-limit p l)))
+        (passed _ _ _ (no-message (unknownProcess (processCount t)) (λ k l. known-process t (messageOf t k) (good k l)))
+        (passed _ _ _ (no-message toItself (λ k l. not-to-itself t (messageOf t k) (good k l)))
+        (passed _ _ _ (no-message (badSend t) (λ k l. good-send t (messageOf t k) (good k l)))
+        (passed _ _ _ (no-message (badReceipt t) (λ k l. good-receipt t (messageOf t k) (good k l))) clear))))))))
+
+    -- an accepted table's bytes, read and written again
+    pub rewritten : AreBytes bytes → encode (decode bytes) ≡ bytes
+    rewritten b = encode-decode bytes whole b
+
+-- ---- a well formed table within the limits, written
+module _ (t : Table) (w : WellFormed t) (l : Limits t) where
+  count-small : (p : ℕ) → p < processCount t → countOf t p < 65536
+  count-small p b = omega (arith, l .counts-limit p b)
+
+  pub numbers-fit : Fits16 t
+  numbers-fit = record {
+    processes-fit = omega (arith, l .processes-limit);
+    messages-fit = omega (arith, l .messages-limit);
+    counts-fit = count-small;
+    senders-fit = λ k b. omega (arith, w .good-messages k b, l .processes-limit);
+    sent-fit = λ k b. omega (arith, w .good-messages k b .sent-below, count-small (messageOf t k .sender) (w .good-messages k b .sender-known));
+    receivers-fit = λ k b. omega (arith, w .good-messages k b, l .processes-limit);
+    received-fit = λ k b. omega (arith, w .good-messages k b .received-below, count-small (messageOf t k .receiver) (w .good-messages k b .receiver-known));
+  }
+
+  pub reread : decode (encode t) ≡ t
+  reread = decode-encode t numbers-fit
+
+  pub accepted-encode : Accepted (encode t)
+  accepted-encode = record {
+    whole = subst⁻¹ (λ (x : Table). length (encode t) ≡ tableLength (processCount x) (messageCount x)) reread (encode-length t);
+    well-formed = subst⁻¹ WellFormed reread w;
+    limits = subst⁻¹ Limits reread l;
+  }
