@@ -154,7 +154,7 @@ module _ (bytes : List ℕ) where
   -- where the sizes are right, the refusal is that of the parts
   pub parts-refusal : tooShort bytes ≡ false → badProcessCount bytes ≡ false → tooManyMessages bytes ≡ false → badLength bytes ≡ false
       → tableRefusal bytes ≡ partsRefusal N M (countsPart bytes) (sendsPart bytes) (receiptsPart bytes)
-  unfolding tableRefusal tableChecks partsRefusal
+  unfolding tableRefusal tableChecks
   parts-refusal e1 e2 e3 e4 =
       passed _ _ _ e1 (passed _ _ _ e2 (passed _ _ _ e3 (passed _ _ _ e4
       (same-check _ _ _ _ _ check-5 (λ _.

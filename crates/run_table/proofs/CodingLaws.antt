@@ -68,8 +68,13 @@ module _ (t : Table) (fits : Fits16 t) where
 
   length-numbers : length (numbersOf t) ≡ 2 + N + 4 * M
   length-numbers =
-      omega (arith, length-append (t .counts) (sends ++ receipts), length-append sends receipts,
-      length-entries (λ m. m .sender) (λ m. m .sent) (t .messages), length-entries (λ m. m .receiver) (λ m. m .received) (t .messages))
+      omega (
+        arith,
+        length-append (t .counts) (sends ++ receipts),
+        length-append sends receipts,
+        length-entries (λ m. m .sender) (λ m. m .sent) (t .messages),
+        length-entries (λ m. m .receiver) (λ m. m .received) (t .messages),
+      )
 
   -- number j of the table stands at byte 2j
   number-at : (j x : ℕ) → j < 2 + N + 4 * M → getD (numbersOf t) j 0 ≡ x → x < 65536 → u16At (encode t) (2 * j) ≡ x
@@ -184,7 +189,7 @@ u16s-read (suc n) (x ∷ []) e b = absurd (omega arith)
 u16s-read (suc n) (x ∷ y ∷ rest) e b =
     let later : u16s (tabulate n (λ j. u16At rest (2 * j))) ≡ rest = u16s-read n rest (omega arith) (λ i. b (suc (suc i))) in
     let same : tabulate n (λ j. u16At (x ∷ y ∷ rest) (2 * suc j)) ≡ tabulate n (λ j. u16At rest (2 * j)) =
-        tabulate-ext n _ _ (λ j l. next-number x y rest j)
+    tabulate-ext n _ _ (λ j l. next-number x y rest j)
     in
     let low = value-low x y (b 0) (b 1) in
     let high = value-high x y (b 0) (b 1) in
@@ -200,9 +205,9 @@ entries-tabulate f g (suc m) h w a b =
     let first : f (h zero) ≡ w 0 = a zero (omega arith) in
     let second : g (h zero) ≡ w 1 = b zero (omega arith) in
     let rest : entriesOf f g (tabulate m (λ k. h (suc k))) ≡ tabulate (2 * m) (λ i. w (suc (suc i))) =
-        entries-tabulate f g m (λ k. h (suc k)) (λ i. w (suc (suc i)))
-        (λ k l. a (suc k) (omega arith) ∙ ap w (twice-suc k))
-        (λ k l. b (suc k) (omega arith) ∙ ap w (double k 1))
+    entries-tabulate f g m (λ k. h (suc k)) (λ i. w (suc (suc i)))
+    (λ k l. a (suc k) (omega arith) ∙ ap w (twice-suc k))
+    (λ k l. b (suc k) (omega arith) ∙ ap w (double k 1))
     in
     rw (twice, first, second, rest)
 

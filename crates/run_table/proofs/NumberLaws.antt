@@ -195,8 +195,8 @@ module _ {A : Type 0} (test : A → Bool) (n : ℕ) (f : ℕ → A) where
   by-cases false e =
       any-none test (tabulate n f) (f 0)
       (λ k l.
-        let below : k < n = rw length-tabulate at l in
-        ap test (getD-tabulate n f k (f 0) below) ∙ none-below (λ k. test (f k)) n e k below)
+      let below : k < n = rw length-tabulate at l in
+      ap test (getD-tabulate n f k (f 0) below) ∙ none-below (λ k. test (f k)) n e k below)
 
   pub any-tabulate : any test (tabulate n f) ≡ anyBelow n (λ k. test (f k))
   any-tabulate = by-cases (anyBelow n (λ k. test (f k))) refl

@@ -78,7 +78,7 @@ module _ (sends receipts : List ℕ) (k a b : ℕ) (read : a ≡ u16At sends (4 
   two-processes e = rw (← read, ← read′) (ne-eqb a b e)
 
 module _ (counts part : List ℕ) (k p c s : ℕ) (read : p ≡ u16At part (4 * k)) (read′ : s ≡ u16At part (4 * k + 2))
-  (read″ : c ≡ u16At counts (2 * p)) where
+    (read″ : c ≡ u16At counts (2 * p)) where
   pub not-below : c ≤ s → notBelowAt counts part k ≡ true
   unfolding notBelowAt processAt checkpointAt countAt
   not-below l = rw (← read, ← read′, ← read″) (le-leb c s l)

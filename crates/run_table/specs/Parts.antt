@@ -3,7 +3,7 @@ use mathlib.Core.Bool.{Bool, false, _||_}
 use mathlib.Core.List.{List, [], _∷_}
 use Prim.Native.Nat.{ℕ, zero, suc}
 use lib.Dec.{eqb, leb}
-use Rattle.run_table.specs.Checks.{badCount, firstCaught}
+use Rattle.run_table.specs.Checks.{Check, badCount, firstCaught}
 use Rattle.run_table.specs.Format.{checkpointAt, countAt, processAt}
 
 -- Whether some number below n passes a test.
@@ -28,13 +28,15 @@ unfoldable pub notBelowAt : List ℕ → List ℕ → ℕ → Bool
 notBelowAt counts part k = leb (countAt counts (processAt part k)) (checkpointAt part k)
 
 -- Checks 5 to 9 on the parts of a table of n processes and m messages.
-unfoldable pub partsRefusal : ℕ → ℕ → List ℕ → List ℕ → List ℕ → ℕ
-partsRefusal n m counts sends receipts =
-    firstCaught
-    (record { caught = anyBelow n (badCountAt counts); number = 5 }
+abbrev pub partsChecks : ℕ → ℕ → List ℕ → List ℕ → List ℕ → List Check
+partsChecks n m counts sends receipts =
+    record { caught = anyBelow n (badCountAt counts); number = 5 }
     ∷ record { caught = anyBelow m (unknownAt n sends); number = 6 }
     ∷ record { caught = anyBelow m (unknownAt n receipts); number = 6 }
     ∷ record { caught = anyBelow m (toItselfAt sends receipts); number = 7 }
     ∷ record { caught = anyBelow m (notBelowAt counts sends); number = 8 }
     ∷ record { caught = anyBelow m (notBelowAt counts receipts); number = 9 }
-    ∷ [])
+    ∷ []
+
+abbrev pub partsRefusal : ℕ → ℕ → List ℕ → List ℕ → List ℕ → ℕ
+partsRefusal n m counts sends receipts = firstCaught (partsChecks n m counts sends receipts)

@@ -5,7 +5,6 @@ pub mod lookups;
 pub mod numbers;
 
 use lookups::Field;
-
 ghost use mathlib.Core.Path.{_≡_};
 ghost use Rattle.run_table.specs.Checks.{tableRefusal};
 ghost use Rattle.run_table.specs.Format.{decode};

@@ -127,10 +127,8 @@ entry-checks-requires c κs = search needs
 
 returns-6 : tie.Need-returns-6
 returns-6 c =
-    let right = c .before .before .before .before in
-    let read = right .before .before .before .before in
-    c .entry-checks .ensures ∙ parts-read _ _ _ (read .before .u16-at .ensures) (read .u16-at2 .ensures)
-    ∙ sym (parts-refusal _ (passed-1 (read .before .before)) (passed-2 (right .before .before)) (passed-3 (right .before)) (passed-4 right))
+    c .entry-checks .ensures ∙ parts-read _ _ _ (c .before .before .before .before .before .before .before .before .before .u16-at .ensures) (c .before .before .before .before .before .before .before .before .u16-at2 .ensures)
+    ∙ sym (parts-refusal _ (passed-1 (c .before .before .before .before .before .before .before .before .before .before)) (passed-2 (c .before .before .before .before .before .before)) (passed-3 (c .before .before .before .before .before)) (passed-4 (c .before .before .before .before)))
 
 pub check-spec : {M : Type 1} → statement M
 check-spec =

@@ -1,0 +1,154 @@
+// What the test programs build tables and print their lines with. A place beyond the end of a buffer
+// is left out, so that every function takes any buffer.
+pub mod script;
+
+use libc::STDOUT_FILENO;
+use run_table::numbers::u16_or_zero;
+use script::line_end;
+use script::size;
+use script::small;
+use script::starts;
+ghost use mathlib.Core.Path.{_≡_};
+ghost use lib.ListN.{length};
+
+// Writes a byte.
+pub fn byte(buffer: &mut [u8], at: usize, value: u8)
+    ensures { λ _. ⌜ length (now (buffer .exit)) ≡ length (now (buffer .entry)) ⌝ }
+{
+    if at < buffer.len() {
+        buffer[at] = value;
+    }
+}
+
+// Writes a 16-bit number, low byte first.
+pub fn number(buffer: &mut [u8], at: usize, value: u16)
+    ensures { λ _. ⌜ length (now (buffer .exit)) ≡ length (now (buffer .entry)) ⌝ }
+{
+    if at < 1000000 {
+        byte(buffer, at, (value % 256) as u8);
+        byte(buffer, at + 1, (value / 256 % 256) as u8);
+    }
+}
+
+// Writes N and M, and the counts, all alike. The messages are left as they are.
+pub fn sizes(buffer: &mut [u8], n: u16, m: u16, count: u16)
+    ensures { λ _. ⌜ length (now (buffer .exit)) ≡ length (now (buffer .entry)) ⌝ }
+{
+    number(buffer, 0, n);
+    number(buffer, 2, m);
+    let mut p: u16 = 0;
+    while p < n {
+        number(buffer, 4 + 2 * (p as usize), count);
+        p += 1;
+    }
+}
+
+// Writes the count of one process.
+pub fn count(buffer: &mut [u8], p: u16, value: u16)
+    ensures { λ _. ⌜ length (now (buffer .exit)) ≡ length (now (buffer .entry)) ⌝ }
+{
+    number(buffer, 4 + 2 * (p as usize), value);
+}
+
+// Writes message k: from checkpoint y of j to checkpoint r of i.
+pub fn message(buffer: &mut [u8], k: u16, j: u16, y: u16, i: u16, r: u16)
+    ensures { λ _. ⌜ length (now (buffer .exit)) ≡ length (now (buffer .entry)) ⌝ }
+{
+    let sends_at = 4 + 2 * (u16_or_zero(buffer, 0) as usize);
+    let receipts_at = sends_at + 4 * (u16_or_zero(buffer, 2) as usize);
+    let place = 4 * (k as usize);
+    number(buffer, sends_at + place, j);
+    number(buffer, sends_at + place + 2, y);
+    number(buffer, receipts_at + place, i);
+    number(buffer, receipts_at + place + 2, r);
+}
+
+// Writes every message alike.
+pub fn messages(buffer: &mut [u8], m: u16, j: u16, y: u16, i: u16, r: u16)
+    ensures { λ _. ⌜ length (now (buffer .exit)) ≡ length (now (buffer .entry)) ⌝ }
+{
+    let mut k: u16 = 0;
+    while k < m {
+        message(buffer, k, j, y, i, r);
+        k += 1;
+    }
+}
+
+// The length that the sizes of a table give.
+pub fn length_of(buffer: &[u8]) -> usize {
+    4 + 2 * (u16_or_zero(buffer, 0) as usize) + 8 * (u16_or_zero(buffer, 2) as usize)
+}
+
+// Prints a word, with no space.
+pub fn word(text: &[u8]) {
+    io::write_all(STDOUT_FILENO, text);
+}
+
+// Prints a space and a number.
+pub fn value(n: u64) {
+    io::write_all(STDOUT_FILENO, b" ");
+    io::print_decimal(STDOUT_FILENO, n);
+}
+
+// Ends a line.
+pub fn end() {
+    io::write_all(STDOUT_FILENO, b"\n");
+}
+
+// Prints the line of a script that starts at a place.
+pub fn echo(text: &[u8], at: usize) {
+    if at < text.len() {
+        let end = line_end(text, at);
+        word(&text[at..end]);
+    }
+}
+
+// Does what a line of a script says of the table in the buffer:
+//     table N M COUNT      sizes, and every count alike
+//     count P COUNT
+//     message K J Y I R    from checkpoint Y of J to checkpoint R of I
+//     all M J Y I R        the first M messages alike
+//     number AT VALUE      a number at a byte
+// A line that says something else is left to the caller.
+pub fn build(buffer: &mut [u8], code: u16, numbers: &[u64; 16])
+    ensures { λ _. ⌜ length (now (buffer .exit)) ≡ length (now (buffer .entry)) ⌝ }
+{
+    if starts(code, b't', b'a') {
+        sizes(
+            buffer,
+            small(numbers, 0),
+            small(numbers, 1),
+            small(numbers, 2),
+        );
+        return;
+    }
+    if starts(code, b'c', b'o') {
+        count(buffer, small(numbers, 0), small(numbers, 1));
+        return;
+    }
+    if starts(code, b'm', b'e') {
+        message(
+            buffer,
+            small(numbers, 0),
+            small(numbers, 1),
+            small(numbers, 2),
+            small(numbers, 3),
+            small(numbers, 4),
+        );
+        return;
+    }
+    if starts(code, b'a', b'l') {
+        messages(
+            buffer,
+            small(numbers, 0),
+            small(numbers, 1),
+            small(numbers, 2),
+            small(numbers, 3),
+            small(numbers, 4),
+        );
+        return;
+    }
+    if starts(code, b'n', b'u') {
+        number(buffer, size(numbers, 0), small(numbers, 1));
+    }
+}

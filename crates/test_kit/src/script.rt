@@ -1,0 +1,128 @@
+// A test script: lines of a word and decimal numbers, as "message 0 1 2 3 4". A word is known by its
+// first two letters.
+ghost use Prim.Native.Nat.{_+_, _<_, _≤_};
+ghost use lib.ListN.{length};
+
+// A line: its word, its numbers, how many they are, and where the next line starts.
+pub struct Line {
+    pub code: u16,
+    pub numbers: [u64; 16],
+    pub count: usize,
+    pub next: usize,
+}
+
+// The code of a word's first two letters.
+pub fn code_of(first: u8, second: u8) -> u16 {
+    256 * (first as u16) + (second as u16)
+}
+
+// The code of the word that starts at a place of the text.
+pub fn code_at(text: &[u8], at: usize) -> u16 {
+    if text.len() <= at {
+        return 0;
+    }
+    if text.len() - at == 1 {
+        return code_of(text[at], 0);
+    }
+    code_of(text[at], text[at + 1])
+}
+
+// Where the line that starts at a place ends: at its line feed, or at the end of the text.
+pub fn line_end(text: &[u8], at: usize) -> usize
+    requires { ⌜ at ≤ length (now text) ⌝ }
+    ensures { λ r. ⌜ (at ≤ r) × (r ≤ length (now (text .entry))) ⌝ }
+{
+    let mut i = at;
+    while i < text.len() {
+        if text[i] == b'\n' {
+            return i;
+        }
+        i += 1;
+    }
+    i
+}
+
+// Where the digits that start at a place end, at `end` at the latest.
+fn digits_end(text: &[u8], at: usize, end: usize) -> usize
+    requires { ⌜ (at ≤ end) × (end ≤ length (now text)) ⌝ }
+    ensures { λ r. ⌜ (at ≤ r) × (r ≤ end) ⌝ }
+{
+    let mut i = at;
+    while i < end {
+        if text[i] < b'0' {
+            return i;
+        }
+        if b'9' < text[i] {
+            return i;
+        }
+        i += 1;
+    }
+    i
+}
+
+// The number that the digits from a place to another spell, of which the first seventeen count.
+fn digits_value(text: &[u8], from: usize, to: usize) -> u64
+    requires { ⌜ to ≤ length (now text) ⌝ }
+    ensures { λ r. ⌜ r < 1000000000000000000 ⌝ }
+{
+    let mut value: u64 = 0;
+    let mut i = from;
+    while i < to {
+        let digit = (text[i] % 16 % 10) as u64;
+        i += 1;
+        if value < 99999999999999999 {
+            value = 10 * value + digit;
+        }
+    }
+    value
+}
+
+// The line that starts at a place of the text.
+pub fn line_at(text: &[u8], at: usize) -> Line
+    requires { ⌜ at < length (now text) ⌝ }
+    ensures { λ r. ⌜ (at < r .next) × (r .next ≤ length (now (text .entry)) + 1) × (r .count ≤ 16) ⌝ }
+{
+    let end = line_end(text, at);
+    let mut numbers = [0u64; 16];
+    let mut count = 0;
+    let mut i = at;
+    while i < end {
+        let stop = digits_end(text, i, end);
+        if stop == i {
+            i += 1;
+            continue;
+        }
+        if count < 16 {
+            numbers[count] = digits_value(text, i, stop);
+            count += 1;
+        }
+        i = stop;
+    }
+    Line {
+        code: code_at(text, at),
+        numbers,
+        count,
+        next: end + 1,
+    }
+}
+
+// Number i of a line, as 16 bits.
+pub fn small(numbers: &[u64; 16], i: usize) -> u16 {
+    if i < 16 {
+        return (numbers[i] % 65536) as u16;
+    }
+    0
+}
+
+// Number i of a line, as a size.
+pub fn size(numbers: &[u64; 16], i: usize) -> usize {
+    if i < 16 {
+        return numbers[i] as usize;
+    }
+    0
+}
+
+// Whether a word's code is that of two letters.
+pub fn starts(code: u16, first: u8, second: u8) -> bool {
+    code == code_of(first, second)
+}
