@@ -1,0 +1,36 @@
+-- The computed line (document 01, "Lowering rule"): rollback propagation. Assumes nothing.
+use mathlib.Core.Bool.{Bool, cond, _&&_}
+use mathlib.Core.List.{List, [], _∷_}
+use Prim.Native.Nat.{ℕ, zero, suc, _+_, _-_}
+use lib.Dec.{leb, ltb}
+use lib.ListN.{set}
+use Rattle.consistency.specs.Lines.{at}
+use Rattle.run_table.specs.Table.{Message}
+
+-- Whether a message is an orphan of a line.
+unfoldable pub isOrphan : Message → List ℕ → Bool
+isOrphan m l = ltb 0 (m .received) && (leb (at l (m .sender)) (m .sent) && leb (m .received) (at l (m .receiver)))
+
+-- An orphan puts its receiver back to r − 1.
+unfoldable pub lower : Message → List ℕ → List ℕ
+lower m l = cond (isOrphan m l) (set l (m .receiver) (m .received - 1)) l
+
+-- A pass over the messages, from the last to the first.
+unfoldable pub pass : List Message → List ℕ → List ℕ
+pass [] l = l
+pass (m ∷ rest) l = lower m (pass rest l)
+
+-- Some number of passes.
+unfoldable pub passes : ℕ → List Message → List ℕ → List ℕ
+passes zero messages l = l
+passes (suc n) messages l = passes n messages (pass messages l)
+
+-- The sum of a line.
+unfoldable pub sum : List ℕ → ℕ
+sum [] = 0
+sum (n ∷ rest) = n + sum rest
+
+-- The line under a ceiling: as many passes as the ceiling's sum, since a pass that lowers anything lowers the sum, and one
+-- that lowers nothing is followed by none that does.
+unfoldable pub lineUnder : List Message → List ℕ → List ℕ
+lineUnder messages ceiling = passes (sum ceiling) messages ceiling
