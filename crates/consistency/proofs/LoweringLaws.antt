@@ -7,6 +7,8 @@
 --     line-latest                   the computed line is the latest one under its ceiling
 --     line-length                   it has a number for each of the ceiling's
 --     line-is                       a line that is the latest one under a ceiling is the computed one
+--     line-from, line-put-back      any start between the line and its ceiling ends at the same line
+--     line-consistent               a consistent line is the line under itself
 -- Assumes nothing.
 use mathlib.Core.Bool.{Bool, true, false, cond, _&&_, false≢true}
 use mathlib.Core.List.{List, [], _∷_}
@@ -20,7 +22,7 @@ use borrow.Author.Tests.{leb-true, ltb-true, le-leb, lt-ltb}
 use lib.Dec.{leb, ltb}
 use lib.ListN.{length, getD, set, length-set, List·getD-eq-default}
 use lib.Seq.{ext-getD, getD-set-same, getD-set-other}
-use Rattle.consistency.proofs.LineLaws.{latest-unique, orphan-free, zero-consistent}
+use Rattle.consistency.proofs.LineLaws.{latest-from, latest-unique, orphan-free, zero-consistent}
 use Rattle.consistency.specs.Lines.{AtOrBelow, Consistent, Latest, Line, Orphan, at}
 use Rattle.consistency.specs.Lowering.{isOrphan, lineUnder, lower, pass, passes, sum}
 use Rattle.run_table.specs.Table.{Message, noMessage}
@@ -226,3 +228,24 @@ module _ (ms : List Message) (ceiling : List ℕ) where
   -- a line of the ceiling's length that is the latest one is the computed one
   pub line-is : (l : List ℕ) → length l ≡ length ceiling → Latest ms (at ceiling) (at l) → l ≡ lineUnder ms ceiling
   line-is l e a = ext-getD 0 l (lineUnder ms ceiling) (e ∙ sym line-length) (λ p _. latest-unique ms (at ceiling) (at l) (at (lineUnder ms ceiling)) a line-latest p)
+
+
+-- any start between the line and its ceiling ends at the same line
+pub line-from : (ms : List Message) (ceiling start : List ℕ) → length start ≡ length ceiling → AtOrBelow (at (lineUnder ms ceiling)) (at start)
+    → AtOrBelow (at start) (at ceiling) → lineUnder ms start ≡ lineUnder ms ceiling
+line-from ms ceiling start e above below =
+    sym (line-is ms start (lineUnder ms ceiling) (line-length ms ceiling ∙ sym e)
+    (latest-from ms (at ceiling) (at start) (at (lineUnder ms ceiling)) (line-latest ms ceiling) above below))
+
+-- so does the line with an orphan's receiver put back
+pub line-put-back : (ms : List Message) (l : List ℕ) (k : ℕ) (m : Message) → getD ms k noMessage ≡ m → Orphan m (at l)
+    → lineUnder ms (set l (m .receiver) (m .received - 1)) ≡ lineUnder ms l
+line-put-back ms l k m e o =
+    let a = line-latest ms l in
+    line-from ms l (set l (m .receiver) (m .received - 1)) (length-set l (m .receiver) (m .received - 1))
+    (put-back-above m l o (at (lineUnder ms l)) (subst (λ (x : Message). Orphan x (at (lineUnder ms l)) → ⊥) e (a .consistent k)) (a .under))
+    (put-back-under m l o)
+
+-- a consistent line is the line under itself
+pub line-consistent : (ms : List Message) (l : List ℕ) → Consistent ms (at l) → l ≡ lineUnder ms l
+line-consistent ms l c = line-is ms l l refl (record { under = λ p. le-refl (at l p); consistent = c; latest = λ other below _. below })
