@@ -29,7 +29,8 @@ use Rattle.run_table.specs.Checks.{WellFormed}
 use Rattle.run_table.specs.Numbers.{tabulate}
 use Rattle.run_table.specs.Table.{Message, Table, countOf, messageCount, messageOf, noMessage, processCount}
 
-all-zero : (b : Bool) (c : ℕ) → c ≡ 0 → cond b (c - 1) c ≡ 0
+-- without a checkpoint, a process stands at 0 either way
+pub all-zero : (b : Bool) (c : ℕ) → c ≡ 0 → cond b (c - 1) c ≡ 0
 all-zero true c e = omega arith
 all-zero false c e = e
 

@@ -1,3 +1,7 @@
 -- The laws of the code of lines.
---     PassLaws    what a pass over the messages keeps and finds
+--     ArrayLaws    a line as an array of 32 numbers
+--     FillLaws     an array that a loop fills from the front
+--     PassLaws     what a pass over the messages keeps and finds
+pub mod ArrayLaws
+mod FillLaws
 mod PassLaws

@@ -1,3 +1,25 @@
 // Lines of a run table: the ceiling of a process set, and the latest consistent line under a ceiling.
 // A line is an array of 32 numbers by value; its entries at N and above are 0.
+pub mod ceilings;
 pub mod lowering;
+
+use run_table::numbers::u16_at;
+ghost use mathlib.Core.Path.{_≡_};
+ghost use Rattle.consistency.specs.Ceilings.{lineOf};
+ghost use Rattle.lines.specs.Arrays.{arrayOf};
+ghost use Rattle.process_set.specs.Sets.{member};
+ghost use Rattle.run_table.specs.Checks.{tableRefusal};
+ghost use Rattle.run_table.specs.Format.{decode};
+
+// The line of a set in an accepted table.
+pub fn line_of_set(table: &[u8], set: u32) -> [u16; 32]
+    requires { ⌜ tableRefusal (now table) ≡ 0 ⌝ }
+    ensures { λ r. ⌜ r ≡ arrayOf (lineOf (decode (now (table .entry))) (member set)) ⌝ }
+{
+    let n = u16_at(table, 0) as usize;
+    let m = u16_at(table, 2) as usize;
+    let sends_at = 4 + 2 * n;
+    let receipts_at = sends_at + 4 * m;
+    let ceiling = ceilings::ceiling(&table[4..sends_at], n, set);
+    lowering::lower(ceiling, &table[sends_at..receipts_at], &table[receipts_at..], m)
+}

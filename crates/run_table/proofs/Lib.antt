@@ -1,10 +1,15 @@
 -- The laws of this crate, for its own proofs and for the crates above.
 --     NumberLaws    16-bit numbers in bytes; lists given by their entries; tests over lists and over indices
---     FormatLaws    the parts of a table's bytes; reading and writing undo each other
---     CheckLaws     what the checks say of a table, and an accepted table's facts
+--     FormatLaws    the parts of a table's bytes, and the entries of the decoded table
+--     CodingLaws    reading and writing undo each other
+--     CheckLaws     the first check that catches; the checks in terms of the parts
+--     AcceptLaws    an accepted table's facts
+--     ReadLaws      what the code knows of an accepted table once it has read N and M
+--     ScanLaws      what the loops of the checks find
 pub mod AcceptLaws
 pub mod CheckLaws
 pub mod CodingLaws
 pub mod FormatLaws
 pub mod NumberLaws
+pub mod ReadLaws
 mod ScanLaws

@@ -1,25 +1,26 @@
 -- Laws of 16-bit numbers in bytes, of lists that are given by their entries, and of tests over lists and over indices.
 --     u16At-beyond, u16At-last                 a number at the end of the bytes
 --     u16At-take, u16At-drop                   a number in a part of the bytes
---     length-u16s, u16At-u16s                  the bytes of numbers
+--     length-u16s, u16s-append, u16At-u16s     the bytes of numbers
+--     length-putAt, putAt-none, putAt-number, putAt-more  bytes put into a buffer
 --     length-tabulate, getD-tabulate           the two laws of `tabulate`
 --     tabulate-ext, tabulate-getD              two such lists are equal by their entries; every list is one
---     tabulate-append                          one after another
+--     tabulate-append, tabulate-more           one after another; one entry more
 --     any-none, any-some, none-of              `any`, by the entries of the list
 --     anyBelow-more, anyBelow-found, none-below          `anyBelow`, as a loop finds it
 --     any-tabulate, anyBelow-ext, anyBelow-or  one test in the other's terms
 -- Assumes nothing.
 use mathlib.Core.Bool.{Bool, true, false, _||_, or-true, true≢false, false≢true}
-use mathlib.Core.List.{List, [], _∷_, _++_}
+use mathlib.Core.List.{List, [], _∷_, _++_, append-assoc}
 use mathlib.Core.Logic.{⊎-elim}
 use mathlib.Core.Path.{_≡_, refl, sym, ap, _∙_, subst}
 use Prim.Native.Nat.{ℕ, zero, suc, _+_, _*_, _/_, _%_, _<_, _≤_, zero-le, suc-le-suc}
-use native.Mathlib.Nat.{zero-add, suc-add, le-of-suc-le-suc, not-suc-le-zero, eq-or-lt-of-le}
+use native.Mathlib.Nat.{add-zero, zero-add, suc-add, le-of-suc-le-suc, not-suc-le-zero, eq-or-lt-of-le}
 use native.Mathlib.Numerals.{add-one}
 use native.Mathlib.Omega.{arith}
-use lib.ListN.{length, getD, take, drop, length-append, List·getD-eq-default}
-use lib.Seq.{ext-getD, getD-take, getD-drop}
-use Rattle.run_table.specs.Numbers.{u16At, u16Bytes, u16s, tabulate, any}
+use lib.ListN.{length, getD, take, drop, set, length-append, length-drop, length-set, length-take, take-append-drop, List·getD-eq-default}
+use lib.Seq.{drop-append-add, drop-drop, getD-take, getD-drop, length-take-le, sets-eq, take-at}
+use Rattle.run_table.specs.Numbers.{any, putAt, tabulate, u16At, u16Bytes, u16s}
 use Rattle.run_table.specs.Parts.{anyBelow}
 
 pub u16At-beyond : (bytes : List ℕ) (at : ℕ) → length bytes ≤ at → u16At bytes at ≡ 0
@@ -56,6 +57,58 @@ length-u16s [] = refl
 length-u16s (n ∷ rest) =
     let ih : length (u16s rest) ≡ 2 * length rest = length-u16s rest in
     omega arith
+
+pub u16s-append : (xs ys : List ℕ) → u16s (xs ++ ys) ≡ u16s xs ++ u16s ys
+unfolding u16s
+u16s-append [] ys = refl
+u16s-append (x ∷ rest) ys = ap (λ (l : List ℕ). u16Bytes x ++ l) (u16s-append rest ys) ∙ sym (append-assoc (u16Bytes x) (u16s rest) (u16s ys))
+
+-- ---- bytes put into a buffer
+module _ (buffer : List ℕ) (at : ℕ) where
+  pub length-putAt : (bytes : List ℕ) → at + length bytes ≤ length buffer → length (putAt buffer at bytes) ≡ length buffer
+  unfolding putAt
+  length-putAt bytes fits = simp (length-append, length-take, length-drop) (omega arith)
+
+  pub putAt-none : putAt buffer at [] ≡ buffer
+  unfolding putAt
+  putAt-none = rw add-zero (take-append-drop at buffer)
+
+  -- one number, as two stores
+  pub putAt-number : (n : ℕ) → at + 1 < length buffer → set (set buffer at (n % 256)) (at + 1) (n / 256 % 256) ≡ putAt buffer at (u16Bytes n)
+  unfolding putAt u16Bytes
+  putAt-number n fits =
+      let place : at + 1 ≡ suc at = omega arith in
+      ap (λ (i : ℕ). set (set buffer at (n % 256)) i (n / 256 % 256)) place
+      ∙ sets-eq (n % 256 ∷ n / 256 % 256 ∷ []) buffer at (omega arith)
+      ∙ append-assoc (take at buffer) (n % 256 ∷ n / 256 % 256 ∷ []) (drop (at + 2) buffer)
+
+  -- what is put after what was put
+  pub putAt-more : (xs ys : List ℕ) → at + length xs + length ys ≤ length buffer → putAt (putAt buffer at xs) (at + length xs) ys ≡ putAt buffer at (xs ++ ys)
+  unfolding putAt
+  putAt-more xs ys fits =
+      let whole : putAt buffer at xs ≡ P ++ D = sym (append-assoc (take at buffer) xs D) in
+      let front : take (at + length xs) (P ++ D) ≡ P = take-at P D (at + length xs) seam in
+      let back : drop (at + length xs + length ys) (P ++ D) ≡ drop (at + length (xs ++ ys)) buffer =
+          ap (λ (i : ℕ). drop (i + length ys) (P ++ D)) (sym seam) ∙ drop-append-add P D (length ys) ∙ drop-drop (length ys) (at + length xs) buffer
+          ∙ ap (λ (i : ℕ). drop i buffer) places
+      in
+      ap (λ (b : List ℕ). take (at + length xs) b ++ (ys ++ drop (at + length xs + length ys) b)) whole
+      ∙ ap (λ (b : List ℕ). b ++ (ys ++ drop (at + length xs + length ys) (P ++ D))) front
+      ∙ ap (λ (b : List ℕ). P ++ (ys ++ b)) back
+      ∙ append-assoc (take at buffer) xs (ys ++ drop (at + length (xs ++ ys)) buffer)
+      ∙ ap (λ (b : List ℕ). take at buffer ++ b) (sym (append-assoc xs ys (drop (at + length (xs ++ ys)) buffer)))
+    where
+      P : List ℕ
+      P = take at buffer ++ xs
+
+      D : List ℕ
+      D = drop (at + length xs) buffer
+
+      places : at + length xs + length ys ≡ at + length (xs ++ ys)
+      places = omega (arith, length-append xs ys)
+
+      seam : length P ≡ at + length xs
+      seam = length-append (take at buffer) xs ∙ ap (λ (i : ℕ). i + length xs) (length-take-le at buffer (omega arith))
 
 u16Bytes-value : (n : ℕ) → n < 65536 → n % 256 + 256 * (n / 256 % 256) ≡ n
 u16Bytes-value n h = omega arith
@@ -109,6 +162,10 @@ module _ {A : Type 0} where
   tabulate-append (suc n) m f =
       let rest : tabulate (n + m) (λ k. f (suc k)) ≡ tabulate n (λ k. f (suc k)) ++ tabulate m (λ k. f (suc (n + k))) = tabulate-append n m (λ k. f (suc k)) in
       simp (suc-add n, rest)
+
+  pub tabulate-more : (n : ℕ) (f : ℕ → A) → tabulate (n + 1) f ≡ tabulate n f ++ (f n ∷ [])
+  unfolding tabulate
+  tabulate-more n f = tabulate-append n 1 f ∙ ap (λ (k : ℕ). tabulate n f ++ (f k ∷ [])) (add-zero n)
 
   pub any-none : (test : A → Bool) (l : List A) (d : A) → ((k : ℕ) → k < length l → test (getD l k d) ≡ false) → any test l ≡ false
   unfolding any

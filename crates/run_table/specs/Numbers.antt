@@ -2,7 +2,7 @@
 use mathlib.Core.Bool.{Bool, true, false, _||_}
 use mathlib.Core.List.{List, [], _∷_, _++_}
 use Prim.Native.Nat.{ℕ, zero, suc, _+_, _*_, _/_, _%_}
-use lib.ListN.{getD}
+use lib.ListN.{length, getD, take, drop}
 
 -- The unsigned 16-bit number at byte `at`, low byte first. What stands beyond the end is 0.
 unfoldable pub u16At : List ℕ → ℕ → ℕ
@@ -16,6 +16,10 @@ u16Bytes n = n % 256 ∷ n / 256 % 256 ∷ []
 unfoldable pub u16s : List ℕ → List ℕ
 u16s [] = []
 u16s (n ∷ rest) = u16Bytes n ++ u16s rest
+
+-- Bytes put into a buffer from a place on; the rest is as it was.
+unfoldable pub putAt : List ℕ → ℕ → List ℕ → List ℕ
+putAt buffer at bytes = take at buffer ++ (bytes ++ drop (at + length bytes) buffer)
 
 -- The list of n entries whose entry k is f k.
 unfoldable pub tabulate : {A : Type 0} → ℕ → (ℕ → A) → List A

@@ -2,7 +2,7 @@
 ghost use mathlib.Core.Path.{_≡_};
 ghost use Prim.Native.Nat.{_+_, _*_, _<_};
 ghost use lib.ListN.{length};
-ghost use Rattle.run_table.specs.Numbers.{u16At};
+ghost use Rattle.run_table.specs.Numbers.{putAt, u16At, u16Bytes};
 
 // The number whose two bytes are given.
 pub fn u16_of(low: u8, high: u8) -> u16
@@ -31,4 +31,13 @@ pub fn u16_or_zero(bytes: &[u8], at: usize) -> u16
         return u16_of(bytes[at], 0);
     }
     u16_at(bytes, at)
+}
+
+// Writes a number at byte `at` of a slice that has room for both its bytes.
+pub fn put_u16(buffer: &mut [u8], at: usize, value: u16)
+    requires { ⌜ at + 1 < length (now buffer) ⌝ }
+    ensures { λ _. ⌜ now (buffer .exit) ≡ putAt (now (buffer .entry)) at (u16Bytes value) ⌝ }
+{
+    buffer[at] = (value % 256) as u8;
+    buffer[at + 1] = (value / 256 % 256) as u8;
 }

@@ -1,0 +1,73 @@
+-- `ceilings::ceiling` meets its contract: the loop fills the array from the front.
+-- Assumes nothing.
+use native.Mathlib.Omega.{arith}
+use mathlib.Core.Path.{subst⁻¹}
+use Prim.Native.Nat.{ℕ, _-_, _<_}
+use denote.Ref.{now}
+use Rattle.lines.proofs.ArrayLaws.{height-read, height-beyond}
+use Rattle.lines.proofs.FillLaws.{Filled, filled-none, filled-more, filled-all}
+use Rattle.lines.specs.Arrays.{heightAt}
+use Rattle.run_table.specs.Format.{countAt}
+use Rattle.lines.proofs.ceilings.ceiling.Statement.{statement}
+use Rattle.lines.proofs.ceilings.ceiling.Tie as tie
+
+abbrev Inv-loop : tie.InvT-loop
+Inv-loop counts n set line₀ p₀ line p = Filled (heightAt n set counts) n p line
+
+abbrev μ-loop : tie.MeasureT-loop
+μ-loop counts n set line₀ p₀ line p = n - p
+
+loop-holds : tie.Need-loop-holds Inv-loop μ-loop
+loop-holds c = filled-none _ _
+
+mul-u16-at : tie.Need-mul-u16-at Inv-loop μ-loop
+mul-u16-at c = omega arith
+
+u16-at-requires : tie.Need-u16-at-requires Inv-loop μ-loop
+u16-at-requires c κs = omega arith
+
+is-member-requires : tie.Need-is-member-requires Inv-loop μ-loop
+is-member-requires c κs = omega arith
+
+height-requires : tie.Need-height-requires Inv-loop μ-loop
+unfolding countAt
+height-requires c κs = subst⁻¹ (λ (x : ℕ). 0 < x) (c .before .u16-at .ensures) (c .before .before .before .before .before .pre .1 .1 _ (c .before .before .loop-test .taken))
+
+mul-line : tie.Need-mul-line Inv-loop μ-loop
+mul-line c = omega arith
+
+array-write-line : tie.Need-array-write-line Inv-loop μ-loop
+array-write-line c = omega arith
+
+add-p : tie.Need-add-p Inv-loop μ-loop
+add-p c = omega arith
+
+loop-less : tie.Need-loop-less Inv-loop μ-loop
+loop-less c = omega arith
+
+loop-again : tie.Need-loop-again Inv-loop μ-loop
+loop-again c =
+    let turn = c .before .before .before in
+    filled-more _ _ _ _ _ (turn .before .before .before .pre .0) (turn .before .loop .inv) (turn .loop-test .taken)
+    (height-read _ _ _ _ _ _ _ (turn .loop-test .taken) (c .before .before .u16-at .ensures) (c .before .is-member .ensures) (c .height .ensures))
+
+returns : tie.Need-returns Inv-loop μ-loop
+returns c = filled-all _ _ _ _ (c .before .loop .inv) (c .loop-test .left) (height-beyond _ _ _)
+
+pub ceiling-spec : {M : Type 1} → statement M
+ceiling-spec =
+    tie.close
+    (tie.spec
+    Inv-loop
+    μ-loop
+    loop-holds
+    mul-u16-at
+    u16-at-requires
+    is-member-requires
+    height-requires
+    mul-line
+    array-write-line
+    add-p
+    loop-less
+    loop-again
+    returns)

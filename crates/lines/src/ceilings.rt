@@ -1,0 +1,38 @@
+// The ceiling of a process set.
+use process_set::is_member;
+use run_table::numbers::u16_at;
+ghost use mathlib.Core.Bool.{cond};
+ghost use mathlib.Core.Path.{_≡_};
+ghost use Prim.Native.Nat.{ℕ, _*_, _-_, _<_, _≤_};
+ghost use lib.ListN.{length};
+ghost use Rattle.lines.specs.Arrays.{heightAt};
+ghost use Rattle.run_table.specs.Format.{countAt};
+ghost use Rattle.run_table.specs.Numbers.{tabulate};
+
+// How high a process of so many checkpoints may stand: at its last one where it holds, and else at
+// its virtual one.
+fn height(count: u16, holds: bool) -> u16
+    requires { ⌜ 0 < count ⌝ }
+    ensures { λ r. ⌜ r ≡ cond holds (count - 1) count ⌝ }
+{
+    if holds {
+        return count - 1;
+    }
+    count
+}
+
+// The ceiling of a set, from a part of n counts of which none is 0.
+pub fn ceiling(counts: &[u8], n: usize, set: u32) -> [u16; 32]
+    requires { ⌜ n ≤ 32 ⌝ }
+    requires { ⌜ length (now counts) ≡ 2 * n ⌝ }
+    requires { ⌜ ((p : ℕ) → p < n → 0 < countAt (now counts) p) ⌝ }
+    ensures { λ r. ⌜ r ≡ tabulate 32 (heightAt n set (now (counts .entry))) ⌝ }
+{
+    let mut line = [0u16; 32];
+    let mut p = 0;
+    while p < n {
+        line[p] = height(u16_at(counts, 2 * p), is_member(set, p));
+        p += 1;
+    }
+    line
+}

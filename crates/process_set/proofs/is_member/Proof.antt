@@ -1,0 +1,15 @@
+-- `process_set::is_member` meets its contract: by what `bit` ensures, the code masks the set with 2 ^ p.
+-- Assumes nothing.
+use borrow.Author.Needs.{needs}
+use Rattle.process_set.proofs.SetLaws.{mask-is-member}
+use Rattle.process_set.proofs.is_member.Statement.{statement}
+use Rattle.process_set.proofs.is_member.Tie as tie
+
+bit-requires : tie.Need-bit-requires
+bit-requires c κs = search needs
+
+returns : tie.Need-returns
+returns c = rw (c .bit .ensures) (mask-is-member (c .before .args .set) (c .before .args .p))
+
+pub is-member-spec : {M : Type 1} → statement M
+is-member-spec = tie.close (tie.spec bit-requires returns)

@@ -1,0 +1,3 @@
+-- What the contracts of the process sets cite.
+-- Assumes nothing.
+pub mod Sets
