@@ -2,7 +2,8 @@
 --     array-at, array-length     its entries are those of the line
 --     array-line                 the line under an array is the array of the line
 --     height-in, height-beyond   how high a process may stand, entry by entry
---     ceiling-array              the array that the code makes is that of the set's ceiling
+--     messages-found, line-found the messages and the line of a set in an accepted table
+--     ceiling-needs, lower-needs, line-read    the same, from what the code read
 -- Assumes nothing.
 use mathlib.Core.Bool.{Bool, cond}
 use mathlib.Core.List.{List}
@@ -21,11 +22,13 @@ use Rattle.consistency.specs.Lines.{at}
 use Rattle.consistency.specs.Lowering.{lineUnder}
 use Rattle.lines.specs.Arrays.{arrayOf, heightAt, messagesOf}
 use Rattle.process_set.specs.Sets.{member}
-use Rattle.run_table.proofs.FormatLaws.{count-beyond, decode-count, decode-processes}
+use Rattle.run_table.proofs.FormatLaws.{count-beyond, decode-messages}
 use Rattle.run_table.proofs.NumberLaws.{getD-tabulate, length-tabulate, tabulate-ext}
-use Rattle.run_table.specs.Format.{countAt, countsPart, decode, messagesIn, processesIn, receiptsPart, sendsPart}
+use Rattle.run_table.proofs.ReadLaws.{count-is, counts-positive, counts-size, processes-few, receipts-size, receivers-known, senders-known, sends-size}
+use Rattle.run_table.specs.Checks.{tableRefusal}
+use Rattle.run_table.specs.Format.{countAt, countsPart, decode, messageAt, processAt, receiptsPart, sendsPart}
 use Rattle.run_table.specs.Numbers.{tabulate, u16At}
-use Rattle.run_table.specs.Table.{Message, Table, countOf, processCount}
+use Rattle.run_table.specs.Table.{Message, countOf, messageCount, processCount}
 
 module _ (l : List ℕ) where
   pub array-length : length (arrayOf l) ≡ 32
@@ -64,19 +67,51 @@ unfolding countAt
 height-read n set counts p count r holds l read is-held e =
     e ∙ ap₂ (λ (b : Bool) (c : ℕ). cond b (c - 1) c) is-held read ∙ sym (height-in n set counts p l)
 
-module _ (bytes : List ℕ) (set : ℕ) where
-  height-is : (p : ℕ) → heightAt (processesIn bytes) set (countsPart bytes) p ≡ at (ceilingOf (decode bytes) (member set)) p
-  height-is p = go (decLt p (processesIn bytes)) ∙ sym (ceiling-at (decode bytes) (member set) p)
+-- ---- the line that the code finds in an accepted table
+module _ (bytes : List ℕ) (none : tableRefusal bytes ≡ 0) (set : ℕ) where
+  abbrev N : ℕ
+  N = processCount (decode bytes)
+
+  height-is : (p : ℕ) → heightAt N set (countsPart bytes) p ≡ at (ceilingOf (decode bytes) (member set)) p
+  height-is p = go (decLt p N) ∙ sym (ceiling-at (decode bytes) (member set) p)
     where
       wanted : ℕ → ℕ
       wanted c = cond (member set p) (c - 1) c
 
-      go : Dec (p < processesIn bytes) → heightAt (processesIn bytes) set (countsPart bytes) p ≡ wanted (countOf (decode bytes) p)
-      go (yes l) = height-in (processesIn bytes) set (countsPart bytes) p l ∙ ap wanted (sym (decode-count bytes p l))
+      go : Dec (p < N) → heightAt N set (countsPart bytes) p ≡ wanted (countOf (decode bytes) p)
+      go (yes l) = height-in N set (countsPart bytes) p l ∙ ap wanted (count-is bytes none p l)
       go (no l) =
-          height-beyond (processesIn bytes) set (countsPart bytes) p (omega arith)
-          ∙ sym (all-zero (member set p) (countOf (decode bytes) p) (count-beyond (decode bytes) p (omega (arith, decode-processes bytes))))
+          height-beyond N set (countsPart bytes) p (omega arith)
+          ∙ sym (all-zero (member set p) (countOf (decode bytes) p) (count-beyond (decode bytes) p (omega arith)))
 
-  pub ceiling-array : tabulate 32 (heightAt (processesIn bytes) set (countsPart bytes)) ≡ arrayOf (ceilingOf (decode bytes) (member set))
+  ceiling-array : tabulate 32 (heightAt N set (countsPart bytes)) ≡ arrayOf (ceilingOf (decode bytes) (member set))
   unfolding arrayOf
   ceiling-array = tabulate-ext 32 _ _ (λ p _. height-is p)
+
+  pub messages-found : messagesOf (messageCount (decode bytes)) (sendsPart bytes) (receiptsPart bytes) ≡ decode bytes .messages
+  unfolding messagesOf decode
+  messages-found = ap (λ (m : ℕ). tabulate m (messageAt (sendsPart bytes) (receiptsPart bytes))) (decode-messages bytes)
+
+  pub line-found : lineUnder (messagesOf (messageCount (decode bytes)) (sendsPart bytes) (receiptsPart bytes)) (tabulate 32 (heightAt N set (countsPart bytes)))
+      ≡ arrayOf (lineOf (decode bytes) (member set))
+  unfolding lineOf
+  line-found =
+      ap₂ lineUnder messages-found ceiling-array
+      ∙ array-line (decode bytes .messages) (ceilingOf (decode bytes) (member set))
+      (subst⁻¹ (λ (x : ℕ). x ≤ 32) (ceiling-length (decode bytes) (member set)) (processes-few bytes none))
+
+  -- what the code must show of what it read, and what it has found
+  module _ (n m : ℕ) (counts sends receipts : List ℕ) (read-n : n ≡ N) (read-m : m ≡ messageCount (decode bytes))
+    (read-c : counts ≡ countsPart bytes) (read-s : sends ≡ sendsPart bytes) (read-r : receipts ≡ receiptsPart bytes) where
+    pub ceiling-needs : (n ≤ 32) × ((length counts ≡ 2 * n) × ((p : ℕ) → p < n → 0 < countAt counts p))
+    ceiling-needs = rw (read-n, read-c) (processes-few bytes none, (counts-size bytes none, counts-positive bytes none))
+
+    pub lower-needs : (length sends ≡ 4 * m)
+        × ((length receipts ≡ 4 * m) × (((k : ℕ) → k < m → processAt sends k < 32) × ((k : ℕ) → k < m → processAt receipts k < 32)))
+    lower-needs =
+        rw (read-m, read-s, read-r)
+        (sends-size bytes none, (receipts-size bytes none,
+        ((λ k l. omega (arith, senders-known bytes none k l, processes-few bytes none)), (λ k l. omega (arith, receivers-known bytes none k l, processes-few bytes none)))))
+
+    pub line-read : lineUnder (messagesOf m sends receipts) (tabulate 32 (heightAt n set counts)) ≡ arrayOf (lineOf (decode bytes) (member set))
+    line-read = rw (read-n, read-m, read-c, read-s, read-r) line-found

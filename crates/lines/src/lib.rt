@@ -3,7 +3,7 @@
 pub mod ceilings;
 pub mod lowering;
 
-use run_table::numbers::u16_at;
+use run_table::parts;
 ghost use mathlib.Core.Path.{_≡_};
 ghost use Rattle.consistency.specs.Ceilings.{lineOf};
 ghost use Rattle.lines.specs.Arrays.{arrayOf};
@@ -16,10 +16,8 @@ pub fn line_of_set(table: &[u8], set: u32) -> [u16; 32]
     requires { ⌜ tableRefusal (now table) ≡ 0 ⌝ }
     ensures { λ r. ⌜ r ≡ arrayOf (lineOf (decode (now (table .entry))) (member set)) ⌝ }
 {
-    let n = u16_at(table, 0) as usize;
-    let m = u16_at(table, 2) as usize;
-    let sends_at = 4 + 2 * n;
-    let receipts_at = sends_at + 4 * m;
-    let ceiling = ceilings::ceiling(&table[4..sends_at], n, set);
-    lowering::lower(ceiling, &table[sends_at..receipts_at], &table[receipts_at..], m)
+    let n = parts::process_count(table);
+    let m = parts::message_count(table);
+    let ceiling = ceilings::ceiling(parts::counts(table), n, set);
+    lowering::lower(ceiling, parts::sends(table), parts::receipts(table), m)
 }

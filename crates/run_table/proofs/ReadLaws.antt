@@ -1,95 +1,100 @@
--- What the code knows of an accepted table once it has read N and M.
---     Sizes, sizes                          N, M and the length are within the limits
---     counts-are, sends-are, receipts-are   the parts of its slice, from a start to an end
---     counts-positive, counts-small         its counts
---     senders-known, receivers-known        its processes
+-- What the code knows of an accepted table.
+--     long-enough                              it has its two sizes
+--     processes-few, messages-few, whole       N, M and the length
+--     counts-size, sends-size, receipts-size   the lengths of its parts
+--     count-is, counts-positive, counts-small  its counts, as the parts have them
+--     message-is, senders-known, receivers-known   its messages, as the parts have them
+--     counts-taken, sends-taken, receipts-taken    the parts, taken from a start to an end
 -- Assumes nothing.
 use mathlib.Core.List.{List}
-use mathlib.Core.Path.{_≡_, refl, sym, ap, _∙_, subst, subst⁻¹}
+use mathlib.Core.Path.{_≡_, sym, ap, ap₂}
 use Prim.Native.Nat.{ℕ, _+_, _-_, _*_, _<_, _≤_}
 use native.Mathlib.Omega.{arith}
 use lib.ListN.{length, take, drop}
 use Rattle.run_table.proofs.AcceptLaws.{accepted}
-use Rattle.run_table.proofs.FormatLaws.{decode-count, decode-message, decode-messages, decode-processes}
-use Rattle.run_table.specs.Checks.{Accepted, tableRefusal}
+use Rattle.run_table.proofs.FormatLaws.{counts-length, decode-count, decode-message, decode-messages, decode-processes, receipts-length, sends-length}
+use Rattle.run_table.specs.Checks.{GoodMessage, tableRefusal}
 use Rattle.run_table.specs.Format.{countAt, countsPart, decode, messageAt, messagesIn, processAt, processesIn, receiptsPart, sendsPart, tableLength}
-use Rattle.run_table.specs.Numbers.{u16At}
-use Rattle.run_table.specs.Table.{Message, countOf, messageOf}
-
--- N, M and the length of an accepted table.
-pub record Sizes (bytes : List ℕ) (n m : ℕ) : Type 0 where
-  pub some-process : 0 < n
-  pub few-processes : n ≤ 32
-  pub few-messages : m ≤ 4096
-  pub whole : length bytes ≡ 4 + 2 * n + 8 * m
+use Rattle.run_table.specs.Table.{Message, countOf, messageCount, messageOf, processCount}
 
 module _ (bytes : List ℕ) (none : tableRefusal bytes ≡ 0) where
-  pub long-enough : 4 ≤ length bytes
+  abbrev N : ℕ
+  N = processCount (decode bytes)
+
+  abbrev M : ℕ
+  M = messageCount (decode bytes)
+
+  pub whole : length bytes ≡ 4 + 2 * N + 8 * M
   unfolding tableLength
-  long-enough = omega (arith, accepted bytes none .whole)
+  whole = accepted bytes none .whole
 
-  module _ (n m : ℕ) (read-n : n ≡ u16At bytes 0) (read-m : m ≡ u16At bytes 2) where
-    processes-are : processesIn bytes ≡ n
-    unfolding processesIn
-    processes-are = sym read-n
+  pub long-enough : 4 ≤ length bytes
+  long-enough = omega (arith, whole)
 
-    messages-are : messagesIn bytes ≡ m
-    unfolding messagesIn
-    messages-are = sym read-m
+  pub processes-few : N ≤ 32
+  processes-few = accepted bytes none .limits .processes-limit
 
-    pub sizes : Sizes bytes n m
-    unfolding tableLength
-    sizes =
-        let a = accepted bytes none in
-        let n-is = decode-processes bytes ∙ processes-are in
-        let m-is = decode-messages bytes ∙ messages-are in
-        record {
-          some-process = omega (arith, a .well-formed .some-process, n-is);
-          few-processes = omega (arith, a .limits .processes-limit, n-is);
-          few-messages = omega (arith, a .limits .messages-limit, m-is);
-          whole = omega (arith, a .whole, n-is, m-is);
-        }
+  pub messages-few : M ≤ 4096
+  messages-few = accepted bytes none .limits .messages-limit
 
-    pub counts-are : take (4 + 2 * n - 4) (drop 4 bytes) ≡ countsPart bytes
-    unfolding countsPart
-    counts-are =
-        let size : 4 + 2 * n - 4 ≡ 2 * n = omega arith in
-        rw (size, processes-are)
+  -- ---- the parts
+  whole-length : length bytes ≡ tableLength (processesIn bytes) (messagesIn bytes)
+  unfolding tableLength
+  whole-length = omega (arith, whole, decode-processes bytes, decode-messages bytes)
 
-    pub sends-are : take (4 + 2 * n + 4 * m - (4 + 2 * n)) (drop (4 + 2 * n) bytes) ≡ sendsPart bytes
+  pub counts-size : length (countsPart bytes) ≡ 2 * N
+  counts-size = omega (arith, counts-length bytes whole-length, decode-processes bytes)
+
+  pub sends-size : length (sendsPart bytes) ≡ 4 * M
+  sends-size = omega (arith, sends-length bytes whole-length, decode-messages bytes)
+
+  pub receipts-size : length (receiptsPart bytes) ≡ 4 * M
+  receipts-size = omega (arith, receipts-length bytes whole-length, decode-messages bytes)
+
+  -- as the code takes them, where it has read n and m
+  pub counts-taken : (n : ℕ) → n ≡ N → take (4 + 2 * n - 4) (drop 4 bytes) ≡ countsPart bytes
+  unfolding countsPart
+  counts-taken n e =
+      let size : 4 + 2 * n - 4 ≡ 2 * processesIn bytes = omega (arith, decode-processes bytes) in
+      rw size
+
+  module _ (n m : ℕ) (read-n : n ≡ N) (read-m : m ≡ M) where
+    pub sends-taken : take (4 + 2 * n + 4 * m - (4 + 2 * n)) (drop (4 + 2 * n) bytes) ≡ sendsPart bytes
     unfolding sendsPart
-    sends-are =
-        let size : 4 + 2 * n + 4 * m - (4 + 2 * n) ≡ 4 * m = omega arith in
-        rw (size, processes-are, messages-are)
+    sends-taken =
+        let size : 4 + 2 * n + 4 * m - (4 + 2 * n) ≡ 4 * messagesIn bytes = omega (arith, decode-messages bytes) in
+        let place : 4 + 2 * n ≡ 4 + 2 * processesIn bytes = omega (arith, decode-processes bytes) in
+        ap₂ (λ (x y : ℕ). take x (drop y bytes)) size place
 
-    pub receipts-are : take (length bytes - (4 + 2 * n + 4 * m)) (drop (4 + 2 * n + 4 * m) bytes) ≡ receiptsPart bytes
+    pub receipts-taken : take (length bytes - (4 + 2 * n + 4 * m)) (drop (4 + 2 * n + 4 * m) bytes) ≡ receiptsPart bytes
     unfolding receiptsPart
-    receipts-are =
-        let size : length bytes - (4 + 2 * n + 4 * m) ≡ 4 * m = omega (arith, sizes .whole) in
-        rw (size, processes-are, messages-are)
+    receipts-taken =
+        let size : length bytes - (4 + 2 * n + 4 * m) ≡ 4 * messagesIn bytes = omega (arith, whole, decode-messages bytes) in
+        let place : 4 + 2 * n + 4 * m ≡ 4 + 2 * processesIn bytes + 4 * messagesIn bytes = omega (arith, decode-processes bytes, decode-messages bytes) in
+        ap₂ (λ (x y : ℕ). take x (drop y bytes)) size place
 
-    module _ (p : ℕ) (l : p < n) where
-      count-is : countOf (decode bytes) p ≡ countAt (countsPart bytes) p
-      count-is = decode-count bytes p (subst⁻¹ (λ (x : ℕ). p < x) processes-are l)
+  -- ---- their entries
+  module _ (p : ℕ) (l : p < N) where
+    pub count-is : countAt (countsPart bytes) p ≡ countOf (decode bytes) p
+    count-is = sym (decode-count bytes p (omega (arith, decode-processes bytes)))
 
-      pub counts-positive : 0 < countAt (countsPart bytes) p
-      counts-positive = subst (λ (x : ℕ). 0 < x) count-is (accepted bytes none .well-formed .some-checkpoint p (omega (arith, decode-processes bytes, processes-are)))
+    pub counts-positive : 0 < countAt (countsPart bytes) p
+    counts-positive = omega (arith, count-is, accepted bytes none .well-formed .some-checkpoint p l)
 
-      pub counts-small : countAt (countsPart bytes) p ≤ 4096
-      counts-small = subst (λ (x : ℕ). x ≤ 4096) count-is (accepted bytes none .limits .counts-limit p (omega (arith, decode-processes bytes, processes-are)))
+    pub counts-small : countAt (countsPart bytes) p ≤ 4096
+    counts-small = omega (arith, count-is, accepted bytes none .limits .counts-limit p l)
 
-    module _ (k : ℕ) (l : k < m) where
-      message-is : messageOf (decode bytes) k ≡ messageAt (sendsPart bytes) (receiptsPart bytes) k
-      message-is = decode-message bytes k (subst⁻¹ (λ (x : ℕ). k < x) messages-are l)
+  module _ (k : ℕ) (l : k < M) where
+    pub message-is : messageAt (sendsPart bytes) (receiptsPart bytes) k ≡ messageOf (decode bytes) k
+    message-is = sym (decode-message bytes k (omega (arith, decode-messages bytes)))
 
-      pub senders-known : processAt (sendsPart bytes) k < n
-      unfolding messageAt
-      senders-known =
-          let good = accepted bytes none .well-formed .good-messages k (omega (arith, decode-messages bytes, messages-are)) in
-          omega (arith, good .sender-known, ap (λ (x : Message). x .sender) message-is, decode-processes bytes, processes-are)
+    pub message-good : GoodMessage (decode bytes) (messageOf (decode bytes) k)
+    message-good = accepted bytes none .well-formed .good-messages k l
 
-      pub receivers-known : processAt (receiptsPart bytes) k < n
-      unfolding messageAt
-      receivers-known =
-          let good = accepted bytes none .well-formed .good-messages k (omega (arith, decode-messages bytes, messages-are)) in
-          omega (arith, good .receiver-known, ap (λ (x : Message). x .receiver) message-is, decode-processes bytes, processes-are)
+    pub senders-known : processAt (sendsPart bytes) k < N
+    unfolding messageAt
+    senders-known = omega (arith, message-good .sender-known, ap (λ (x : Message). x .sender) message-is)
+
+    pub receivers-known : processAt (receiptsPart bytes) k < N
+    unfolding messageAt
+    receivers-known = omega (arith, message-good .receiver-known, ap (λ (x : Message). x .receiver) message-is)

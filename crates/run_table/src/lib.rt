@@ -3,6 +3,7 @@
 pub mod checks;
 pub mod lookups;
 pub mod numbers;
+pub mod parts;
 
 use lookups::Field;
 ghost use mathlib.Core.Path.{_≡_};

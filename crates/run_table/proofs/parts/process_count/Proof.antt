@@ -1,0 +1,23 @@
+-- `parts::process_count` meets its contract: an accepted table has N at its place.
+-- Assumes nothing.
+use borrow.Author.Needs.{needs}
+use native.Mathlib.Omega.{arith}
+use mathlib.Core.Path.{sym, _∙_}
+use Rattle.run_table.proofs.FormatLaws.{decode-processes}
+use Rattle.run_table.proofs.ReadLaws.{long-enough}
+use Rattle.run_table.specs.Format.{processesIn}
+use Rattle.run_table.proofs.parts.process_count.Statement.{statement}
+use Rattle.run_table.proofs.parts.process_count.Tie as tie
+
+u16-at-requires : tie.Need-u16-at-requires
+u16-at-requires c κs = omega (arith, long-enough _ (c .before .pre))
+
+cast-result : tie.Need-cast-result
+cast-result c = search needs
+
+returns : tie.Need-returns
+unfolding processesIn
+returns c = c .u16-at .ensures ∙ sym (decode-processes _)
+
+pub process-count-spec : {M : Type 1} → statement M
+process-count-spec = tie.close (tie.spec u16-at-requires cast-result returns)

@@ -1,0 +1,51 @@
+// The sizes and the parts of an accepted table. Counts, sends and receipts are lent on as parts of the
+// table's slice that start in its middle.
+use crate::numbers::u16_at;
+ghost use mathlib.Core.Path.{_≡_};
+ghost use Rattle.run_table.specs.Checks.{tableRefusal};
+ghost use Rattle.run_table.specs.Format.{countsPart, decode, receiptsPart, sendsPart};
+ghost use Rattle.run_table.specs.Table.{messageCount, processCount};
+
+// N.
+pub fn process_count(table: &[u8]) -> usize
+    requires { ⌜ tableRefusal (now table) ≡ 0 ⌝ }
+    ensures { λ r. ⌜ r ≡ processCount (decode (now (table .entry))) ⌝ }
+{
+    u16_at(table, 0) as usize
+}
+
+// M.
+pub fn message_count(table: &[u8]) -> usize
+    requires { ⌜ tableRefusal (now table) ≡ 0 ⌝ }
+    ensures { λ r. ⌜ r ≡ messageCount (decode (now (table .entry))) ⌝ }
+{
+    u16_at(table, 2) as usize
+}
+
+// The counts.
+pub fn counts(table: &[u8]) -> &[u8]
+    requires { ⌜ tableRefusal (now table) ≡ 0 ⌝ }
+    ensures { λ r. ⌜ now r ≡ countsPart (now (table .entry)) ⌝ }
+{
+    let end = 4 + 2 * process_count(table);
+    &table[4..end]
+}
+
+// The sends.
+pub fn sends(table: &[u8]) -> &[u8]
+    requires { ⌜ tableRefusal (now table) ≡ 0 ⌝ }
+    ensures { λ r. ⌜ now r ≡ sendsPart (now (table .entry)) ⌝ }
+{
+    let start = 4 + 2 * process_count(table);
+    let end = start + 4 * message_count(table);
+    &table[start..end]
+}
+
+// The receipts.
+pub fn receipts(table: &[u8]) -> &[u8]
+    requires { ⌜ tableRefusal (now table) ≡ 0 ⌝ }
+    ensures { λ r. ⌜ now r ≡ receiptsPart (now (table .entry)) ⌝ }
+{
+    let start = 4 + 2 * process_count(table) + 4 * message_count(table);
+    &table[start..]
+}
