@@ -25,17 +25,10 @@ use lib.Seq.{ext-getD, getD-set-same, getD-set-other}
 use Rattle.consistency.proofs.LineLaws.{latest-from, latest-unique, orphan-free, zero-consistent}
 use Rattle.consistency.specs.Lines.{AtOrBelow, Consistent, Latest, Line, Orphan, at}
 use Rattle.consistency.specs.Lowering.{isOrphan, lineUnder, lower, pass, passes, sum}
+use Rattle.run_table.proofs.NumberLaws.{and-left, and-right}
 use Rattle.run_table.specs.Table.{Message, noMessage}
 
 -- ---- the test of an orphan
-and-left : (a b : Bool) → (a && b) ≡ true → a ≡ true
-and-left true b e = refl
-and-left false b e = e
-
-and-right : (a b : Bool) → (a && b) ≡ true → b ≡ true
-and-right true b e = e
-and-right false b e = absurd (false≢true e)
-
 pub orphan-is : (m : Message) (l : List ℕ) → isOrphan m l ≡ true → Orphan m (at l)
 unfolding isOrphan
 orphan-is m l e =

@@ -1,5 +1,6 @@
 -- A line as an array of 32 numbers.
 --     array-at, array-length     its entries are those of the line
+--     array-numbers              its first numbers are the line
 --     array-line                 the line under an array is the array of the line
 --     height-in, height-beyond   how high a process may stand, entry by entry
 --     messages-found, line-found the messages and the line of a set in an accepted table
@@ -14,7 +15,7 @@ use native.Mathlib.Omega.{arith}
 use borrow.Author.Tests.{le-ltb, lt-ltb}
 use lib.Dec.{ltb}
 use lib.ListN.{length, getD, List·getD-eq-default}
-use Rattle.consistency.proofs.CeilingLaws.{all-zero, ceiling-at, ceiling-length}
+use Rattle.consistency.proofs.CeilingLaws.{all-zero, ceiling-at, ceiling-length, set-length}
 use Rattle.consistency.proofs.LineLaws.{latest-same}
 use Rattle.consistency.proofs.LoweringLaws.{line-is, line-latest, line-length}
 use Rattle.consistency.specs.Ceilings.{ceilingOf, lineOf}
@@ -23,7 +24,7 @@ use Rattle.consistency.specs.Lowering.{lineUnder}
 use Rattle.lines.specs.Arrays.{arrayOf, heightAt, messagesOf}
 use Rattle.process_set.specs.Sets.{member}
 use Rattle.run_table.proofs.FormatLaws.{count-beyond, decode-messages}
-use Rattle.run_table.proofs.NumberLaws.{getD-tabulate, length-tabulate, tabulate-ext}
+use Rattle.run_table.proofs.NumberLaws.{getD-tabulate, length-tabulate, tabulate-ext, tabulate-getD}
 use Rattle.run_table.proofs.ReadLaws.{count-is, counts-positive, counts-size, processes-few, receipts-size, receivers-known, senders-known, sends-size}
 use Rattle.run_table.specs.Checks.{tableRefusal}
 use Rattle.run_table.specs.Format.{countAt, countsPart, decode, messageAt, processAt, receiptsPart, sendsPart}
@@ -44,6 +45,12 @@ module _ (l : List ℕ) where
       go (no b) =
           List·getD-eq-default (tabulate 32 (λ q. getD l q 0)) 0 (subst⁻¹ (λ (x : ℕ). x ≤ p) (length-tabulate 32 (λ q. getD l q 0)) (omega arith))
           ∙ sym (List·getD-eq-default l 0 (omega arith))
+
+-- the first numbers of the array are the line
+pub array-numbers : (l line : List ℕ) (n : ℕ) → line ≡ arrayOf l → n ≡ length l → length l ≤ 32 → tabulate n (λ p. getD line p 0) ≡ l
+array-numbers l line n e same small =
+    ap₂ (λ (x : List ℕ) (k : ℕ). tabulate k (λ p. getD x p 0)) e same
+    ∙ tabulate-ext (length l) (λ p. getD (arrayOf l) p 0) (λ p. getD l p 0) (λ p _. array-at l small p) ∙ tabulate-getD l 0
 
 pub array-line : (ms : List Message) (c : List ℕ) → length c ≤ 32 → lineUnder ms (arrayOf c) ≡ arrayOf (lineUnder ms c)
 array-line ms c small =
@@ -115,3 +122,10 @@ module _ (bytes : List ℕ) (none : tableRefusal bytes ≡ 0) (set : ℕ) where
 
     pub line-read : lineUnder (messagesOf m sends receipts) (tabulate 32 (heightAt n set counts)) ≡ arrayOf (lineOf (decode bytes) (member set))
     line-read = rw (read-n, read-m, read-c, read-s, read-r) line-found
+
+-- the numbers that the code writes of the line of a set
+pub line-numbers : (bytes : List ℕ) (none : tableRefusal bytes ≡ 0) (set n : ℕ) (line : List ℕ) → n ≡ processCount (decode bytes)
+    → line ≡ arrayOf (lineOf (decode bytes) (member set)) → tabulate n (λ p. getD line p 0) ≡ lineOf (decode bytes) (member set)
+line-numbers bytes none set n line same e =
+    let size = set-length (decode bytes) (member set) in
+    array-numbers (lineOf (decode bytes) (member set)) line n e (same ∙ sym size) (subst⁻¹ (λ (x : ℕ). x ≤ 32) size (processes-few bytes none))

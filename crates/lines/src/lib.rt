@@ -1,15 +1,20 @@
 // Lines of a run table: the ceiling of a process set, and the latest consistent line under a ceiling.
 // A line is an array of 32 numbers by value; its entries at N and above are 0.
+pub mod answers;
 pub mod ceilings;
 pub mod lowering;
 
 use run_table::parts;
 ghost use mathlib.Core.Path.{_≡_};
+ghost use Prim.Native.Nat.{_*_, _≤_};
+ghost use lib.ListN.{length};
 ghost use Rattle.consistency.specs.Ceilings.{lineOf};
 ghost use Rattle.lines.specs.Arrays.{arrayOf};
 ghost use Rattle.process_set.specs.Sets.{member};
 ghost use Rattle.run_table.specs.Checks.{tableRefusal};
 ghost use Rattle.run_table.specs.Format.{decode};
+ghost use Rattle.run_table.specs.Numbers.{putAt, u16s};
+ghost use Rattle.run_table.specs.Table.{processCount};
 
 // The line of a set in an accepted table.
 pub fn line_of_set(table: &[u8], set: u32) -> [u16; 32]
@@ -20,4 +25,15 @@ pub fn line_of_set(table: &[u8], set: u32) -> [u16; 32]
     let m = parts::message_count(table);
     let ceiling = ceilings::ceiling(parts::counts(table), n, set);
     lowering::lower(ceiling, parts::sends(table), parts::receipts(table), m)
+}
+
+// Writes the line of a set in an accepted table to the front of a buffer that has room for it.
+pub fn put_line_of_set(table: &[u8], set: u32, answer: &mut [u8])
+    requires { ⌜ tableRefusal (now table) ≡ 0 ⌝ }
+    requires { ⌜ 2 * processCount (decode (now table)) ≤ length (now answer) ⌝ }
+    ensures { λ _. ⌜ now (answer .exit) ≡ putAt (now (answer .entry)) 0 (u16s (lineOf (decode (now (table .entry))) (member set))) ⌝ }
+{
+    let n = parts::process_count(table);
+    let line = line_of_set(table, set);
+    answers::put_line(line, n, answer);
 }

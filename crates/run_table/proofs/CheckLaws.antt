@@ -1,17 +1,18 @@
 -- Laws of the checks.
 --     passed, stopped, clear      the first check of a list that catches
+--     append-stopped, append-passed    further checks behind a list
 --     parts-refusal               checks 5 to 9 on the parts of a table are the document's, on the decoded table
 -- Assumes nothing.
-use mathlib.Core.Bool.{Bool, true, false, cond, not, _||_}
-use mathlib.Core.List.{List, [], _∷_}
+use mathlib.Core.Bool.{Bool, true, false, cond, not, _&&_, _||_, false≢true}
+use mathlib.Core.List.{List, [], _∷_, _++_}
 use mathlib.Core.Path.{_≡_, refl, sym, ap, _∙_}
-use Prim.Native.Nat.{ℕ, _+_, _-_, _*_, _<_, _≤_}
+use Prim.Native.Nat.{ℕ, suc, _+_, _-_, _*_, _<_, _≤_}
 use native.Mathlib.Omega.{arith}
-use borrow.Author.Tests.{leb-false, lt-ltb, le-ltb, eq-eqb, ne-eqb}
-use lib.Dec.{leb}
+use borrow.Author.Tests.{leb-false, lt-ltb, ltb-true, le-ltb, eq-eqb, ne-eqb}
+use lib.Dec.{leb, ltb}
 use lib.ListN.{length, take, drop}
 use Rattle.run_table.proofs.FormatLaws.{decode-count, decode-processes}
-use Rattle.run_table.proofs.NumberLaws.{any-tabulate, anyBelow-ext, anyBelow-or, none-below, or-false-left, or-false-right}
+use Rattle.run_table.proofs.NumberLaws.{and-left, and-right, any-tabulate, anyBelow-ext, anyBelow-or, none-below, or-false-left, or-false-right}
 use Rattle.run_table.specs.Checks.{Check, badCount, badLength, badProcessCount, badReceipt, badSend, firstCaught, outside, tableChecks, tableRefusal, toItself, tooManyMessages, tooShort, unknownProcess}
 use Rattle.run_table.specs.Format.{checkpointAt, countAt, countsPart, decode, messageAt, messagesIn, processAt, processesIn, receiptsPart, sendsPart, tableLength}
 use Rattle.run_table.specs.Numbers.{any, u16At}
@@ -30,6 +31,41 @@ stopped c rest e = rw e
 pub clear : firstCaught [] ≡ 0
 unfolding firstCaught
 clear = refl
+
+-- further checks behind a list: they matter where the list catches nothing, if each of its numbers is a refusal's
+pub append-stopped : (xs ys : List Check) (n : ℕ) → firstCaught xs ≡ suc n → firstCaught (xs ++ ys) ≡ suc n
+unfolding firstCaught
+append-stopped [] ys n e = absurd (omega arith)
+append-stopped (c ∷ rest) ys n e = go (c .caught) e (append-stopped rest ys n)
+  where
+    go : (b : Bool) → cond b (c .number) (firstCaught rest) ≡ suc n → (firstCaught rest ≡ suc n → firstCaught (rest ++ ys) ≡ suc n)
+        → cond b (c .number) (firstCaught (rest ++ ys)) ≡ suc n
+    go true e later = e
+    go false e later = later e
+
+unfoldable pub areRefusals : List Check → Bool
+areRefusals [] = true
+areRefusals (c ∷ rest) = ltb 0 (c .number) && areRefusals rest
+
+pub append-passed : (xs ys : List Check) → areRefusals xs ≡ true → firstCaught xs ≡ 0 → firstCaught (xs ++ ys) ≡ firstCaught ys
+unfolding firstCaught areRefusals
+append-passed [] ys p e = refl
+append-passed (c ∷ rest) ys p e =
+    go (c .caught) e (append-passed rest ys (and-right (ltb 0 (c .number)) (areRefusals rest) p))
+  where
+    positive : 0 < c .number
+    positive = ltb-true 0 (c .number) (and-left (ltb 0 (c .number)) (areRefusals rest) p)
+
+    go : (b : Bool) → cond b (c .number) (firstCaught rest) ≡ 0 → (firstCaught rest ≡ 0 → firstCaught (rest ++ ys) ≡ firstCaught ys)
+        → cond b (c .number) (firstCaught (rest ++ ys)) ≡ firstCaught ys
+    go true e later =
+        let z : c .number ≡ 0 = e in
+        absurd (omega (arith, positive))
+    go false e later = later e
+
+pub table-refusals : (bytes : List ℕ) → areRefusals (tableChecks bytes) ≡ true
+unfolding areRefusals tableChecks
+table-refusals bytes = refl
 
 -- two lists that begin with one test and agree once it catches nothing
 same-check : (a b : Bool) (n : ℕ) (rest rest′ : List Check) → a ≡ b → (b ≡ false → firstCaught rest ≡ firstCaught rest′)

@@ -6,6 +6,7 @@
 --     AcceptLaws    an accepted table's facts
 --     ReadLaws      what the code knows of an accepted table once it has read N and M
 --     ScanLaws      what the loops of the checks find
+--     WriteLaws     numbers that a loop writes, one after another
 pub mod AcceptLaws
 pub mod CheckLaws
 pub mod CodingLaws
@@ -13,3 +14,4 @@ pub mod FormatLaws
 pub mod NumberLaws
 pub mod ReadLaws
 mod ScanLaws
+pub mod WriteLaws

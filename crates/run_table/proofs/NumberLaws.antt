@@ -10,7 +10,7 @@
 --     anyBelow-more, anyBelow-found, none-below          `anyBelow`, as a loop finds it
 --     any-tabulate, anyBelow-ext, anyBelow-or  one test in the other's terms
 -- Assumes nothing.
-use mathlib.Core.Bool.{Bool, true, false, _||_, or-true, true≢false, false≢true}
+use mathlib.Core.Bool.{Bool, true, false, _&&_, _||_, or-true, true≢false, false≢true}
 use mathlib.Core.List.{List, [], _∷_, _++_, append-assoc}
 use mathlib.Core.Logic.{⊎-elim}
 use mathlib.Core.Path.{_≡_, refl, sym, ap, _∙_, subst}
@@ -122,6 +122,14 @@ u16At-u16s (n ∷ rest) more (suc k) h b =
     let here : ℕ → ℕ = u16At (u16s (n ∷ rest) ++ more) in
     let place : 2 * suc k ≡ 2 + 2 * k = omega arith in
     ap here place ∙ sym (u16At-drop 2 (u16s (n ∷ rest) ++ more) (2 * k)) ∙ u16At-u16s rest more k (le-of-suc-le-suc h) b
+
+pub and-left : (a b : Bool) → (a && b) ≡ true → a ≡ true
+and-left true b e = refl
+and-left false b e = e
+
+pub and-right : (a b : Bool) → (a && b) ≡ true → b ≡ true
+and-right true b e = e
+and-right false b e = absurd (false≢true e)
 
 pub or-false-left : (a b : Bool) → (a || b) ≡ false → a ≡ false
 or-false-left true b e = e
