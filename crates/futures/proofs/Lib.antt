@@ -1,0 +1,1 @@
+-- The laws of steps, futures and the sheet.

@@ -1,0 +1,57 @@
+-- The keep sheet (document 01, "The keep sheet"): retained checkpoints and message logs, from the lines of single holders.
+-- Assumes nothing.
+use mathlib.Core.Bool.{Bool, cond, _&&_, _||_}
+use mathlib.Core.List.{List, [], _∷_, _++_, map}
+use Prim.Native.Nat.{ℕ, zero, suc}
+use lib.Dec.{eqb, ltb}
+use lib.ListN.{length}
+use Rattle.consistency.specs.Ceilings.{lineOf, single}
+use Rattle.consistency.specs.Lines.{at}
+use Rattle.run_table.specs.Numbers.{u16s}
+use Rattle.run_table.specs.Parts.{anyBelow}
+use Rattle.run_table.specs.Table.{Message, Table, countOf, messageCount, messageOf, processCount}
+
+-- The line whose holding set is process k alone.
+unfoldable pub holderLine : Table → ℕ → List ℕ
+holderLine t k = lineOf t (single k)
+
+-- Checkpoint c of process i is kept when c is below the count of i and some single holder's line has c at i.
+unfoldable pub keepsCheckpoint : Table → ℕ → ℕ → Bool
+keepsCheckpoint t i c = ltb c (countOf t i) && anyBelow (processCount t) (λ k. eqb (at (holderLine t k) i) c)
+
+-- A message crosses a line: y < L of its sender, and L of its receiver < r.
+unfoldable pub crosses : List ℕ → Message → Bool
+crosses l m = ltb (m .sent) (at l (m .sender)) && ltb (at l (m .receiver)) (m .received)
+
+-- A message is kept when it is undelivered, or when it crosses some single holder's line.
+unfoldable pub keepsMessage : Table → Message → Bool
+keepsMessage t m = eqb (m .received) 0 || anyBelow (processCount t) (λ k. crosses (holderLine t k) m)
+
+-- The numbers below n that pass a test, rising.
+unfoldable pub select : (ℕ → Bool) → ℕ → List ℕ
+select test zero = []
+select test (suc n) = select test n ++ cond (test n) (n ∷ []) []
+
+-- Lists for the numbers below n, one after another.
+unfoldable pub rows : {A : Type 0} → (ℕ → List A) → ℕ → List A
+rows f zero = []
+rows f (suc n) = rows f n ++ f n
+
+-- A checkpoint of a process.
+pub record Kept : Type 0 where
+  pub process : ℕ
+  pub state : ℕ
+
+-- The kept checkpoints, by process and then state.
+unfoldable pub keptCheckpoints : Table → List Kept
+keptCheckpoints t = rows (λ i. map (λ c. record { process = i; state = c }) (select (keepsCheckpoint t i) (countOf t i))) (processCount t)
+
+-- The positions of the kept messages, rising.
+unfoldable pub keptMessages : Table → List ℕ
+keptMessages t = select (λ k. keepsMessage t (messageOf t k)) (messageCount t)
+
+-- The bytes of the sheet: K and Q; the two parallel arrays of K, process and state; the Q positions.
+unfoldable pub sheet : Table → List ℕ
+sheet t =
+    u16s (length (keptCheckpoints t) ∷ length (keptMessages t)
+    ∷ (map (λ k. k .process) (keptCheckpoints t) ++ (map (λ k. k .state) (keptCheckpoints t) ++ keptMessages t)))

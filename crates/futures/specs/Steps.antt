@@ -1,0 +1,105 @@
+-- Send, checkpoint (01: save) and rollback (01: fall back) on tables. The same steps serve the calls and the futures. They are
+-- total: a step that is caught gives the table back. Numbers have no upper bound. Assumes nothing.
+use mathlib.Core.Bool.{Bool, cond, false, not, _&&_, _||_}
+use mathlib.Core.List.{List, [], _∷_, _++_, map}
+use Prim.Native.Nat.{ℕ, _+_, _-_}
+use lib.Dec.{eqb, leb, ltb}
+use lib.ListN.{set}
+use Rattle.consistency.specs.Ceilings.{recoveryLine}
+use Rattle.consistency.specs.Lines.{at}
+use Rattle.run_table.specs.Checks.{Check, firstCaught}
+use Rattle.run_table.specs.Numbers.{any, tabulate}
+use Rattle.run_table.specs.Table.{Message, Table, countOf, messageCount, messageOf, processCount}
+
+-- A step: a send from one process to another, a checkpoint of a process after receiving the messages at a list of positions,
+-- or a rollback of the whole run to its recovery line.
+pub data Step : Type 0 where
+  send : ℕ → ℕ → Step
+  checkpoint : ℕ → List ℕ → Step
+  rollback : Step
+
+-- ---- send
+-- 10. A process named is N or above. 11. A send names one process twice.
+unfoldable pub sendChecks : Table → ℕ → ℕ → List Check
+sendChecks t j i =
+    record { caught = leb (processCount t) j || leb (processCount t) i; number = 10 }
+    ∷ record { caught = eqb j i; number = 11 }
+    ∷ []
+
+-- An entry (j, count of j − 1), (i, 0) is added at the end of both arrays.
+unfoldable pub afterSend : Table → ℕ → ℕ → Table
+afterSend t j i = record {
+  counts = t .counts;
+  messages = t .messages ++ (record { sender = j; sent = countOf t j - 1; receiver = i; received = 0 } ∷ []);
+}
+
+-- ---- checkpoint
+-- A message waits for a process: it goes there and is undelivered.
+unfoldable pub waitsFor : ℕ → Message → Bool
+waitsFor i m = eqb (m .receiver) i && eqb (m .received) 0
+
+-- A position of M or above, or of a message that does not wait for the process.
+unfoldable pub badPosition : Table → ℕ → ℕ → Bool
+badPosition t i k = leb (messageCount t) k || not (waitsFor i (messageOf t k))
+
+-- A position that is not above the one before it.
+unfoldable pub follows : ℕ → List ℕ → Bool
+follows k [] = false
+follows k (next ∷ rest) = leb next k || follows next rest
+
+unfoldable pub notRising : List ℕ → Bool
+notRising [] = false
+notRising (k ∷ rest) = follows k rest
+
+-- 10. The process is N or above. 13. The list has a position of M or above, or not above the one before it, or of a message not
+-- waiting for that process.
+unfoldable pub checkpointChecks : Table → ℕ → List ℕ → List Check
+checkpointChecks t i list =
+    record { caught = leb (processCount t) i; number = 10 }
+    ∷ record { caught = any (badPosition t i) list || notRising list; number = 13 }
+    ∷ []
+
+-- A message after the checkpoint: the receipt number of a listed one becomes the old count of the process.
+unfoldable pub receivedAt : Table → ℕ → List ℕ → ℕ → Message
+receivedAt t i list k =
+    let m = messageOf t k in
+    cond (any (eqb k) list) (record { sender = m .sender; sent = m .sent; receiver = m .receiver; received = countOf t i }) m
+
+-- The listed messages are received, and the count grows by one.
+unfoldable pub afterCheckpoint : Table → ℕ → List ℕ → Table
+afterCheckpoint t i list = record {
+  counts = set (t .counts) i (countOf t i + 1);
+  messages = tabulate (messageCount t) (receivedAt t i list);
+}
+
+-- ---- rollback
+-- A message stays where it was sent before the line.
+unfoldable pub stays : List ℕ → Message → Bool
+stays l m = ltb (m .sent) (at l (m .sender))
+
+-- One that was received after the line is undelivered again.
+unfoldable pub putBack : List ℕ → Message → Message
+putBack l m =
+    cond (ltb (at l (m .receiver)) (m .received)) (record { sender = m .sender; sent = m .sent; receiver = m .receiver; received = 0 }) m
+
+-- The messages that stay, in order.
+unfoldable pub remaining : List ℕ → List Message → List Message
+remaining l [] = []
+remaining l (m ∷ rest) = cond (stays l m) (putBack l m ∷ remaining l rest) (remaining l rest)
+
+-- With L the recovery line, each count becomes L + 1, and the messages that stay remain.
+unfoldable pub afterRollback : Table → Table
+afterRollback t = record {
+  counts = map (λ c. c + 1) (recoveryLine t);
+  messages = remaining (recoveryLine t) (t .messages);
+}
+
+-- ---- a step
+-- A step that is caught leaves the table as it is.
+unfoldable pub unlessCaught : List Check → Table → Table → Table
+unlessCaught checks after before = cond (eqb (firstCaught checks) 0) after before
+
+unfoldable pub step : Table → Step → Table
+step t (send j i) = unlessCaught (sendChecks t j i) (afterSend t j i) t
+step t (checkpoint i list) = unlessCaught (checkpointChecks t i list) (afterCheckpoint t i list) t
+step t rollback = afterRollback t

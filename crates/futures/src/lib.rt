@@ -1,0 +1,1 @@
+// Steps, futures and what they need: definitions and laws, and no code.
