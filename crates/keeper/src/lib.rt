@@ -55,11 +55,11 @@ pub extern "C" fn keeper_line_of_set(table: &[u8], set: u32, answer: &mut [u8], 
     if process_set::has_high_bit(set, n) {
         return 12;
     }
-    let size = 2 * n;
-    if answer.len() < size {
+    let length = 2 * n;
+    if answer.len() < length {
         return 16;
     }
     lines::put_line_of_set(table, set, answer);
-    *written = size;
+    *written = length;
     0
 }

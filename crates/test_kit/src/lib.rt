@@ -9,6 +9,7 @@ use script::size;
 use script::small;
 use script::starts;
 ghost use mathlib.Core.Path.{_≡_};
+ghost use Prim.Native.Nat.{_<_};
 ghost use lib.ListN.{length};
 
 // Writes a byte.
@@ -79,6 +80,81 @@ pub fn length_of(buffer: &[u8]) -> usize {
     4 + 2 * (u16_or_zero(buffer, 0) as usize) + 8 * (u16_or_zero(buffer, 2) as usize)
 }
 
+// Writes a domino of two processes and m messages: each one, once its receiver is put back, makes the
+// one before it an orphan. In the order of sending, or in the other one.
+pub fn domino(buffer: &mut [u8], m: u16, backward: bool)
+    ensures { λ _. ⌜ length (now (buffer .exit)) ≡ length (now (buffer .entry)) ⌝ }
+{
+    sizes(buffer, 2, m, m / 2 + 1);
+    count(buffer, 1, m / 2);
+    let mut k: u16 = 0;
+    while k < m {
+        let place = domino_place(m, k, backward);
+        message(buffer, place, k % 2, k / 2, 1 - k % 2, (k + 1) / 2);
+        k += 1;
+    }
+}
+
+// Where message k of a domino stands.
+fn domino_place(m: u16, k: u16, backward: bool) -> u16
+    requires { ⌜ k < m ⌝ }
+{
+    if backward {
+        return m - 1 - k;
+    }
+    k
+}
+
+// Fills a buffer with one byte.
+pub fn fill(buffer: &mut [u8], value: u8)
+    ensures { λ _. ⌜ length (now (buffer .exit)) ≡ length (now (buffer .entry)) ⌝ }
+{
+    let mut i = 0;
+    while i < buffer.len() {
+        buffer[i] = value;
+        i += 1;
+    }
+}
+
+// Whether every byte from one place to another has a value.
+pub fn all_are(buffer: &[u8], from: usize, to: usize, value: u8) -> bool {
+    let mut i = from;
+    while i < to {
+        if i < buffer.len() {
+            if buffer[i] != value {
+                return false;
+            }
+        }
+        i += 1;
+    }
+    true
+}
+
+// Prints the 16-bit numbers of some bytes: each of them, or a checksum of more than 128 bytes.
+pub fn numbers(bytes: &[u8]) {
+    if 128 < bytes.len() {
+        word(b" sum");
+        value(checksum(bytes));
+        return;
+    }
+    let mut at = 0;
+    while at < bytes.len() {
+        value(u16_or_zero(bytes, at) as u64);
+        at += 2;
+    }
+}
+
+// A checksum of some bytes.
+fn checksum(bytes: &[u8]) -> u64 {
+    let mut sum: u64 = 0;
+    let mut i = 0;
+    while i < bytes.len() {
+        sum = (31 * sum + (bytes[i] as u64)) % 1000003;
+        i += 1;
+    }
+    sum
+}
+
 // Prints a word, with no space.
 pub fn word(text: &[u8]) {
     io::write_all(STDOUT_FILENO, text);
@@ -109,46 +185,55 @@ pub fn echo(text: &[u8], at: usize) {
 //     message K J Y I R    from checkpoint Y of J to checkpoint R of I
 //     all M J Y I R        the first M messages alike
 //     number AT VALUE      a number at a byte
+//     domino M, backward M a domino of M messages, in the order of sending or the other one
 // A line that says something else is left to the caller.
-pub fn build(buffer: &mut [u8], code: u16, numbers: &[u64; 16])
+pub fn build(buffer: &mut [u8], code: u16, list: &[u64; 16])
     ensures { λ _. ⌜ length (now (buffer .exit)) ≡ length (now (buffer .entry)) ⌝ }
 {
     if starts(code, b't', b'a') {
         sizes(
             buffer,
-            small(numbers, 0),
-            small(numbers, 1),
-            small(numbers, 2),
+            small(list, 0),
+            small(list, 1),
+            small(list, 2),
         );
         return;
     }
     if starts(code, b'c', b'o') {
-        count(buffer, small(numbers, 0), small(numbers, 1));
+        count(buffer, small(list, 0), small(list, 1));
         return;
     }
     if starts(code, b'm', b'e') {
         message(
             buffer,
-            small(numbers, 0),
-            small(numbers, 1),
-            small(numbers, 2),
-            small(numbers, 3),
-            small(numbers, 4),
+            small(list, 0),
+            small(list, 1),
+            small(list, 2),
+            small(list, 3),
+            small(list, 4),
         );
         return;
     }
     if starts(code, b'a', b'l') {
         messages(
             buffer,
-            small(numbers, 0),
-            small(numbers, 1),
-            small(numbers, 2),
-            small(numbers, 3),
-            small(numbers, 4),
+            small(list, 0),
+            small(list, 1),
+            small(list, 2),
+            small(list, 3),
+            small(list, 4),
         );
         return;
     }
     if starts(code, b'n', b'u') {
-        number(buffer, size(numbers, 0), small(numbers, 1));
+        number(buffer, size(list, 0), small(list, 1));
+        return;
+    }
+    if starts(code, b'd', b'o') {
+        domino(buffer, small(list, 0), false);
+        return;
+    }
+    if starts(code, b'b', b'a') {
+        domino(buffer, small(list, 0), true);
     }
 }

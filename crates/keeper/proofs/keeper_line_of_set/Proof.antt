@@ -51,8 +51,8 @@ returns-2 : tie.Need-returns-2
 unfolding lineOfSetAnswer areRefusals
 returns-2 c = (own-refused _ _ _ _ (accepted (c .before .before .before)) 11 _ _ (stopped _ _ (sym (high-bit (c .before)) ∙ c .if2 .taken)), (λ e. absurd (omega (arith, e))))
 
-mul-size : tie.Need-mul-size
-mul-size c = omega (arith, processes-few _ (accepted (c .before .before .before)), c .before .before .process-count .ensures)
+mul-length : tie.Need-mul-length
+mul-length c = omega (arith, processes-few _ (accepted (c .before .before .before)), c .before .before .process-count .ensures)
 
 returns-3 : tie.Need-returns-3
 unfolding lineOfSetAnswer areRefusals
@@ -84,7 +84,7 @@ keeper-line-of-set-spec =
     process-count-requires
     has-high-bit-requires
     returns-2
-    mul-size
+    mul-length
     returns-3
     put-line-of-set-requires
     same-length

@@ -1,0 +1,73 @@
+-- `domino` keeps the length: so does each of its writes.
+-- Assumes nothing.
+use borrow.Author.Needs.{needs}
+use mathlib.Core.Path.{_≡_}
+use Prim.Native.Nat.{_-_, _≤_, _<_}
+use lib.ListN.{length}
+use Rattle.test_kit.proofs.domino.Statement.{statement}
+use Rattle.test_kit.proofs.domino.Tie as tie
+
+abbrev Inv-loop : tie.InvT-loop
+Inv-loop buffer₀ m backward k₀ buffer k = (k ≤ m) × (length buffer ≡ length buffer₀)
+
+abbrev μ-loop : tie.MeasureT-loop
+μ-loop buffer₀ m backward k₀ buffer k = m - k
+
+add-sizes : tie.Need-add-sizes Inv-loop μ-loop
+add-sizes c = search needs
+
+sizes-requires : tie.Need-sizes-requires Inv-loop μ-loop
+sizes-requires c κs = search needs
+
+count-requires : tie.Need-count-requires Inv-loop μ-loop
+count-requires c κs = search needs
+
+loop-holds : tie.Need-loop-holds Inv-loop μ-loop
+loop-holds c = search needs
+
+domino-place-requires : tie.Need-domino-place-requires Inv-loop μ-loop
+domino-place-requires c κs = search needs
+
+sub-message : tie.Need-sub-message Inv-loop μ-loop
+sub-message c = search needs
+
+add-message : tie.Need-add-message Inv-loop μ-loop
+add-message c = search needs
+
+message-requires : tie.Need-message-requires Inv-loop μ-loop
+message-requires c κs = search needs
+
+add-k : tie.Need-add-k Inv-loop μ-loop
+add-k c = search needs
+
+loop-less : tie.Need-loop-less Inv-loop μ-loop
+loop-less c = search needs
+
+loop-again : tie.Need-loop-again Inv-loop μ-loop
+loop-again c = search needs
+
+same-length : tie.Need-same-length Inv-loop μ-loop
+same-length c = search needs
+
+returns : tie.Need-returns Inv-loop μ-loop
+returns c = search needs
+
+pub domino-spec : {M : Type 1} → statement M
+domino-spec =
+    tie.close
+    (tie.spec
+    Inv-loop
+    μ-loop
+    add-sizes
+    sizes-requires
+    count-requires
+    loop-holds
+    domino-place-requires
+    sub-message
+    add-message
+    message-requires
+    add-k
+    loop-less
+    loop-again
+    same-length
+    returns)

@@ -1,0 +1,203 @@
+//! Futures: a search over all lists of steps up to a depth, for the states and
+//! messages of the first table that some list needs. Nothing here knows the
+//! keep sheet or its lines.
+
+use std::collections::{BTreeSet, HashSet};
+
+use crate::lines::line_of_run;
+use crate::steps::{do_fall_back, do_save, do_send};
+use crate::table::Table;
+
+/// A table that some list of steps reached, with what became of the states and
+/// messages of the first table.
+#[derive(Clone, PartialEq, Eq, Hash)]
+struct Reached {
+    table: Table,
+    /// For each process and each state of the first table: still there?
+    state_there: Vec<Vec<bool>>,
+    /// For each message of the first table: its position now, if still there.
+    message_at: Vec<Option<usize>>,
+}
+
+/// (process, state) pairs and message positions of the first table.
+pub type Needs = (BTreeSet<(usize, u32)>, BTreeSet<usize>);
+
+impl Reached {
+    /// "Let E be the table at the end (the accepted one, where the list is
+    /// empty)".
+    fn first(table: &Table) -> Reached {
+        Reached {
+            table: table.clone(),
+            state_there: table
+                .counts
+                .iter()
+                .map(|&count| vec![true; count as usize])
+                .collect(),
+            message_at: (0..table.messages.len()).map(Some).collect(),
+        }
+    }
+
+    fn after_send(&self, j: usize, i: usize) -> Reached {
+        let mut next = self.clone();
+        do_send(&mut next.table, j, i);
+        next
+    }
+
+    fn after_save(&self, i: usize, list: &[usize]) -> Reached {
+        let mut next = self.clone();
+        do_save(&mut next.table, i, list);
+        next
+    }
+
+    fn after_fall_back(&self) -> Reached {
+        let mut next = self.clone();
+        let rollback = do_fall_back(&mut next.table);
+        // "still there in E unless a fall back in the list went to a line
+        // below c at i."
+        for (i, states) in next.state_there.iter_mut().enumerate() {
+            for (c, there) in states.iter_mut().enumerate() {
+                if rollback.line[i] < c as u32 {
+                    *there = false;
+                }
+            }
+        }
+        // "still there, at whatever position, unless a fall back in the list
+        // removed it."
+        for at in &mut next.message_at {
+            *at = at.and_then(|position| rollback.moved_to[position]);
+        }
+        next
+    }
+
+    /// Every table one step further. "A send names any two processes, a save
+    /// any process and any list of positions." Steps that 10, 11 or 13 catch
+    /// leave the table as it is, so they lead nowhere new and are left out.
+    fn one_step_on(&self) -> Vec<Reached> {
+        let n = self.table.processes();
+        let mut all = vec![self.after_fall_back()];
+        for j in 0..n {
+            for i in (0..n).filter(|&i| i != j) {
+                all.push(self.after_send(j, i));
+            }
+        }
+        for i in 0..n {
+            let waiting = self.table.waiting_for(i);
+            for choice in 0u32..1 << waiting.len() {
+                let list: Vec<usize> = (0..waiting.len())
+                    .filter(|&at| (choice >> at) & 1 == 1)
+                    .map(|at| waiting[at])
+                    .collect();
+                all.push(self.after_save(i, &list));
+            }
+        }
+        all
+    }
+
+    /// Adds what this end needs.
+    fn add_needs(&self, needs: &mut Needs) {
+        let line = line_of_run(&self.table);
+        // "The future needs state c of i when it is still there and L of i is
+        // c."
+        for (i, states) in self.state_there.iter().enumerate() {
+            for (c, &there) in states.iter().enumerate() {
+                if there && line[i] == c as u32 {
+                    needs.0.insert((i, c as u32));
+                }
+            }
+        }
+        // "It needs a message when it is still there, as (j, y) to (i, r) in
+        // E, and y < L of j, and r is 0 or above L of i."
+        for (first_position, at) in self.message_at.iter().enumerate() {
+            if let Some(position) = *at {
+                let message = &self.table.messages[position];
+                if message.sent < line[message.sender]
+                    && (message.received == 0 || message.received > line[message.receiver])
+                {
+                    needs.1.insert(first_position);
+                }
+            }
+        }
+    }
+}
+
+/// The states and the messages of `table` that some future of at most `depth`
+/// steps needs. "A future is a finite list of sends, saves and fall backs".
+/// The search goes breadth first, so a table is first met with the most steps
+/// left and need not be followed again.
+pub fn needed_by_futures(table: &Table, depth: usize) -> Needs {
+    let mut needs = (BTreeSet::new(), BTreeSet::new());
+    let first = Reached::first(table);
+    let mut met = HashSet::from([first.clone()]);
+    let mut newest = vec![first];
+    for steps_left in (0..=depth).rev() {
+        let mut further = Vec::new();
+        for reached in &newest {
+            reached.add_needs(&mut needs);
+            if steps_left == 0 {
+                continue;
+            }
+            for next in reached.one_step_on() {
+                if met.insert(next.clone()) {
+                    further.push(next);
+                }
+            }
+        }
+        newest = further;
+    }
+    needs
+}
+
+#[cfg(test)]
+mod tests {
+    use super::*;
+    use crate::table::Message;
+
+    /// Example A of the scope document.
+    fn example_a() -> Table {
+        Table {
+            counts: vec![3, 3],
+            messages: vec![
+                Message::new((0, 0), (1, 2)),
+                Message::new((1, 0), (0, 1)),
+                Message::new((1, 1), (0, 2)),
+                Message::new((0, 2), (1, 2)),
+                Message::new((1, 2), (0, 0)),
+            ],
+        }
+    }
+
+    #[test]
+    fn a_fall_back_loses_what_lies_above_its_line() {
+        let after = Reached::first(&example_a()).after_fall_back();
+        // It went to line 1 1: the states at the line are still there.
+        assert_eq!(after.state_there, vec![vec![true, true, false]; 2]);
+        assert_eq!(after.message_at, [Some(0), Some(1), None, None, None]);
+        assert_eq!(after.table.counts, [2, 2]);
+    }
+
+    #[test]
+    fn a_number_used_again_names_another_state_and_message() {
+        let after = Reached::first(&example_a())
+            .after_fall_back()
+            .after_save(0, &[])
+            .after_save(1, &[0])
+            .after_send(1, 0);
+        assert_eq!(after.table.counts, [3, 3]);
+        assert_eq!(after.state_there, vec![vec![true, true, false]; 2]);
+        assert_eq!(after.message_at, [Some(0), Some(1), None, None, None]);
+        // The new states 2 are the recovery line, yet not the old states 2.
+        let mut needs = (BTreeSet::new(), BTreeSet::new());
+        after.add_needs(&mut needs);
+        assert_eq!(needs, (BTreeSet::new(), BTreeSet::new()));
+    }
+
+    #[test]
+    fn all_steps_are_tried() {
+        // One fall back, two sends, two saves by 0 (message 4 waits) and one
+        // save by 1.
+        let further = Reached::first(&example_a()).one_step_on();
+        assert_eq!(further.len(), 6);
+        let different: HashSet<Reached> = further.into_iter().collect();
+        assert_eq!(different.len(), 6);
+    }
+}

@@ -1,0 +1,688 @@
+//! Tables for tests: by chance, by pattern, damaged on purpose, and all of
+//! them up to a size. The same seed always gives the same table.
+
+use crate::steps::{do_fall_back, do_save, do_send};
+use crate::table::{
+    count, messages, processes, receiver, sender, Message, Table, MOST_MESSAGES, MOST_PROCESSES,
+    MOST_STATES,
+};
+
+// ---------------------------------------------------------------------------
+// Chance.
+
+/// A small generator of pseudo-random numbers (the splitmix64 recipe).
+#[derive(Clone, Debug)]
+pub struct Rng {
+    state: u64,
+}
+
+impl Rng {
+    /// A generator that depends on the seed alone.
+    pub fn new(seed: u64) -> Rng {
+        Rng { state: seed }
+    }
+
+    /// The next 64 bits.
+    pub fn next_bits(&mut self) -> u64 {
+        self.state = self.state.wrapping_add(0x9E37_79B9_7F4A_7C15);
+        let mut bits = self.state;
+        bits = (bits ^ (bits >> 30)).wrapping_mul(0xBF58_476D_1CE4_E5B9);
+        bits = (bits ^ (bits >> 27)).wrapping_mul(0x94D0_49BB_1331_11EB);
+        bits ^ (bits >> 31)
+    }
+
+    /// A number from `low` to `high`, both included.
+    pub fn between(&mut self, low: usize, high: usize) -> usize {
+        assert!(low <= high, "an empty range has no number");
+        let width = (high - low) as u64 + 1;
+        low + (self.next_bits() % width) as usize
+    }
+
+    /// True about `times` times out of `of`.
+    pub fn chance(&mut self, times: usize, of: usize) -> bool {
+        self.between(1, of) <= times
+    }
+
+    /// Puts a slice in a chance order.
+    pub fn shuffle<T>(&mut self, items: &mut [T]) {
+        for last in (1..items.len()).rev() {
+            let other = self.between(0, last);
+            items.swap(last, other);
+        }
+    }
+
+    /// Two different processes out of n; n is 2 or more.
+    fn two_processes(&mut self, n: usize) -> (usize, usize) {
+        let j = self.between(0, n - 1);
+        let i = (j + self.between(1, n - 1)) % n;
+        (j, i)
+    }
+}
+
+// ---------------------------------------------------------------------------
+// Accepted tables by chance.
+
+/// A history made by the steps alone, from processes with one state each. It
+/// ends soon after the m-th message, or after a bounded number of steps. Half
+/// of the histories fall back now and then. Follows "Send from j to i", "Save
+/// by i" and "Fall back" of the section on steps.
+pub fn history(rng: &mut Rng, n: usize, m: usize) -> Table {
+    let mut table = Table::start(n);
+    let most_steps = 4 * m + 3 * n;
+    let fall_backs = rng.chance(1, 2);
+    let send_share = rng.between(30, 80);
+    let take_share = rng.between(20, 100);
+    let mut steps_after = rng.between(0, 2 * n);
+    for _ in 0..most_steps {
+        if table.messages.len() == m {
+            if steps_after == 0 {
+                break;
+            }
+            steps_after -= 1;
+        }
+        if fall_backs && rng.chance(3, most_steps) {
+            do_fall_back(&mut table);
+        } else if n > 1 && table.messages.len() < m && rng.chance(send_share, 100) {
+            let (j, i) = rng.two_processes(n);
+            do_send(&mut table, j, i);
+        } else {
+            let i = rng.between(0, n - 1);
+            if table.counts[i] < MOST_STATES {
+                let mut list = table.waiting_for(i);
+                list.retain(|_| rng.chance(take_share, 100));
+                do_save(&mut table, i, &list);
+            }
+        }
+    }
+    table
+}
+
+/// Any accepted table with n processes, m messages (none for one process) and
+/// counts of at most `most`: "N is 1 to 32, M is 0 to 4,096, each count 1 to
+/// 4,096." It need not be a run that could have happened.
+pub fn arbitrary(rng: &mut Rng, n: usize, m: usize, most: u32) -> Table {
+    let counts: Vec<u32> = (0..n)
+        .map(|_| rng.between(1, most as usize) as u32)
+        .collect();
+    let mut table = Table {
+        counts,
+        messages: Vec::new(),
+    };
+    for _ in 0..if n > 1 { m } else { 0 } {
+        let (j, i) = rng.two_processes(n);
+        let sent = rng.between(0, table.counts[j] as usize - 1) as u32;
+        let received = rng.between(0, table.counts[i] as usize - 1) as u32;
+        table.messages.push(Message::new((j, sent), (i, received)));
+    }
+    table
+}
+
+/// An accepted table with traffic in clusters ("N is 1 to 32, M is 0 to 4,096,
+/// each count 1 to 4,096"): most messages stay within a small group of
+/// processes and are received near the time of their sending, few cross the
+/// groups. So single-holder lines differ from one group to the other.
+pub fn clustered(rng: &mut Rng, n: usize, m: usize) -> Table {
+    let group = rng.between(2, 5);
+    let share = m / n.max(1);
+    let most = (share + 4).clamp(2, MOST_STATES as usize);
+    let counts: Vec<u32> = (0..n)
+        .map(|_| rng.between(most.div_ceil(2), most) as u32)
+        .collect();
+    let mut table = Table {
+        counts,
+        messages: Vec::new(),
+    };
+    for _ in 0..if n > 1 { m } else { 0 } {
+        let (j, mut i) = rng.two_processes(n);
+        if rng.chance(19, 20) {
+            // Choose the receiver inside the group of the sender, if it can.
+            let first = j / group * group;
+            let size = group.min(n - first);
+            if size > 1 {
+                i = first + (j - first + rng.between(1, size - 1)) % size;
+            }
+        }
+        let sent = rng.between(0, table.counts[j] as usize - 1) as u32;
+        let near = sent + 2 - rng.between(0, 2) as u32;
+        let received = if rng.chance(1, 12) || near >= table.counts[i] {
+            0
+        } else {
+            near
+        };
+        table.messages.push(Message::new((j, sent), (i, received)));
+    }
+    table
+}
+
+// ---------------------------------------------------------------------------
+// Dominoes.
+
+/// The order in which the messages of a domino stand in the table.
+#[derive(Clone, Copy, Debug, PartialEq, Eq)]
+pub enum Order {
+    /// In the order of sending.
+    Time,
+    /// The latest sent message first.
+    Reverse,
+    /// By chance.
+    Shuffled,
+    /// All messages of one sender together, in the order of sending.
+    BySender,
+    /// First every second message, then the others.
+    EverySecond,
+}
+
+impl Order {
+    /// All the orders.
+    pub const ALL: [Order; 5] = [
+        Order::Time,
+        Order::Reverse,
+        Order::Shuffled,
+        Order::BySender,
+        Order::EverySecond,
+    ];
+
+    /// Puts messages that stand in the order of sending into this order.
+    fn arrange(self, rng: &mut Rng, messages: &mut [Message]) {
+        match self {
+            Order::Time => {}
+            Order::Reverse => messages.reverse(),
+            Order::Shuffled => rng.shuffle(messages),
+            Order::BySender => messages.sort_by_key(|message| message.sender),
+            Order::EverySecond => {
+                let old = messages.to_vec();
+                let even = old.iter().step_by(2);
+                let odd = old.iter().skip(1).step_by(2);
+                for (place, message) in messages.iter_mut().zip(even.chain(odd)) {
+                    *place = *message;
+                }
+            }
+        }
+    }
+}
+
+/// A domino around a ring of n processes (2 or more) with m messages: each
+/// message is an orphan as soon as the one after it in the chain has put its
+/// sender back. When m is a multiple of n, the recovery line is all zeros;
+/// otherwise the oldest messages are missing and the chain stops earlier.
+/// Made to strain "an orphan of a line puts its receiver back to r - 1; passes
+/// over the messages go on until a pass lowers nothing."
+pub fn ring_domino(rng: &mut Rng, n: usize, m: usize, order: Order) -> Table {
+    assert!(n >= 2, "a ring has two processes or more");
+    let rounds = m.div_ceil(n);
+    let mut messages = Vec::new();
+    for round in 1..=rounds as u32 {
+        for p in 1..n {
+            messages.push(Message::new((p, round - 1), ((p + 1) % n, round)));
+        }
+        messages.push(Message::new((0, round), (1, round)));
+    }
+    let mut messages = messages.split_off(messages.len() - m);
+    order.arrange(rng, &mut messages);
+    Table {
+        counts: vec![rounds as u32 + 1; n],
+        messages,
+    }
+}
+
+/// The domino of two processes with m messages, in the given order; see
+/// [`ring_domino`].
+pub fn domino_chain(rng: &mut Rng, m: usize, order: Order) -> Table {
+    ring_domino(rng, 2, m, order)
+}
+
+// ---------------------------------------------------------------------------
+// Tables at the limits.
+
+/// A table in which every single-holder line stands elsewhere at every later
+/// process, so that n x (n + 1) / 2 states are kept. `count` is above n.
+/// Follows "State c of process i is kept when some line whose holding set is a
+/// single process has c at i".
+pub fn staircase(n: usize, count: u32) -> Table {
+    assert!(count as usize > n, "the stairs need one state each");
+    let mut messages = Vec::new();
+    for j in 0..n {
+        for i in j + 1..n {
+            messages.push(Message::new((j, count - 1), (i, j as u32 + 1)));
+        }
+    }
+    Table {
+        counts: vec![count; n],
+        messages,
+    }
+}
+
+/// Tables with N = 32, M = 4,096 and all counts 4,096: "32,836 at most."
+pub fn limit_tables(rng: &mut Rng) -> Vec<Table> {
+    let n = MOST_PROCESSES;
+    let counts = vec![MOST_STATES; n];
+    let last = MOST_STATES as usize - 1;
+    let filled = |rng: &mut Rng, make: &dyn Fn(&mut Rng) -> (u32, u32)| {
+        let mut messages = Vec::new();
+        for _ in 0..MOST_MESSAGES {
+            let (j, i) = rng.two_processes(n);
+            let (sent, received) = make(rng);
+            messages.push(Message::new((j, sent), (i, received)));
+        }
+        Table {
+            counts: counts.clone(),
+            messages,
+        }
+    };
+    let mut tables = vec![
+        // All waiting: nothing falls, all 4,096 messages are kept.
+        filled(rng, &|rng| (rng.between(0, last) as u32, 0)),
+        // Anything.
+        filled(rng, &|rng| {
+            (rng.between(0, last) as u32, rng.between(0, last) as u32)
+        }),
+        // Sent early and received late: many messages cross.
+        filled(rng, &|rng| {
+            (
+                rng.between(0, 40) as u32,
+                rng.between(last - 40, last) as u32,
+            )
+        }),
+        // Sent at the very end, received at the very start.
+        filled(rng, &|_| (last as u32, 1)),
+        // Received soon after the sending.
+        filled(rng, &|rng| {
+            let sent = rng.between(0, last - 3) as u32;
+            (sent, sent + 1 + rng.between(0, 2) as u32)
+        }),
+    ];
+    // Ring dominoes pushed up to the last states, in every order.
+    for order in Order::ALL {
+        let mut ring = ring_domino(rng, n, MOST_MESSAGES, order);
+        let lift = MOST_STATES - ring.counts[0];
+        for message in &mut ring.messages {
+            message.sent += lift;
+            message.received += lift;
+        }
+        ring.counts = counts.clone();
+        tables.push(ring);
+    }
+    // The stairs, filled up with waiting messages.
+    let mut stairs = staircase(n, MOST_STATES);
+    while stairs.messages.len() < MOST_MESSAGES {
+        let (j, i) = rng.two_processes(n);
+        stairs.messages.push(Message::new((j, last as u32), (i, 0)));
+    }
+    tables.push(stairs);
+    tables
+}
+
+// ---------------------------------------------------------------------------
+// Damage. Each function takes an accepted table and yields bytes that meet its
+// refusal first, or `None` when the table has no message to damage.
+
+/// Writes a number into the bytes.
+fn set(bytes: &mut [u8], at: usize, number: usize) {
+    let number = u16::try_from(number).expect("16 bits");
+    bytes[at..at + 2].copy_from_slice(&number.to_le_bytes());
+}
+
+/// Where the send (process and then number) of message k stands, and where its
+/// receipt.
+fn entry_at(bytes: &[u8], k: usize) -> (usize, usize) {
+    let sends = 4 + 2 * usize::from(processes(bytes));
+    let receipts = sends + 4 * usize::from(messages(bytes));
+    (sends + 4 * k, receipts + 4 * k)
+}
+
+/// Any one message of the table.
+fn some_message(rng: &mut Rng, bytes: &[u8]) -> Option<usize> {
+    match usize::from(messages(bytes)) {
+        0 => None,
+        m => Some(rng.between(0, m - 1)),
+    }
+}
+
+/// A number at or above `least`: often just that, or the largest.
+fn at_least(rng: &mut Rng, least: usize) -> usize {
+    match rng.between(0, 3) {
+        0 => least,
+        1 => 0xFFFF,
+        2 => (least + rng.between(0, 3)).min(0xFFFF),
+        _ => rng.between(least, 0xFFFF),
+    }
+}
+
+/// Damage for "1. The table has fewer than 4 bytes."
+pub fn cut_into_header(rng: &mut Rng, bytes: &[u8]) -> Option<Vec<u8>> {
+    Some(bytes[..rng.between(0, 3)].to_vec())
+}
+
+/// Damage for "2. N is 0 or above 32."
+pub fn break_process_number(rng: &mut Rng, bytes: &[u8]) -> Option<Vec<u8>> {
+    let mut broken = bytes.to_vec();
+    let n = if rng.chance(1, 3) {
+        0
+    } else {
+        at_least(rng, 33)
+    };
+    set(&mut broken, 0, n);
+    Some(broken)
+}
+
+/// Damage for "3. M is above 4,096."
+pub fn break_message_number(rng: &mut Rng, bytes: &[u8]) -> Option<Vec<u8>> {
+    let mut broken = bytes.to_vec();
+    let m = at_least(rng, 4_097);
+    set(&mut broken, 2, m);
+    Some(broken)
+}
+
+/// Damage for "4. The length differs from 4 + 2N + 8M."
+pub fn break_length(rng: &mut Rng, bytes: &[u8]) -> Option<Vec<u8>> {
+    let mut broken = bytes.to_vec();
+    match rng.between(0, 4) {
+        0 => broken.push(0),
+        1 => {
+            for _ in 0..rng.between(1, 16) {
+                broken.push(rng.next_bits() as u8);
+            }
+        }
+        2 => broken.truncate(rng.between(4, bytes.len() - 1)),
+        3 => {
+            // Another M that is not too large.
+            let m = usize::from(messages(bytes));
+            let other = (m + rng.between(1, MOST_MESSAGES)) % (MOST_MESSAGES + 1);
+            set(&mut broken, 2, other);
+        }
+        _ => {
+            // Another N from 1 to 32.
+            let n = usize::from(processes(bytes));
+            let other = (n - 1 + rng.between(1, MOST_PROCESSES - 1)) % MOST_PROCESSES + 1;
+            set(&mut broken, 0, other);
+        }
+    }
+    Some(broken)
+}
+
+/// Damage for "5. A count is 0 or above 4,096."
+pub fn break_count(rng: &mut Rng, bytes: &[u8]) -> Option<Vec<u8>> {
+    let mut broken = bytes.to_vec();
+    let p = rng.between(0, usize::from(processes(bytes)) - 1);
+    let bad = if rng.chance(1, 3) {
+        0
+    } else {
+        at_least(rng, 4_097)
+    };
+    set(&mut broken, 4 + 2 * p, bad);
+    Some(broken)
+}
+
+/// Damage for "6. A sender or receiver is N or above."
+pub fn break_process_of_message(rng: &mut Rng, bytes: &[u8]) -> Option<Vec<u8>> {
+    let k = some_message(rng, bytes)?;
+    let mut broken = bytes.to_vec();
+    let (send, receipt) = entry_at(bytes, k);
+    let bad = at_least(rng, usize::from(processes(bytes)));
+    match rng.between(0, 2) {
+        0 => set(&mut broken, send, bad),
+        1 => set(&mut broken, receipt, bad),
+        _ => {
+            set(&mut broken, send, bad);
+            set(&mut broken, receipt, bad);
+        }
+    }
+    Some(broken)
+}
+
+/// Damage for "7. A message has the same sender and receiver."
+pub fn make_self_message(rng: &mut Rng, bytes: &[u8]) -> Option<Vec<u8>> {
+    let k = some_message(rng, bytes)?;
+    let mut broken = bytes.to_vec();
+    let (send, receipt) = entry_at(bytes, k);
+    if rng.chance(1, 2) {
+        set(&mut broken, receipt, usize::from(sender(bytes, k)));
+    } else {
+        set(&mut broken, send, usize::from(receiver(bytes, k)));
+    }
+    Some(broken)
+}
+
+/// Damage for "8. A send number is not below the sender's count."
+pub fn break_send_number(rng: &mut Rng, bytes: &[u8]) -> Option<Vec<u8>> {
+    let k = some_message(rng, bytes)?;
+    let mut broken = bytes.to_vec();
+    let limit = usize::from(count(bytes, usize::from(sender(bytes, k))));
+    let bad = at_least(rng, limit);
+    set(&mut broken, entry_at(bytes, k).0 + 2, bad);
+    Some(broken)
+}
+
+/// Damage for "9. A receipt number is not below the receiver's count."
+pub fn break_receipt_number(rng: &mut Rng, bytes: &[u8]) -> Option<Vec<u8>> {
+    let k = some_message(rng, bytes)?;
+    let mut broken = bytes.to_vec();
+    let limit = usize::from(count(bytes, usize::from(receiver(bytes, k))));
+    let bad = at_least(rng, limit);
+    set(&mut broken, entry_at(bytes, k).1 + 2, bad);
+    Some(broken)
+}
+
+/// Damage for the refusal of the given number, 1 to 9.
+pub fn damage(rng: &mut Rng, bytes: &[u8], refusal: u32) -> Option<Vec<u8>> {
+    match refusal {
+        1 => cut_into_header(rng, bytes),
+        2 => break_process_number(rng, bytes),
+        3 => break_message_number(rng, bytes),
+        4 => break_length(rng, bytes),
+        5 => break_count(rng, bytes),
+        6 => break_process_of_message(rng, bytes),
+        7 => make_self_message(rng, bytes),
+        8 => break_send_number(rng, bytes),
+        9 => break_receipt_number(rng, bytes),
+        _ => None,
+    }
+}
+
+/// Several damages in one table. The later checks are damaged first, so the
+/// smallest of the refusals is the one met: "A check covers the whole table or
+/// list before the next begins."
+pub fn damage_many(rng: &mut Rng, bytes: &[u8], refusals: &[u32]) -> Option<Vec<u8>> {
+    let mut sorted = refusals.to_vec();
+    sorted.sort_unstable();
+    let mut broken = bytes.to_vec();
+    for &refusal in sorted.iter().rev() {
+        broken = damage(rng, &broken, refusal)?;
+    }
+    Some(broken)
+}
+
+/// Bytes by chance, at most `longest` of them.
+pub fn random_bytes(rng: &mut Rng, longest: usize) -> Vec<u8> {
+    let length = rng.between(0, longest);
+    (0..length).map(|_| rng.next_bits() as u8).collect()
+}
+
+/// A table of the right length for n and m whose other numbers are small and
+/// by chance, so that the checks from 5 on are met in any mixture.
+pub fn random_body(rng: &mut Rng, n: usize, m: usize) -> Vec<u8> {
+    let mut bytes = vec![0; 4 + 2 * n + 8 * m];
+    set(&mut bytes, 0, n);
+    set(&mut bytes, 2, m);
+    let highest = rng.between(1, 5);
+    for at in (4..bytes.len()).step_by(2) {
+        // Counts are lifted, so that some tables get past the later checks.
+        let lift = if at < 4 + 2 * n { highest } else { 0 };
+        let number = rng.between(0, highest) + lift;
+        set(&mut bytes, at, number);
+    }
+    bytes
+}
+
+/// Every proper front part of the bytes, the longest first.
+pub fn truncations(bytes: &[u8]) -> impl Iterator<Item = Vec<u8>> + '_ {
+    (0..bytes.len())
+        .rev()
+        .map(|length| bytes[..length].to_vec())
+}
+
+// ---------------------------------------------------------------------------
+// All tables up to a size.
+
+/// Every accepted table with at most `processes` processes, at most `states`
+/// saved states each and at most `messages` messages.
+pub struct AllTables {
+    most_processes: usize,
+    most_states: u32,
+    most_messages: usize,
+    counts: Vec<u32>,
+    /// Every message the counts allow.
+    choices: Vec<Message>,
+    /// The messages of the next table, as indices of `choices`.
+    picks: Vec<usize>,
+    done: bool,
+}
+
+/// All accepted tables with N <= n, counts <= c and M <= m, each once: "N is 1
+/// to 32, M is 0 to 4,096, each count 1 to 4,096", and the checks 6 to 9.
+pub fn all_tables(n: usize, c: u32, m: usize) -> AllTables {
+    AllTables {
+        most_processes: n,
+        most_states: c,
+        most_messages: m,
+        counts: vec![1],
+        choices: Vec::new(),
+        picks: Vec::new(),
+        done: n == 0 || c == 0,
+    }
+}
+
+/// Every message that the checks 6 to 9 allow under these counts.
+fn all_messages(counts: &[u32]) -> Vec<Message> {
+    let mut all = Vec::new();
+    for j in 0..counts.len() {
+        for i in (0..counts.len()).filter(|&i| i != j) {
+            for sent in 0..counts[j] {
+                for received in 0..counts[i] {
+                    all.push(Message::new((j, sent), (i, received)));
+                }
+            }
+        }
+    }
+    all
+}
+
+impl AllTables {
+    /// Goes on to the next choice of messages, then to the next counts, then
+    /// to one process more.
+    fn go_on(&mut self) {
+        for pick in &mut self.picks {
+            *pick += 1;
+            if *pick < self.choices.len() {
+                return;
+            }
+            *pick = 0;
+        }
+        if self.picks.len() < self.most_messages && !self.choices.is_empty() {
+            self.picks.push(0);
+            return;
+        }
+        self.picks.clear();
+        let full = self.counts.iter().all(|&count| count == self.most_states);
+        if !full {
+            for count in &mut self.counts {
+                if *count < self.most_states {
+                    *count += 1;
+                    break;
+                }
+                *count = 1;
+            }
+        } else if self.counts.len() < self.most_processes {
+            self.counts = vec![1; self.counts.len() + 1];
+        } else {
+            self.done = true;
+        }
+        self.choices = all_messages(&self.counts);
+    }
+}
+
+impl Iterator for AllTables {
+    type Item = Table;
+
+    fn next(&mut self) -> Option<Table> {
+        if self.done {
+            return None;
+        }
+        let table = Table {
+            counts: self.counts.clone(),
+            messages: self.picks.iter().map(|&pick| self.choices[pick]).collect(),
+        };
+        self.go_on();
+        Some(table)
+    }
+}
+
+// ---------------------------------------------------------------------------
+// By name, for the program.
+
+/// The kinds that [`by_name`] knows, besides `damage-1` to `damage-9`.
+pub const KINDS: [&str; 17] = [
+    "history",
+    "arbitrary",
+    "clustered",
+    "domino-time",
+    "domino-reverse",
+    "domino-shuffled",
+    "domino-by-sender",
+    "domino-every-second",
+    "ring-time",
+    "ring-reverse",
+    "ring-shuffled",
+    "ring-by-sender",
+    "ring-every-second",
+    "staircase",
+    "limit",
+    "random-bytes",
+    "random-body",
+];
+
+/// The bytes of a table of the named kind. `domino-...` has two processes
+/// whatever n is; `staircase` and `limit` do not look at m; `limit` takes one
+/// of its tables by the seed; `damage-1` to `damage-9` spoil an arbitrary
+/// table. `None` for an unknown kind or for a size that the kind cannot have.
+pub fn by_name(kind: &str, seed: u64, n: usize, m: usize) -> Option<Vec<u8>> {
+    if n == 0 || n > MOST_PROCESSES || m > MOST_MESSAGES {
+        return None;
+    }
+    let rng = &mut Rng::new(seed);
+    let (family, order) = match kind.split_once('-') {
+        Some((family @ ("domino" | "ring"), order)) => (family, order),
+        _ => (kind, ""),
+    };
+    let order = match order {
+        "time" => Some(Order::Time),
+        "reverse" => Some(Order::Reverse),
+        "shuffled" => Some(Order::Shuffled),
+        "by-sender" => Some(Order::BySender),
+        "every-second" => Some(Order::EverySecond),
+        _ => None,
+    };
+    if let Some(refusal) = kind.strip_prefix("damage-") {
+        let whole = arbitrary(rng, n, m, 64).to_bytes();
+        return damage(rng, &whole, refusal.parse().ok()?);
+    }
+    let table = match family {
+        "history" => history(rng, n, m),
+        "arbitrary" => {
+            let most = [2, 8, 64, 512, MOST_STATES][rng.between(0, 4)];
+            arbitrary(rng, n, m, most)
+        }
+        "clustered" => clustered(rng, n, m),
+        "domino" => domino_chain(rng, m, order?),
+        "ring" if n >= 2 => ring_domino(rng, n, m, order?),
+        "staircase" => staircase(n, MOST_STATES),
+        "limit" => {
+            let mut tables = limit_tables(rng);
+            tables.swap_remove((seed % tables.len() as u64) as usize)
+        }
+        "random-bytes" => return Some(random_bytes(rng, 4 + 2 * n + 8 * m)),
+        "random-body" => return Some(random_body(rng, n, m)),
+        _ => return None,
+    };
+    Some(table.to_bytes())
+}

@@ -1,0 +1,69 @@
+//! A plain second implementation of the keeper: the run table, its recovery
+//! lines, the three steps, the keep sheet and the listing. It is written for
+//! comparison, so it prefers short and direct ways, and ways that do not
+//! resemble the lowering rule, over speed and small memory.
+//!
+//! Doc comments quote the sentence of the scope document that they follow.
+//!
+//! * `table`   - lookups in raw bytes, the checks 1 to 9, reading and writing
+//! * `lines`   - orphans, consistency and latest consistent lines
+//! * `steps`   - send, save and fall back
+//! * `sheet`   - the keep sheet
+//! * `futures` - a search over lists of steps for what they need
+//! * `listing` - the text of the listing program
+//! * `gen`     - tables made by chance, by pattern and by enumeration
+
+pub mod futures;
+pub mod gen;
+pub mod lines;
+pub mod listing;
+pub mod sheet;
+pub mod steps;
+pub mod table;
+
+pub use futures::needed_by_futures;
+pub use lines::{line_of_set, recovery_line};
+pub use listing::listing;
+pub use sheet::keep_sheet;
+pub use steps::{fall_back, save, send};
+pub use table::{
+    check_table, count, messages, processes, received, receiver, sender, sent, Message, Table,
+};
+
+/// What a call yields: the returned number, the bytes of the answer, and the
+/// numbers at the front of the scratch where the call writes them.
+#[derive(Clone, Debug, PartialEq, Eq)]
+pub struct Outcome {
+    /// Zero, or the number of the refusal.
+    pub number: u32,
+    /// The bytes of the answer. Its length is "the length written". Empty on
+    /// refusal, since then the answer buffer is left as it was.
+    pub answer: Vec<u8>,
+    /// The first N x N numbers of the scratch afterwards, or `None` when the
+    /// scratch is left as it was. Only the keep sheet writes it.
+    pub lines: Option<Vec<u16>>,
+}
+
+impl Outcome {
+    /// "A refusal writes nothing".
+    pub fn refused(number: u32) -> Outcome {
+        Outcome {
+            number,
+            answer: Vec::new(),
+            lines: None,
+        }
+    }
+
+    /// "Zero is success, with the length written", unless check 16 stops it:
+    /// "The answer buffer is shorter than the answer."
+    pub fn answered(answer: Vec<u8>, answer_len: usize) -> Outcome {
+        if answer_len < answer.len() {
+            return Outcome::refused(16);
+        }
+        Outcome {
+            number: 0,
+            answer,
+            lines: None,
+        }
+    }
+}

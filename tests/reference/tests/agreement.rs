@@ -1,0 +1,285 @@
+//! The ways to find a line agree, on all small tables and on chance ones, and
+//! the general claims about lines and steps hold.
+
+use reference::gen::*;
+use reference::lines::*;
+use reference::sheet::{kept, kept_under};
+use reference::steps::{do_fall_back, do_save, do_send};
+use reference::*;
+
+/// "an orphan of a line puts its receiver back to r - 1; passes over the
+/// messages go on until a pass lowers nothing."
+fn line_by_lowering(table: &Table, ceiling: &[u32]) -> Line {
+    let mut line = ceiling.to_vec();
+    loop {
+        let mut lowered = false;
+        for message in &table.messages {
+            if is_orphan(message, &line) {
+                line[message.receiver] = message.received - 1;
+                lowered = true;
+            }
+        }
+        if !lowered {
+            return line;
+        }
+    }
+}
+
+/// All sets of holders: work list, lowering and (if small) enumeration agree.
+fn lines_agree(table: &Table, enumerate: bool) {
+    let n = table.processes();
+    let index = SendIndex::new(table);
+    let sets: Vec<u32> = if n <= 4 {
+        (0..1 << n).collect()
+    } else {
+        (0..n)
+            .map(single_holder)
+            .chain([0, all_hold(n), all_hold(n - 1)])
+            .collect()
+    };
+    for set in sets {
+        let ceiling = ceiling(table, set);
+        let line = index.latest_under(&ceiling);
+        assert!(is_consistent(table, &line));
+        assert_eq!(line, line_by_work_list(table, &ceiling));
+        assert_eq!(line, line_by_lowering(table, &ceiling), "{table:?} {set}");
+        if enumerate {
+            assert_eq!(
+                line,
+                line_by_enumeration(table, &ceiling),
+                "{table:?} {set}"
+            );
+        }
+        if set == 0 {
+            // "The line of the empty set is the counts."
+            assert_eq!(line, table.counts);
+        }
+    }
+    // "The line of zeros is always consistent".
+    assert!(is_consistent(table, &vec![0; n]));
+}
+
+#[test]
+fn on_all_small_tables() {
+    for (n, c, m) in [
+        (2, 2, 4),
+        (2, 3, 3),
+        (2, 4, 2),
+        (3, 2, 2),
+        (3, 3, 1),
+        (4, 2, 1),
+    ] {
+        for table in all_tables(n, c, m) {
+            lines_agree(&table, true);
+        }
+    }
+}
+
+#[test]
+fn on_small_chance_tables() {
+    let mut rng = Rng::new(3);
+    for round in 0..6000 {
+        let n = rng.between(1, 4);
+        let m = rng.between(0, 12);
+        let table = match round % 3 {
+            0 => arbitrary(&mut rng, n, m, 5),
+            1 => clustered(&mut rng, n, m),
+            _ => history(&mut rng, n, m / 2),
+        };
+        let lines: u64 = table
+            .counts
+            .iter()
+            .map(|&count| u64::from(count) + 1)
+            .product();
+        lines_agree(&table, lines < 4000);
+    }
+}
+
+/// Every hold line of every small table, and the sheet made from enumerated
+/// lines.
+#[test]
+fn sheets_from_enumerated_lines() {
+    for table in all_tables(3, 2, 2).chain(all_tables(2, 3, 3)) {
+        let lines: Vec<Line> = (0..table.processes())
+            .map(|p| line_by_enumeration(&table, &ceiling(&table, single_holder(p))))
+            .collect();
+        assert_eq!(hold_lines(&table), lines);
+        assert_eq!(kept(&table), kept_under(&table, &lines));
+    }
+}
+
+#[test]
+fn on_large_tables() {
+    let mut rng = Rng::new(4);
+    for table in limit_tables(&mut rng) {
+        lines_agree(&table, false);
+    }
+    for round in 0..20 {
+        let n = rng.between(2, 32);
+        lines_agree(&history(&mut rng, n, 1500), false);
+        lines_agree(&clustered(&mut rng, n, 4096), false);
+        let most = [2, 30, 4096][round % 3];
+        lines_agree(&arbitrary(&mut rng, n, 4096, most), false);
+    }
+}
+
+#[test]
+fn dominoes_fall_to_zero() {
+    let mut rng = Rng::new(5);
+    for order in Order::ALL {
+        for m in [0, 2, 4, 10, 100, 1000] {
+            let table = domino_chain(&mut rng, m, order);
+            assert_eq!(table.messages.len(), m);
+            assert_eq!(line_of_run(&table), [0, 0]);
+            lines_agree(&table, m <= 10);
+        }
+        for n in 2..=32 {
+            for m in [n, 2 * n + 1, 5 * n] {
+                let table = ring_domino(&mut rng, n, m, order);
+                assert_eq!(table.messages.len(), m);
+                if m % n == 0 {
+                    assert_eq!(line_of_run(&table), vec![0; n]);
+                }
+                lines_agree(&table, n == 2);
+            }
+        }
+        // The full table: every message is an orphan in its turn.
+        let full = domino_chain(&mut rng, 4096, order);
+        assert_eq!(check_table(&full.to_bytes()), 0);
+        assert_eq!(line_of_run(&full), [0, 0]);
+        let full = ring_domino(&mut rng, 32, 4096, order);
+        assert_eq!(check_table(&full.to_bytes()), 0);
+        assert_eq!(line_of_run(&full), [0; 32]);
+    }
+}
+
+/// The ring domino in the order of time is what the steps make.
+#[test]
+fn a_domino_is_a_run() {
+    let mut rng = Rng::new(6);
+    for n in 2..=6 {
+        for rounds in 0..5 {
+            let mut table = Table::start(n);
+            for _ in 0..rounds {
+                for p in 1..n {
+                    do_send(&mut table, p, (p + 1) % n);
+                }
+                let list = table.waiting_for(0);
+                do_save(&mut table, 0, &list);
+                do_send(&mut table, 0, 1);
+                for p in 1..n {
+                    let list = table.waiting_for(p);
+                    do_save(&mut table, p, &list);
+                }
+            }
+            assert_eq!(table, ring_domino(&mut rng, n, n * rounds, Order::Time));
+        }
+    }
+}
+
+/// "of two consistent lines the place-by-place larger is consistent too".
+#[test]
+fn the_larger_of_two_consistent_lines() {
+    for table in all_tables(2, 3, 2) {
+        let mut consistent = Vec::new();
+        let top = table.counts.iter().copied().max().unwrap();
+        for a in 0..=top {
+            for b in 0..=top {
+                let line = vec![a, b][..table.processes()].to_vec();
+                if is_consistent(&table, &line) {
+                    consistent.push(line);
+                }
+            }
+        }
+        for one in &consistent {
+            for other in &consistent {
+                assert!(is_consistent(&table, &larger(one, other)));
+            }
+        }
+    }
+}
+
+/// The fall back, told from lookups in the bytes alone.
+#[test]
+fn fall_back_by_lookups() {
+    let mut rng = Rng::new(8);
+    for round in 0..2000 {
+        let n = rng.between(1, 8);
+        let m = rng.between(0, 40);
+        let table = if round % 2 == 0 {
+            history(&mut rng, n, m)
+        } else {
+            arbitrary(&mut rng, n, m, 9)
+        };
+        let before = table.to_bytes();
+        let outcome = fall_back(&before, before.len());
+        assert_eq!(outcome.number, 0, "a fall back never makes a table longer");
+        let after = outcome.answer;
+        assert_eq!(check_table(&after), 0);
+        let line: Vec<u16> = recovery_line(&before, 64)
+            .answer
+            .chunks_exact(2)
+            .map(|pair| u16::from_le_bytes([pair[0], pair[1]]))
+            .collect();
+        assert_eq!(usize::from(processes(&after)), n);
+        for (p, &at) in line.iter().enumerate() {
+            assert_eq!(count(&after, p), at + 1);
+        }
+        let mut k = 0;
+        for old in 0..usize::from(messages(&before)) {
+            if sent(&before, old) >= line[usize::from(sender(&before, old))] {
+                continue;
+            }
+            assert_eq!(sender(&after, k), sender(&before, old));
+            assert_eq!(sent(&after, k), sent(&before, old));
+            assert_eq!(receiver(&after, k), receiver(&before, old));
+            let r = received(&before, old);
+            let back = r > line[usize::from(receiver(&before, old))];
+            assert_eq!(received(&after, k), if back { 0 } else { r });
+            k += 1;
+        }
+        assert_eq!(usize::from(messages(&after)), k);
+        // The line stays where the run fell back to, and a second fall back
+        // changes no count.
+        assert_eq!(recovery_line(&after, 64), recovery_line(&before, 64));
+        let mut twice = Table::read(&after).unwrap();
+        do_fall_back(&mut twice);
+        assert_eq!(twice.counts, Table::read(&after).unwrap().counts);
+    }
+}
+
+/// The listing says the same as the calls.
+#[test]
+fn listing_by_calls() {
+    let mut rng = Rng::new(9);
+    let words = |bytes: &[u8]| -> Vec<String> {
+        bytes
+            .chunks_exact(2)
+            .map(|pair| u16::from_le_bytes([pair[0], pair[1]]).to_string())
+            .collect()
+    };
+    for _ in 0..300 {
+        let n = rng.between(1, 32);
+        let m = rng.between(0, 60);
+        let bytes = arbitrary(&mut rng, n, m, 12).to_bytes();
+        let mut text = format!(
+            "line {}\n",
+            words(&recovery_line(&bytes, 64).answer).join(" ")
+        );
+        for p in 0..n {
+            let line = words(&line_of_set(&bytes, 1 << p, 64).answer);
+            text += &format!("hold {p} {}\n", line.join(" "));
+        }
+        let sheet = words(&keep_sheet(&bytes, 1024, 20_000).answer);
+        let k: usize = sheet[0].parse().unwrap();
+        for at in 0..k {
+            text += &format!("checkpoint {} {}\n", sheet[2 + at], sheet[2 + k + at]);
+        }
+        for position in &sheet[2 + 2 * k..] {
+            text += &format!("message {position}\n");
+        }
+        let sum: usize = (0..n).map(|p| usize::from(count(&bytes, p))).sum();
+        text += &format!("share {}\n", 100 * k / sum);
+        assert_eq!(listing(&bytes), text);
+    }
+}

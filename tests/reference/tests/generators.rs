@@ -1,0 +1,197 @@
+//! The generators make what they promise.
+
+use std::collections::HashSet;
+
+use reference::gen::*;
+use reference::lines::line_of_run;
+use reference::sheet::kept;
+use reference::*;
+
+#[test]
+fn accepted_kinds_are_accepted() {
+    for seed in 0..30 {
+        for kind in KINDS {
+            for (n, m) in [(1, 0), (2, 0), (2, 1), (2, 9), (5, 40), (32, 300)] {
+                let Some(bytes) = by_name(kind, seed, n, m) else {
+                    assert!(kind.starts_with("ring") && n == 1);
+                    continue;
+                };
+                if !kind.starts_with("random") {
+                    assert_eq!(check_table(&bytes), 0, "{kind} {seed} {n} {m}");
+                }
+                assert_eq!(by_name(kind, seed, n, m), Some(bytes), "the same again");
+            }
+        }
+    }
+    assert_eq!(by_name("other", 0, 2, 2), None);
+    assert_eq!(by_name("history", 0, 33, 2), None);
+    assert_eq!(by_name("history", 0, 2, 4097), None);
+}
+
+#[test]
+fn sizes_are_as_asked() {
+    let mut rng = Rng::new(12);
+    for _ in 0..100 {
+        let n = rng.between(2, 32);
+        let m = rng.between(0, 200);
+        assert_eq!(arbitrary(&mut rng, n, m, 9).messages.len(), m);
+        assert_eq!(clustered(&mut rng, n, m).messages.len(), m);
+        assert!(history(&mut rng, n, m).messages.len() <= m);
+    }
+}
+
+/// Histories, clusters and arbitrary tables are not all of the easy kind, in
+/// which every line stays at its ceiling and only waiting messages are kept.
+#[test]
+fn chance_tables_are_not_trivial() {
+    let mut rng = Rng::new(17);
+    let makers: [fn(&mut Rng, usize, usize) -> Table; 3] =
+        [history, clustered, |rng, n, m| arbitrary(rng, n, m, 20)];
+    for make in makers {
+        let (mut lowered, mut apart, mut crossed) = (0, 0, 0);
+        for _ in 0..300 {
+            let n = rng.between(2, 8);
+            let m = rng.between(5, 80);
+            let table = make(&mut rng, n, m);
+            let line = line_of_run(&table);
+            let sheet = kept(&table);
+            if (0..n).any(|p| line[p] + 1 < table.counts[p]) {
+                lowered += 1;
+            }
+            if sheet.states.len() > n {
+                apart += 1;
+            }
+            if sheet.messages.iter().any(|&k| !table.messages[k].waiting()) {
+                crossed += 1;
+            }
+        }
+        for times in [lowered, apart, crossed] {
+            assert!(times > 60, "{lowered} {apart} {crossed}");
+        }
+    }
+}
+
+#[test]
+fn damage_meets_its_refusal() {
+    let mut rng = Rng::new(13);
+    let mut met = [0; 10];
+    for round in 0..3000 {
+        let n = rng.between(1, 32);
+        let m = rng.between(0, 20);
+        let bytes = if round % 2 == 0 {
+            arbitrary(&mut rng, n, m, 50).to_bytes()
+        } else {
+            history(&mut rng, n, m).to_bytes()
+        };
+        for refusal in 1..=9 {
+            match damage(&mut rng, &bytes, refusal) {
+                Some(broken) => {
+                    assert_eq!(check_table(&broken), refusal);
+                    met[refusal as usize] += 1;
+                }
+                None => assert!(refusal >= 6 && messages(&bytes) == 0),
+            }
+        }
+    }
+    assert!(met[1..].iter().all(|&times| times > 1000));
+}
+
+#[test]
+fn several_damages_meet_the_first_refusal() {
+    let mut rng = Rng::new(14);
+    for _ in 0..5000 {
+        let n = rng.between(2, 6);
+        let m = rng.between(1, 12);
+        let bytes = arbitrary(&mut rng, n, m, 6).to_bytes();
+        let refusals: Vec<u32> = (1..=9).filter(|_| rng.chance(1, 3)).collect();
+        let broken = damage_many(&mut rng, &bytes, &refusals).unwrap();
+        assert_eq!(check_table(&broken), refusals.first().copied().unwrap_or(0));
+    }
+}
+
+#[test]
+fn any_bytes_can_be_looked_up_and_refused() {
+    let mut rng = Rng::new(15);
+    let mut met = [0; 10];
+    for round in 0..4000 {
+        let bytes = if round % 4 == 0 {
+            random_bytes(&mut rng, 200)
+        } else {
+            let n = rng.between(1, 4);
+            let m = rng.between(0, 4);
+            random_body(&mut rng, n, m)
+        };
+        let number = check_table(&bytes);
+        met[number as usize] += 1;
+        for k in [0, 1, 2, 100, 65_534, 65_535, 65_536, usize::MAX] {
+            let fields = [
+                sender(&bytes, k),
+                sent(&bytes, k),
+                receiver(&bytes, k),
+                received(&bytes, k),
+            ];
+            if k >= usize::from(messages(&bytes)) {
+                assert_eq!(fields, [0; 4]);
+            }
+            if k >= usize::from(processes(&bytes)) {
+                assert_eq!(count(&bytes, k), 0);
+            }
+        }
+        assert_eq!(recovery_line(&bytes, 64).number, number);
+        assert_eq!(keep_sheet(&bytes, 1024, 20_000).number, number);
+        assert_eq!(
+            listing(&bytes) == format!("refused {number}\n"),
+            number != 0
+        );
+    }
+    for number in [0, 6, 7, 8, 9] {
+        assert!(met[number] > 20, "{met:?}");
+    }
+}
+
+#[test]
+fn truncations_are_refused() {
+    let mut rng = Rng::new(16);
+    let bytes = arbitrary(&mut rng, 3, 4, 5).to_bytes();
+    let mut times = 0;
+    for cut in truncations(&bytes) {
+        assert_eq!(check_table(&cut), if cut.len() < 4 { 1 } else { 4 });
+        times += 1;
+    }
+    assert_eq!(times, bytes.len());
+}
+
+#[test]
+fn all_tables_are_all() {
+    // One process: two counts. Two processes: 7 + 21 + 21 + 73.
+    let all: Vec<Table> = all_tables(2, 2, 2).collect();
+    assert_eq!(all.len(), 2 + 7 + 21 + 21 + 73);
+    let different: HashSet<&Table> = all.iter().collect();
+    assert_eq!(different.len(), all.len());
+    for table in &all {
+        assert_eq!(check_table(&table.to_bytes()), 0);
+    }
+    // The same number by trying all numbers of two processes, one message.
+    let mut tried = 0;
+    for mask in 0..4u16.pow(6) {
+        let digit = |at: u32| mask / 4u16.pow(at) % 4;
+        let numbers = [
+            2,
+            1,
+            digit(0),
+            digit(1),
+            digit(2),
+            digit(3),
+            digit(4),
+            digit(5),
+        ];
+        let bytes: Vec<u8> = numbers.iter().flat_map(|x| x.to_le_bytes()).collect();
+        if check_table(&bytes) == 0 {
+            tried += 1;
+        }
+    }
+    let made = all_tables(2, 3, 1)
+        .filter(|table| table.processes() == 2 && table.messages.len() == 1)
+        .count();
+    assert_eq!(made, tried);
+}
