@@ -143,7 +143,7 @@ module _ (t : Table) (holds : Holders) (p : ℕ) where
       by-place (yes e) ih =
           let before : reached n ≡ countOf t p = ih ∙ ap (λ (b : Bool). wanted (holds p && b)) (le-ltb p n (omega arith)) ∙ ap wanted (and-false (holds p)) in
           let after : wanted (holds p && ltb p (suc n)) ≡ wanted (holds p) =
-              ap (λ (b : Bool). wanted (holds p && b)) (lt-ltb p (suc n) (omega arith)) ∙ ap wanted (and-true (holds p))
+          ap (λ (b : Bool). wanted (holds p && b)) (lt-ltb p (suc n) (omega arith)) ∙ ap wanted (and-true (holds p))
           in
           here-lower (holds n) (at (ceilingOf t (single n)) p) (reached n) (countOf t p)
           (single-at t n p ∙ ap wanted (eq-eqb p n e)) before ∙ ap (λ (q : ℕ). wanted (holds q)) (sym e) ∙ sym after

@@ -42,8 +42,11 @@ orphan-is m l e =
 pub orphan-test : (m : Message) (l : List ℕ) → Orphan m (at l) → isOrphan m l ≡ true
 unfolding isOrphan
 orphan-test m l o =
-    rw (lt-ltb 0 (m .received) (o .delivered), le-leb (at l (m .sender)) (m .sent) (o .sent-after),
-    le-leb (m .received) (at l (m .receiver)) (o .received-before))
+    rw (
+      lt-ltb 0 (m .received) (o .delivered),
+      le-leb (at l (m .sender)) (m .sent) (o .sent-after),
+      le-leb (m .received) (at l (m .receiver)) (o .received-before),
+    )
 
 -- ---- sums
 pub sum-falls : (l : List ℕ) (i v : ℕ) → v < getD l i 0 → sum (set l i v) < sum l
@@ -221,7 +224,6 @@ module _ (ms : List Message) (ceiling : List ℕ) where
   -- a line of the ceiling's length that is the latest one is the computed one
   pub line-is : (l : List ℕ) → length l ≡ length ceiling → Latest ms (at ceiling) (at l) → l ≡ lineUnder ms ceiling
   line-is l e a = ext-getD 0 l (lineUnder ms ceiling) (e ∙ sym line-length) (λ p _. latest-unique ms (at ceiling) (at l) (at (lineUnder ms ceiling)) a line-latest p)
-
 
 -- any start between the line and its ceiling ends at the same line
 pub line-from : (ms : List Message) (ceiling start : List ℕ) → length start ≡ length ceiling → AtOrBelow (at (lineUnder ms ceiling)) (at start)

@@ -52,8 +52,8 @@ module _ (table : List ℕ) (none : tableRefusal table ≡ 0) where
     numbers-read =
         ext-getD 0 _ (lineOf t holds) (length-tabulate (processCount t) _ ∙ sym (set-length t holds))
         (λ p l.
-          let below : p < processCount t = subst (λ (x : ℕ). p < x) (length-tabulate (processCount t) _) l in
-          getD-tabulate (processCount t) _ p 0 below ∙ number-read p below)
+        let below : p < processCount t = subst (λ (x : ℕ). p < x) (length-tabulate (processCount t) _) l in
+        getD-tabulate (processCount t) _ p 0 below ∙ number-read p below)
 
     pub answer-latest : HoldsLatest table holds buffer′
     unfolding HoldsLatest

@@ -24,7 +24,7 @@ pub extern "C" fn keeper_check_table(table: &[u8]) -> u32
 #[no_mangle]
 pub extern "C" fn keeper_recovery_line(table: &[u8], answer: &mut [u8], written: &mut usize) -> u32
     ensures outcome { λ r. ⌜ Yields (recoveryLineAnswer (now (table .entry)) (length (now (answer .entry)))) r
-      (now (answer .entry)) (now (answer .exit)) (now (written .entry)) (now (written .exit)) ⌝ }
+        (now (answer .entry)) (now (answer .exit)) (now (written .entry)) (now (written .exit)) ⌝ }
     ensures latest { λ (r : ℕ). ⌜ (r ≡ 0 → HoldsLatest (now (table .entry)) (λ p. true) (now (answer .exit))) ⌝ }
 {
     let refusal = check(table);
@@ -42,9 +42,14 @@ pub extern "C" fn keeper_recovery_line(table: &[u8], answer: &mut [u8], written:
 
 // The line of a set of processes that hold: N numbers by process.
 #[no_mangle]
-pub extern "C" fn keeper_line_of_set(table: &[u8], set: u32, answer: &mut [u8], written: &mut usize) -> u32
+pub extern "C" fn keeper_line_of_set(
+    table: &[u8],
+    set: u32,
+    answer: &mut [u8],
+    written: &mut usize,
+) -> u32
     ensures outcome { λ r. ⌜ Yields (lineOfSetAnswer (now (table .entry)) set (length (now (answer .entry)))) r
-      (now (answer .entry)) (now (answer .exit)) (now (written .entry)) (now (written .exit)) ⌝ }
+        (now (answer .entry)) (now (answer .exit)) (now (written .entry)) (now (written .exit)) ⌝ }
     ensures latest { λ (r : ℕ). ⌜ (r ≡ 0 → HoldsLatest (now (table .entry)) (member set) (now (answer .exit))) ⌝ }
 {
     let refusal = check(table);

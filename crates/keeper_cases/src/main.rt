@@ -7,8 +7,18 @@
 //     # TEXT              printed as it stands
 // test_kit has the lines that build a table.
 use libc::STDIN_FILENO;
-use test_kit::script::{line_at, size, starts};
-use test_kit::{all_are, build, echo, end, fill, length_of, numbers, value, word};
+use test_kit::all_are;
+use test_kit::build;
+use test_kit::echo;
+use test_kit::end;
+use test_kit::fill;
+use test_kit::length_of;
+use test_kit::numbers;
+use test_kit::script::line_at;
+use test_kit::script::size;
+use test_kit::script::starts;
+use test_kit::value;
+use test_kit::word;
 ghost use Prim.Native.Nat.{_≤_};
 
 // The first bytes of a buffer, or all of a shorter one.
@@ -65,7 +75,12 @@ fn hold(table: &[u8], set: u32, space: &mut [u8], room: usize) {
         let end_at = 16 + room;
         if end_at <= space.len() {
             let mut written: usize = 777;
-            let number = keeper::keeper_line_of_set(table, set, &mut space[16..end_at], &mut written);
+            let number = keeper::keeper_line_of_set(
+                table,
+                set,
+                &mut space[16..end_at],
+                &mut written,
+            );
             left(number, written, space);
         }
     }

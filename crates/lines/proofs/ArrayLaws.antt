@@ -109,16 +109,20 @@ module _ (bytes : List ℕ) (none : tableRefusal bytes ≡ 0) (set : ℕ) where
 
   -- what the code must show of what it read, and what it has found
   module _ (n m : ℕ) (counts sends receipts : List ℕ) (read-n : n ≡ N) (read-m : m ≡ messageCount (decode bytes))
-    (read-c : counts ≡ countsPart bytes) (read-s : sends ≡ sendsPart bytes) (read-r : receipts ≡ receiptsPart bytes) where
+      (read-c : counts ≡ countsPart bytes) (read-s : sends ≡ sendsPart bytes) (read-r : receipts ≡ receiptsPart bytes) where
     pub ceiling-needs : (n ≤ 32) × ((length counts ≡ 2 * n) × ((p : ℕ) → p < n → 0 < countAt counts p))
     ceiling-needs = rw (read-n, read-c) (processes-few bytes none, (counts-size bytes none, counts-positive bytes none))
 
     pub lower-needs : (length sends ≡ 4 * m)
         × ((length receipts ≡ 4 * m) × (((k : ℕ) → k < m → processAt sends k < 32) × ((k : ℕ) → k < m → processAt receipts k < 32)))
     lower-needs =
-        rw (read-m, read-s, read-r)
-        (sends-size bytes none, (receipts-size bytes none,
-        ((λ k l. omega (arith, senders-known bytes none k l, processes-few bytes none)), (λ k l. omega (arith, receivers-known bytes none k l, processes-few bytes none)))))
+        rw (read-m, read-s, read-r) (
+          sends-size bytes none,
+          (
+            receipts-size bytes none,
+            ((λ k l. omega (arith, senders-known bytes none k l, processes-few bytes none)), (λ k l. omega (arith, receivers-known bytes none k l, processes-few bytes none))),
+          ),
+        )
 
     pub line-read : lineUnder (messagesOf m sends receipts) (tabulate 32 (heightAt n set counts)) ≡ arrayOf (lineOf (decode bytes) (member set))
     line-read = rw (read-n, read-m, read-c, read-s, read-r) line-found

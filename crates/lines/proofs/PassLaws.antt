@@ -92,7 +92,7 @@ module _ (ms : List Message) (m : ℕ) (start : List ℕ) where
 
 -- ---- the message that the code read
 module _ (m : ℕ) (sends receipts : List ℕ) (k j y i r : ℕ) (l : k < m)
-  (read-j : j ≡ u16At sends (4 * k)) (read-y : y ≡ u16At sends (4 * k + 2)) (read-i : i ≡ u16At receipts (4 * k)) (read-r : r ≡ u16At receipts (4 * k + 2)) where
+    (read-j : j ≡ u16At sends (4 * k)) (read-y : y ≡ u16At sends (4 * k + 2)) (read-i : i ≡ u16At receipts (4 * k)) (read-r : r ≡ u16At receipts (4 * k + 2)) where
   abbrev here : Message
   here = record { sender = j; sent = y; receiver = i; received = r }
 

@@ -89,8 +89,8 @@ module _ (buffer : List ℕ) (at : ℕ) where
       let whole : putAt buffer at xs ≡ P ++ D = sym (append-assoc (take at buffer) xs D) in
       let front : take (at + length xs) (P ++ D) ≡ P = take-at P D (at + length xs) seam in
       let back : drop (at + length xs + length ys) (P ++ D) ≡ drop (at + length (xs ++ ys)) buffer =
-          ap (λ (i : ℕ). drop (i + length ys) (P ++ D)) (sym seam) ∙ drop-append-add P D (length ys) ∙ drop-drop (length ys) (at + length xs) buffer
-          ∙ ap (λ (i : ℕ). drop i buffer) places
+      ap (λ (i : ℕ). drop (i + length ys) (P ++ D)) (sym seam) ∙ drop-append-add P D (length ys) ∙ drop-drop (length ys) (at + length xs) buffer
+      ∙ ap (λ (i : ℕ). drop i buffer) places
       in
       ap (λ (b : List ℕ). take (at + length xs) b ++ (ys ++ drop (at + length xs + length ys) b)) whole
       ∙ ap (λ (b : List ℕ). b ++ (ys ++ drop (at + length xs + length ys) (P ++ D))) front

@@ -191,12 +191,7 @@ pub fn build(buffer: &mut [u8], code: u16, list: &[u64; 16])
     ensures { λ _. ⌜ length (now (buffer .exit)) ≡ length (now (buffer .entry)) ⌝ }
 {
     if starts(code, b't', b'a') {
-        sizes(
-            buffer,
-            small(list, 0),
-            small(list, 1),
-            small(list, 2),
-        );
+        sizes(buffer, small(list, 0), small(list, 1), small(list, 2));
         return;
     }
     if starts(code, b'c', b'o') {

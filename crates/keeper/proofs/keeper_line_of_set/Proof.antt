@@ -57,9 +57,10 @@ mul-length c = omega (arith, processes-few _ (accepted (c .before .before .befor
 returns-3 : tie.Need-returns-3
 unfolding lineOfSetAnswer areRefusals
 returns-3 c =
-    let pass = c .before in
-    (room-refused _ _ _ _ (accepted (pass .before .before .before)) refl (passed _ _ _ (sym (high-bit (pass .before)) ∙ pass .if2 .left) clear) _ _ (omega (arith, c .if3 .taken, size (pass .before))),
-    (λ e. absurd (omega (arith, e))))
+    let pass = c .before in (
+      room-refused _ _ _ _ (accepted (pass .before .before .before)) refl (passed _ _ _ (sym (high-bit (pass .before)) ∙ pass .if2 .left) clear) _ _ (omega (arith, c .if3 .taken, size (pass .before))),
+      (λ e. absurd (omega (arith, e))),
+    )
 
 put-line-of-set-requires : tie.Need-put-line-of-set-requires
 put-line-of-set-requires c κs = search needs
@@ -70,10 +71,11 @@ same-length c = search needs
 returns-4 : tie.Need-returns-4
 unfolding lineOfSetAnswer areRefusals
 returns-4 c =
-    let pass = c .before .before .before .before .before in
-    (all-answered _ _ _ _ (accepted (pass .before .before .before)) refl (passed _ _ _ (sym (high-bit (pass .before)) ∙ pass .if2 .left) clear) _ _ _ _
-    (omega (arith, c .before .before .before .before .if3 .left, size (pass .before))) (c .before .before .put-line-of-set .ensures) (size (pass .before)),
-    (λ _. answer-latest _ (accepted (pass .before .before .before)) _ _ _ (c .before .before .put-line-of-set .ensures)))
+    let pass = c .before .before .before .before .before in (
+      all-answered _ _ _ _ (accepted (pass .before .before .before)) refl (passed _ _ _ (sym (high-bit (pass .before)) ∙ pass .if2 .left) clear) _ _ _ _
+          (omega (arith, c .before .before .before .before .if3 .left, size (pass .before))) (c .before .before .put-line-of-set .ensures) (size (pass .before)),
+      (λ _. answer-latest _ (accepted (pass .before .before .before)) _ _ _ (c .before .before .put-line-of-set .ensures)),
+    )
 
 pub keeper-line-of-set-spec : {M : Type 1} → statement M
 keeper-line-of-set-spec =

@@ -68,9 +68,10 @@ same-length c = search needs
 returns-3 : tie.Need-returns-3
 unfolding recoveryLineAnswer areRefusals
 returns-3 c =
-    let read = c .before .before .before .before .before in
-    (all-answered _ _ _ _ (accepted (read .before)) refl clear _ _ _ _ (omega (arith, c .before .before .before .before .if2 .left, size read)) (put c) (size read),
-    (λ _. answer-latest _ (accepted (read .before)) (λ p. true) _ _ (put-line c)))
+    let read = c .before .before .before .before .before in (
+      all-answered _ _ _ _ (accepted (read .before)) refl clear _ _ _ _ (omega (arith, c .before .before .before .before .if2 .left, size read)) (put c) (size read),
+      (λ _. answer-latest _ (accepted (read .before)) (λ p. true) _ _ (put-line c)),
+    )
 
 pub keeper-recovery-line-spec : {M : Type 1} → statement M
 keeper-recovery-line-spec =

@@ -1,0 +1,628 @@
+-- Laws of the steps: what each one does, that each leaves a well formed table well formed, and that none puts the recovery line back.
+--     withReceipt, newMessage                          a message with another receipt number; the one that a send adds
+--     send-processes .. send-message-new               the table after a send
+--     send-each                                        what holds of the old messages and of the new one holds of all
+--     send-free, send-quiet                            what it means that nothing catches a send
+--     Waiting, good-position, waiting-position         the positions that a checkpoint may list
+--     rising                                           the order of a list that is rising
+--     checkpoint-processes .. checkpoint-message       the table after a checkpoint
+--     receivedAt-listed .. receivedAt-receiver         its messages
+--     checkpoint-each                                  what holds of the listed ones, received, and of the old ones holds of all
+--     checkpoint-known .. checkpoint-quiet             what it means that nothing catches a checkpoint
+--     recovery-latest, recovery-length                 the recovery line
+--     putBack-after .. putBack-under, stays-sent       a message that is put back; one that stays
+--     rollback-processes .. rollback-fewer             the sizes and the counts after a rollback
+--     rollback-from, rollback-each                     each message comes from one that stays
+--     rollback-place, rollback-message, rollback-order    where one that stays goes, in order
+--     step-taken, step-caught                          a step that is caught leaves the table as it is
+--     send-well-formed .. step-well-formed             steps keep tables well formed
+--     send-limits, checkpoint-limits, rollback-limits  when they keep tables within the limits
+--     rollback-line                                    a rollback leaves the recovery line where it is
+--     line-never-back                                  no step puts it back
+-- Assumes nothing.
+use mathlib.Core.Bool.{Bool, true, false, cond, not, _&&_, _||_, false≢true}
+use mathlib.Core.List.{List, [], _∷_, _++_, map}
+use mathlib.Core.Logic.{_⊎_, inl, inr}
+use mathlib.Core.Path.{_≡_, refl, ap, _∙_, subst, subst⁻¹}
+use Prim.Native.Nat.{ℕ, zero, suc, _+_, _-_, _≤_, _<_}
+use native.Mathlib.Decide.{decLt, ℕ-discrete}
+use native.Mathlib.Nat.{le-of-suc-le-suc, not-suc-le-zero}
+use native.Mathlib.Omega.{arith}
+use borrow.Author.Tests.{eq-eqb, eqb-false, eqb-true, le-ltb, leb-false, lt-leb, lt-ltb, ltb-true, ne-eqb, not-false}
+use lib.Dec.{eqb, leb}
+use lib.ListN.{length, getD, take, drop, length-append, length-map, length-set, length-take, List·getD-append}
+use lib.Seq.{getD-append-seam, getD-set-other, getD-set-same, getD-take, split-at, take-take}
+use Rattle.consistency.proofs.CeilingLaws.{ceiling-at, set-latest, set-length}
+use Rattle.consistency.proofs.LineLaws.{latest-same}
+use Rattle.consistency.specs.Ceilings.{ceilingOf, lineOf, recoveryLine}
+use Rattle.consistency.specs.Lines.{AtOrBelow, Latest, Orphan, at}
+use Rattle.futures.specs.Steps.{Step, afterCheckpoint, afterRollback, afterSend, badPosition, checkpoint, checkpointChecks, follows, notRising, putBack, receivedAt, remaining, rollback, send, sendChecks, stays, step, unlessCaught, waitsFor}
+use Rattle.run_table.proofs.CheckLaws.{clear, passed}
+use Rattle.run_table.proofs.FormatLaws.{count-beyond, message-beyond}
+use Rattle.run_table.proofs.NumberLaws.{and-left, and-right, any-none, getD-tabulate, length-tabulate, or-false-left, or-false-right}
+use Rattle.run_table.specs.Checks.{Check, GoodMessage, Limits, WellFormed, firstCaught}
+use Rattle.run_table.specs.Numbers.{any}
+use Rattle.run_table.specs.Table.{Message, Table, countOf, messageCount, messageOf, noMessage, processCount}
+
+-- A message with another receipt number.
+abbrev pub withReceipt : Message → ℕ → Message
+withReceipt m n = record { sender = m .sender; sent = m .sent; receiver = m .receiver; received = n }
+
+-- The message that a send adds.
+abbrev pub newMessage : Table → ℕ → ℕ → Message
+newMessage t j i = record { sender = j; sent = countOf t j - 1; receiver = i; received = 0 }
+
+-- two checks that refuse nothing catch nothing
+neither-catches : (a b : Bool) (n m : ℕ) → 0 < n → 0 < m
+    → firstCaught (record { caught = a; number = n } ∷ record { caught = b; number = m } ∷ []) ≡ 0 → (a ≡ false) × (b ≡ false)
+unfolding firstCaught
+neither-catches true b n m hn hm e =
+    let z : n ≡ 0 = e in
+    absurd (omega arith)
+neither-catches false true n m hn hm e =
+    let z : m ≡ 0 = e in
+    absurd (omega arith)
+neither-catches false false n m hn hm e = (refl, refl)
+
+-- ---- send
+module _ (t : Table) (j i : ℕ) where
+  pub send-processes : processCount (afterSend t j i) ≡ processCount t
+  unfolding afterSend processCount
+  send-processes = refl
+
+  pub send-count : (p : ℕ) → countOf (afterSend t j i) p ≡ countOf t p
+  unfolding afterSend countOf
+  send-count p = refl
+
+  pub send-messages : messageCount (afterSend t j i) ≡ messageCount t + 1
+  unfolding afterSend messageCount
+  send-messages = length-append (t .messages) _
+
+  pub send-message-old : (k : ℕ) → k < messageCount t → messageOf (afterSend t j i) k ≡ messageOf t k
+  unfolding afterSend messageCount messageOf
+  send-message-old k l = List·getD-append (t .messages) _ noMessage k l
+
+  pub send-message-new : messageOf (afterSend t j i) (messageCount t) ≡ newMessage t j i
+  unfolding afterSend messageCount messageOf
+  send-message-new = getD-append-seam (t .messages) _ [] noMessage
+
+  pub send-each : (P : Message → Type 0) → ((k : ℕ) → k < messageCount t → P (messageOf t k)) → P (newMessage t j i)
+      → (k : ℕ) → k < messageCount (afterSend t j i) → P (messageOf (afterSend t j i) k)
+  send-each P old new k l = go (decLt k (messageCount t))
+    where
+      go : Dec (k < messageCount t) → P (messageOf (afterSend t j i) k)
+      go (yes b) = subst⁻¹ P (send-message-old k b) (old k b)
+      go (no b) =
+          let last : k ≡ messageCount t = omega (arith, send-messages) in
+          subst⁻¹ P (ap (messageOf (afterSend t j i)) last ∙ send-message-new) new
+
+  pub send-free : firstCaught (sendChecks t j i) ≡ 0 → (j < processCount t) × (i < processCount t) × (j ≡ i → ⊥)
+  unfolding sendChecks
+  send-free quiet =
+      let n = processCount t in
+      let free = neither-catches (leb n j || leb n i) (eqb j i) 10 11 (omega arith) (omega arith) quiet in
+      (leb-false n j (or-false-left (leb n j) (leb n i) (free .0)), leb-false n i (or-false-right (leb n j) (leb n i) (free .0)), eqb-false j i (free .1))
+
+  pub send-quiet : j < processCount t → i < processCount t → (j ≡ i → ⊥) → firstCaught (sendChecks t j i) ≡ 0
+  unfolding sendChecks
+  send-quiet lj li two =
+      let known : (leb (processCount t) j || leb (processCount t) i) ≡ false = rw (lt-leb (processCount t) j lj) (lt-leb (processCount t) i li) in
+      passed _ _ 0 known (passed _ _ 0 (ne-eqb j i two) clear)
+
+-- ---- the list of a checkpoint
+-- The message at position k waits for process i.
+pub record Waiting (t : Table) (i k : ℕ) : Type 0 where
+  pub a-message : k < messageCount t
+  pub to-process : messageOf t k .receiver ≡ i
+  pub undelivered : messageOf t k .received ≡ 0
+
+module _ (t : Table) (i k : ℕ) where
+  pub good-position : badPosition t i k ≡ false → Waiting t i k
+  unfolding badPosition waitsFor
+  good-position e =
+      let to-i = eqb (messageOf t k .receiver) i in
+      let none = eqb (messageOf t k .received) 0 in
+      let waits = not-false (to-i && none) (or-false-right (leb (messageCount t) k) (not (to-i && none)) e) in
+      record {
+        a-message = leb-false (messageCount t) k (or-false-left (leb (messageCount t) k) (not (to-i && none)) e);
+        to-process = eqb-true (messageOf t k .receiver) i (and-left to-i none waits);
+        undelivered = eqb-true (messageOf t k .received) 0 (and-right to-i none waits);
+      }
+
+  pub waiting-position : Waiting t i k → badPosition t i k ≡ false
+  unfolding badPosition waitsFor
+  waiting-position w =
+      rw (lt-leb (messageCount t) k (w .a-message), eq-eqb (messageOf t k .receiver) i (w .to-process), eq-eqb (messageOf t k .received) 0 (w .undelivered))
+
+-- a test that no entry passes fails at every listed number
+listed-fails : (test : ℕ → Bool) (list : List ℕ) → any test list ≡ false → (k : ℕ) → any (eqb k) list ≡ true → test k ≡ false
+unfolding any
+listed-fails test [] e k h = absurd (false≢true h)
+listed-fails test (x ∷ rest) e k h = go (eqb k x) refl h (listed-fails test rest (or-false-right (test x) (any test rest) e) k)
+  where
+    go : (b : Bool) → eqb k x ≡ b → (b || any (eqb k) rest) ≡ true → (any (eqb k) rest ≡ true → test k ≡ false) → test k ≡ false
+    go true same h later = ap test (eqb-true k x same) ∙ or-false-left (test x) (any test rest) e
+    go false other h later = later h
+
+-- where a list goes on from k without a step back, its entries are above k, and it is rising
+follows-above : (k : ℕ) (rest : List ℕ) → follows k rest ≡ false → (b : ℕ) → b < length rest → k < getD rest b 0
+unfolding follows
+follows-above k [] e b l = absurd (not-suc-le-zero l)
+follows-above k (next ∷ rest) e zero l = leb-false next k (or-false-left (leb next k) (follows next rest) e)
+follows-above k (next ∷ rest) e (suc b) l =
+    let here : k < next = leb-false next k (or-false-left (leb next k) (follows next rest) e) in
+    omega (arith, follows-above next rest (or-false-right (leb next k) (follows next rest) e) b (le-of-suc-le-suc l))
+
+follows-rising : (k : ℕ) (rest : List ℕ) → follows k rest ≡ false → notRising rest ≡ false
+unfolding follows notRising
+follows-rising k [] e = refl
+follows-rising k (next ∷ rest) e = or-false-right (leb next k) (follows next rest) e
+
+pub rising : (list : List ℕ) → notRising list ≡ false → (a b : ℕ) → a < b → b < length list → getD list a 0 < getD list b 0
+unfolding notRising
+rising [] e a b h l = absurd (not-suc-le-zero l)
+rising (k ∷ rest) e a zero h l = absurd (not-suc-le-zero h)
+rising (k ∷ rest) e zero (suc b) h l = follows-above k rest e b (le-of-suc-le-suc l)
+rising (k ∷ rest) e (suc a) (suc b) h l = rising rest (follows-rising k rest e) a b (le-of-suc-le-suc h) (le-of-suc-le-suc l)
+
+-- ---- checkpoint
+module _ (t : Table) (i : ℕ) (list : List ℕ) where
+  pub checkpoint-processes : processCount (afterCheckpoint t i list) ≡ processCount t
+  unfolding afterCheckpoint processCount
+  checkpoint-processes = length-set (t .counts) i _
+
+  pub checkpoint-count-other : (p : ℕ) → (p ≡ i → ⊥) → countOf (afterCheckpoint t i list) p ≡ countOf t p
+  unfolding afterCheckpoint countOf
+  checkpoint-count-other p other = getD-set-other (t .counts) i p _ 0 other
+
+  pub checkpoint-count-here : i < processCount t → countOf (afterCheckpoint t i list) i ≡ countOf t i + 1
+  unfolding afterCheckpoint countOf processCount
+  checkpoint-count-here l = getD-set-same (t .counts) i _ 0 l
+
+  pub checkpoint-messages : messageCount (afterCheckpoint t i list) ≡ messageCount t
+  unfolding afterCheckpoint messageCount
+  checkpoint-messages = length-tabulate (length (t .messages)) (receivedAt t i list)
+
+  pub checkpoint-message : (k : ℕ) → k < messageCount t → messageOf (afterCheckpoint t i list) k ≡ receivedAt t i list k
+  unfolding afterCheckpoint messageOf
+  checkpoint-message k l = getD-tabulate (messageCount t) (receivedAt t i list) k noMessage l
+
+  -- a listed message is received at the old count, and any other stays as it is
+  module _ (k : ℕ) where
+    pub receivedAt-listed : any (eqb k) list ≡ true → receivedAt t i list k ≡ withReceipt (messageOf t k) (countOf t i)
+    unfolding receivedAt
+    receivedAt-listed e = rw e
+
+    pub receivedAt-unlisted : any (eqb k) list ≡ false → receivedAt t i list k ≡ messageOf t k
+    unfolding receivedAt
+    receivedAt-unlisted e = rw e
+
+    receivedAt-cases : (P : Message → Type 0) → (any (eqb k) list ≡ true → P (withReceipt (messageOf t k) (countOf t i))) → P (messageOf t k)
+        → P (receivedAt t i list k)
+    receivedAt-cases P listed unlisted = go (any (eqb k) list) refl
+      where
+        go : (b : Bool) → any (eqb k) list ≡ b → P (receivedAt t i list k)
+        go true e = subst⁻¹ P (receivedAt-listed e) (listed e)
+        go false e = subst⁻¹ P (receivedAt-unlisted e) unlisted
+
+    pub receivedAt-sender : receivedAt t i list k .sender ≡ messageOf t k .sender
+    receivedAt-sender = receivedAt-cases (λ m. m .sender ≡ messageOf t k .sender) (λ _. refl) refl
+
+    pub receivedAt-sent : receivedAt t i list k .sent ≡ messageOf t k .sent
+    receivedAt-sent = receivedAt-cases (λ m. m .sent ≡ messageOf t k .sent) (λ _. refl) refl
+
+    pub receivedAt-receiver : receivedAt t i list k .receiver ≡ messageOf t k .receiver
+    receivedAt-receiver = receivedAt-cases (λ m. m .receiver ≡ messageOf t k .receiver) (λ _. refl) refl
+
+  pub checkpoint-each : (P : Message → Type 0)
+      → ((k : ℕ) → k < messageCount t → any (eqb k) list ≡ true → P (withReceipt (messageOf t k) (countOf t i)))
+      → ((k : ℕ) → k < messageCount t → P (messageOf t k)) → (k : ℕ) → k < messageCount (afterCheckpoint t i list) → P (messageOf (afterCheckpoint t i list) k)
+  checkpoint-each P listed unlisted k l =
+      let b : k < messageCount t = omega (arith, checkpoint-messages) in
+      subst⁻¹ P (checkpoint-message k b) (receivedAt-cases k P (listed k b) (unlisted k b))
+
+  module _ (quiet : firstCaught (checkpointChecks t i list) ≡ 0) where
+    free : (leb (processCount t) i ≡ false) × ((any (badPosition t i) list || notRising list) ≡ false)
+    unfolding checkpointChecks
+    free = neither-catches (leb (processCount t) i) (any (badPosition t i) list || notRising list) 10 13 (omega arith) (omega arith) quiet
+
+    pub checkpoint-known : i < processCount t
+    checkpoint-known = leb-false (processCount t) i (free .0)
+
+    pub checkpoint-waiting : (k : ℕ) → any (eqb k) list ≡ true → Waiting t i k
+    checkpoint-waiting k listed =
+        good-position t i k (listed-fails (badPosition t i) list (or-false-left (any (badPosition t i) list) (notRising list) (free .1)) k listed)
+
+    pub checkpoint-rising : (a b : ℕ) → a < b → b < length list → getD list a 0 < getD list b 0
+    checkpoint-rising = rising list (or-false-right (any (badPosition t i) list) (notRising list) (free .1))
+
+  pub checkpoint-quiet : i < processCount t → ((a : ℕ) → a < length list → Waiting t i (getD list a 0)) → notRising list ≡ false
+      → firstCaught (checkpointChecks t i list) ≡ 0
+  unfolding checkpointChecks
+  checkpoint-quiet known waiting up =
+      let good : any (badPosition t i) list ≡ false = any-none (badPosition t i) list 0 (λ a l. waiting-position t i (getD list a 0) (waiting a l)) in
+      let free : (any (badPosition t i) list || notRising list) ≡ false = rw good up in
+      passed _ _ 0 (lt-leb (processCount t) i known) (passed _ _ 0 free clear)
+
+  checkpoint-grows : i < processCount t → (p : ℕ) → countOf t p ≤ countOf (afterCheckpoint t i list) p
+  checkpoint-grows known p = go (ℕ-discrete p i)
+    where
+      go : Dec (p ≡ i) → countOf t p ≤ countOf (afterCheckpoint t i list) p
+      go (yes e) = subst⁻¹ (λ (q : ℕ). countOf t q ≤ countOf (afterCheckpoint t i list) q) e (omega (arith, checkpoint-count-here known))
+      go (no e) = omega (arith, checkpoint-count-other p e)
+
+-- ---- the recovery line
+module _ (t : Table) where
+  pub recovery-latest : Latest (t .messages) (λ p. countOf t p - 1) (at (recoveryLine t))
+  unfolding recoveryLine
+  recovery-latest =
+      latest-same (t .messages) (at (ceilingOf t (λ p. true))) (λ p. countOf t p - 1) (at (lineOf t (λ p. true))) (at (lineOf t (λ p. true)))
+      (ceiling-at t (λ p. true)) (λ p. refl) (set-latest t (λ p. true))
+
+  pub recovery-length : length (recoveryLine t) ≡ processCount t
+  unfolding recoveryLine
+  recovery-length = set-length t (λ p. true)
+
+-- ---- rollback
+module _ (l : List ℕ) (m : Message) where
+  pub putBack-after : at l (m .receiver) < m .received → putBack l m ≡ withReceipt m 0
+  unfolding putBack
+  putBack-after h = rw (lt-ltb (at l (m .receiver)) (m .received) h)
+
+  pub putBack-before : m .received ≤ at l (m .receiver) → putBack l m ≡ m
+  unfolding putBack
+  putBack-before h = rw (le-ltb (at l (m .receiver)) (m .received) h)
+
+  putBack-cases : (P : Message → Type 0) → P (withReceipt m 0) → (m .received ≤ at l (m .receiver) → P m) → P (putBack l m)
+  putBack-cases P after before = go (decLt (at l (m .receiver)) (m .received))
+    where
+      go : Dec (at l (m .receiver) < m .received) → P (putBack l m)
+      go (yes h) = subst⁻¹ P (putBack-after h) after
+      go (no h) = subst⁻¹ P (putBack-before (omega arith)) (before (omega arith))
+
+  pub putBack-sender : putBack l m .sender ≡ m .sender
+  putBack-sender = putBack-cases (λ x. x .sender ≡ m .sender) refl (λ _. refl)
+
+  pub putBack-sent : putBack l m .sent ≡ m .sent
+  putBack-sent = putBack-cases (λ x. x .sent ≡ m .sent) refl (λ _. refl)
+
+  pub putBack-receiver : putBack l m .receiver ≡ m .receiver
+  putBack-receiver = putBack-cases (λ x. x .receiver ≡ m .receiver) refl (λ _. refl)
+
+  pub putBack-received : (putBack l m .received ≡ 0) ⊎ (putBack l m .received ≡ m .received)
+  putBack-received = putBack-cases (λ x. (x .received ≡ 0) ⊎ (x .received ≡ m .received)) (inl refl) (λ _. inr refl)
+
+  pub putBack-under : putBack l m .received ≤ at l (m .receiver)
+  putBack-under = putBack-cases (λ x. x .received ≤ at l (m .receiver)) (omega arith) (λ h. h)
+
+  pub stays-sent : stays l m ≡ true → m .sent < at l (m .sender)
+  unfolding stays
+  stays-sent e = ltb-true (m .sent) (at l (m .sender)) e
+
+-- the first message of a list stays or goes
+module _ (l : List ℕ) (m : Message) (rest : List Message) where
+  first-stays : stays l m ≡ true → remaining l (m ∷ rest) ≡ putBack l m ∷ remaining l rest
+  unfolding remaining
+  first-stays e = rw e
+
+  first-goes : stays l m ≡ false → remaining l (m ∷ rest) ≡ remaining l rest
+  unfolding remaining
+  first-goes e = rw e
+
+module _ (l : List ℕ) where
+  remaining-append : (xs ys : List Message) → remaining l (xs ++ ys) ≡ remaining l xs ++ remaining l ys
+  unfolding remaining
+  remaining-append [] ys = refl
+  remaining-append (m ∷ rest) ys = go (stays l m) (remaining-append rest ys)
+    where
+      go : (b : Bool) → remaining l (rest ++ ys) ≡ remaining l rest ++ remaining l ys
+          → cond b (putBack l m ∷ remaining l (rest ++ ys)) (remaining l (rest ++ ys)) ≡ cond b (putBack l m ∷ remaining l rest) (remaining l rest) ++ remaining l ys
+      go true e = ap (λ (x : List Message). putBack l m ∷ x) e
+      go false e = e
+
+  remaining-fewer : (ms : List Message) → length (remaining l ms) ≤ length ms
+  unfolding remaining
+  remaining-fewer [] = omega arith
+  remaining-fewer (m ∷ rest) = go (stays l m) (remaining-fewer rest)
+    where
+      go : (b : Bool) → length (remaining l rest) ≤ length rest → length (cond b (putBack l m ∷ remaining l rest) (remaining l rest)) ≤ suc (length rest)
+      go true h = omega arith
+      go false h = omega arith
+
+  -- an entry comes from a message that stays
+  abbrev From : List Message → ℕ → Type 0
+  From ms k′ = (k : ℕ) × (k < length ms) × (stays l (getD ms k noMessage) ≡ true)
+      × (getD (remaining l ms) k′ noMessage ≡ putBack l (getD ms k noMessage))
+
+  from-rest : (m : Message) (rest : List Message) (k k′ : ℕ) → getD (remaining l (m ∷ rest)) k′ noMessage ≡ getD (remaining l rest) k noMessage
+      → From rest k → From (m ∷ rest) k′
+  from-rest m rest k k′ e found = (suc (found .0), omega (arith, found .1), found .2, e ∙ found .3)
+
+  remaining-from : (ms : List Message) (k′ : ℕ) → k′ < length (remaining l ms) → From ms k′
+  unfolding remaining
+  remaining-from [] k′ h = absurd (not-suc-le-zero h)
+  remaining-from (m ∷ rest) k′ h = go (stays l m) refl (remaining-from rest) k′ h
+    where
+      go : (b : Bool) → stays l m ≡ b → ((k′ : ℕ) → k′ < length (remaining l rest) → From rest k′)
+          → (k′ : ℕ) → k′ < length (remaining l (m ∷ rest)) → From (m ∷ rest) k′
+      go true e found zero h = (zero, omega arith, e, ap (λ (x : List Message). getD x 0 noMessage) (first-stays l m rest e))
+      go true e found (suc k′) h =
+          from-rest m rest k′ (suc k′) (ap (λ (x : List Message). getD x (suc k′) noMessage) (first-stays l m rest e))
+          (found k′ (le-of-suc-le-suc (subst (λ (x : List Message). suc k′ < length x) (first-stays l m rest e) h)))
+      go false e found k′ h =
+          from-rest m rest k′ k′ (ap (λ (x : List Message). getD x k′ noMessage) (first-goes l m rest e))
+          (found k′ (subst (λ (x : List Message). k′ < length x) (first-goes l m rest e) h))
+
+  -- a message that stays stands behind those before it that stay
+  module _ (ms : List Message) (k : ℕ) (h : k < length ms) (e : stays l (getD ms k noMessage) ≡ true) where
+    remaining-split : remaining l ms ≡ remaining l (take k ms) ++ (putBack l (getD ms k noMessage) ∷ remaining l (drop (suc k) ms))
+    remaining-split =
+        ap (remaining l) (split-at ms k noMessage h) ∙ remaining-append (take k ms) (getD ms k noMessage ∷ drop (suc k) ms)
+        ∙ ap (λ (x : List Message). remaining l (take k ms) ++ x) (first-stays l (getD ms k noMessage) (drop (suc k) ms) e)
+
+    remaining-place : length (remaining l (take k ms)) < length (remaining l ms)
+    remaining-place = rw remaining-split (rw length-append (omega arith))
+
+    remaining-message : getD (remaining l ms) (length (remaining l (take k ms))) noMessage ≡ putBack l (getD ms k noMessage)
+    remaining-message =
+        ap (λ (x : List Message). getD x (length (remaining l (take k ms))) noMessage) remaining-split
+        ∙ getD-append-seam (remaining l (take k ms)) (putBack l (getD ms k noMessage)) (remaining l (drop (suc k) ms)) noMessage
+
+  -- its place among the messages before n
+  remaining-order : (ms : List Message) (k n : ℕ) → k < n → k < length ms → stays l (getD ms k noMessage) ≡ true
+      → length (remaining l (take k ms)) < length (remaining l (take n ms))
+  remaining-order ms k n order h e =
+      let place = remaining-place (take n ms) k (rw length-take (omega arith)) (rw (getD-take n ms k noMessage order) e) in
+      subst (λ (x : List Message). length (remaining l x) < length (remaining l (take n ms))) (take-take k n ms (omega arith)) place
+
+one-more : (l : List ℕ) (p : ℕ) → p < length l → getD (map (λ c. c + 1) l) p 0 ≡ getD l p 0 + 1
+one-more [] p h = absurd (not-suc-le-zero h)
+one-more (c ∷ rest) zero h = refl
+one-more (c ∷ rest) (suc p) h = one-more rest p (le-of-suc-le-suc h)
+
+module _ (t : Table) where
+  pub rollback-processes : processCount (afterRollback t) ≡ processCount t
+  unfolding afterRollback processCount
+  rollback-processes = length-map (recoveryLine t) (λ c. c + 1) ∙ recovery-length t
+
+  pub rollback-count : (p : ℕ) → p < processCount t → countOf (afterRollback t) p ≡ at (recoveryLine t) p + 1
+  unfolding afterRollback countOf
+  rollback-count p h = one-more (recoveryLine t) p (omega (arith, recovery-length t))
+
+  -- the line stands at the last checkpoints
+  last-checkpoint : (p : ℕ) → countOf (afterRollback t) p - 1 ≡ at (recoveryLine t) p
+  last-checkpoint p = go (decLt p (processCount t))
+    where
+      go : Dec (p < processCount t) → countOf (afterRollback t) p - 1 ≡ at (recoveryLine t) p
+      go (yes h) = omega (arith, rollback-count p h)
+      go (no h) =
+          omega (arith, count-beyond (afterRollback t) p (omega (arith, rollback-processes)), count-beyond t p (omega arith), recovery-latest t .under p)
+
+  pub rollback-fewer : messageCount (afterRollback t) ≤ messageCount t
+  unfolding afterRollback messageCount
+  rollback-fewer = remaining-fewer (recoveryLine t) (t .messages)
+
+  pub rollback-from : (k′ : ℕ) → k′ < messageCount (afterRollback t)
+      → (k : ℕ) × (k < messageCount t) × (stays (recoveryLine t) (messageOf t k) ≡ true)
+      × (messageOf (afterRollback t) k′ ≡ putBack (recoveryLine t) (messageOf t k))
+  unfolding afterRollback messageCount messageOf
+  rollback-from = remaining-from (recoveryLine t) (t .messages)
+
+  -- it is undelivered again, or it was received before the line
+  pub rollback-each : (P : Message → Type 0)
+      → ((k : ℕ) → k < messageCount t → stays (recoveryLine t) (messageOf t k) ≡ true → P (withReceipt (messageOf t k) 0))
+      → ((k : ℕ) → k < messageCount t → stays (recoveryLine t) (messageOf t k) ≡ true
+      → messageOf t k .received ≤ at (recoveryLine t) (messageOf t k .receiver) → P (messageOf t k))
+      → (k′ : ℕ) → k′ < messageCount (afterRollback t) → P (messageOf (afterRollback t) k′)
+  rollback-each P after before k′ h =
+      let from = rollback-from k′ h in
+      let k = from .0 in
+      subst⁻¹ P (from .3) (putBack-cases (recoveryLine t) (messageOf t k) P (after k (from .1) (from .2)) (before k (from .1) (from .2)))
+
+  module _ (k : ℕ) (h : k < messageCount t) (e : stays (recoveryLine t) (messageOf t k) ≡ true) where
+    pub rollback-place : length (remaining (recoveryLine t) (take k (t .messages))) < messageCount (afterRollback t)
+    unfolding afterRollback messageCount messageOf
+    rollback-place = remaining-place (recoveryLine t) (t .messages) k h e
+
+    pub rollback-message : messageOf (afterRollback t) (length (remaining (recoveryLine t) (take k (t .messages)))) ≡ putBack (recoveryLine t) (messageOf t k)
+    unfolding afterRollback messageCount messageOf
+    rollback-message = remaining-message (recoveryLine t) (t .messages) k h e
+
+    pub rollback-order : (n : ℕ) → k < n
+        → length (remaining (recoveryLine t) (take k (t .messages))) < length (remaining (recoveryLine t) (take n (t .messages)))
+    unfolding messageCount messageOf
+    rollback-order n order = remaining-order (recoveryLine t) (t .messages) k n order h e
+
+-- ---- a step
+module _ (checks : List Check) (after before : Table) where
+  pub step-taken : firstCaught checks ≡ 0 → unlessCaught checks after before ≡ after
+  unfolding unlessCaught
+  step-taken e = rw (eq-eqb (firstCaught checks) 0 e)
+
+  pub step-caught : (firstCaught checks ≡ 0 → ⊥) → unlessCaught checks after before ≡ before
+  unfolding unlessCaught
+  step-caught e = rw (ne-eqb (firstCaught checks) 0 e)
+
+  step-cases : (P : Table → Type 0) → (firstCaught checks ≡ 0 → P after) → P before → P (unlessCaught checks after before)
+  step-cases P taken caught = go (ℕ-discrete (firstCaught checks) 0)
+    where
+      go : Dec (firstCaught checks ≡ 0) → P (unlessCaught checks after before)
+      go (yes e) = subst⁻¹ P (step-taken e) (taken e)
+      go (no e) = subst⁻¹ P (step-caught e) caught
+
+-- ---- well formed tables
+-- a good message among as many processes, where no count is lower
+still-good : (t t′ : Table) (m : Message) → processCount t′ ≡ processCount t → ((p : ℕ) → countOf t p ≤ countOf t′ p) → GoodMessage t m → GoodMessage t′ m
+still-good t t′ m n c g = record {
+  sender-known = omega (arith, g .sender-known);
+  receiver-known = omega (arith, g .receiver-known);
+  two-processes = g .two-processes;
+  sent-below = omega (arith, g .sent-below, c (m .sender));
+  received-below = omega (arith, g .received-below, c (m .receiver));
+}
+
+pub send-well-formed : (t : Table) (j i : ℕ) → WellFormed t → firstCaught (sendChecks t j i) ≡ 0 → WellFormed (afterSend t j i)
+send-well-formed t j i w quiet = record {
+  some-process = omega (arith, send-processes t j i, w .some-process);
+  some-checkpoint = λ p l. omega (arith, same p, w .some-checkpoint p (omega (arith, send-processes t j i)));
+  good-messages = send-each t j i (GoodMessage after) (λ k l. still-good t after (messageOf t k) (send-processes t j i) same (w .good-messages k l)) new;
+}
+  where
+    after : Table
+    after = afterSend t j i
+
+    same : (p : ℕ) → countOf t p ≤ countOf after p
+    same p = omega (arith, send-count t j i p)
+
+    new : GoodMessage after (newMessage t j i)
+    new =
+        let free = send-free t j i quiet in
+        record {
+          sender-known = omega (arith, free .0, send-processes t j i);
+          receiver-known = omega (arith, free .1, send-processes t j i);
+          two-processes = free .2;
+          sent-below = omega (arith, w .some-checkpoint j (free .0), same j);
+          received-below = omega (arith, w .some-checkpoint i (free .1), same i);
+        }
+
+pub checkpoint-well-formed : (t : Table) (i : ℕ) (list : List ℕ) → WellFormed t → firstCaught (checkpointChecks t i list) ≡ 0 → WellFormed (afterCheckpoint t i list)
+checkpoint-well-formed t i list w quiet = record {
+  some-process = omega (arith, checkpoint-processes t i list, w .some-process);
+  some-checkpoint = λ p l. omega (arith, grows p, w .some-checkpoint p (omega (arith, checkpoint-processes t i list)));
+  good-messages = checkpoint-each t i list (GoodMessage after) listed good;
+}
+  where
+    after : Table
+    after = afterCheckpoint t i list
+
+    known : i < processCount t
+    known = checkpoint-known t i list quiet
+
+    grows : (p : ℕ) → countOf t p ≤ countOf after p
+    grows = checkpoint-grows t i list known
+
+    good : (k : ℕ) → k < messageCount t → GoodMessage after (messageOf t k)
+    good k l = still-good t after (messageOf t k) (checkpoint-processes t i list) grows (w .good-messages k l)
+
+    listed : (k : ℕ) → k < messageCount t → any (eqb k) list ≡ true → GoodMessage after (withReceipt (messageOf t k) (countOf t i))
+    listed k l e = record {
+      sender-known = good k l .sender-known;
+      receiver-known = good k l .receiver-known;
+      two-processes = good k l .two-processes;
+      sent-below = good k l .sent-below;
+      received-below = subst⁻¹ (λ (q : ℕ). countOf t i < countOf after q) (checkpoint-waiting t i list quiet k e .to-process)
+          (omega (arith, checkpoint-count-here t i list known));
+    }
+
+-- a message that remains was sent below the line, and is undelivered or was received at or below it
+pub rollback-well-formed : (t : Table) → WellFormed t → WellFormed (afterRollback t)
+rollback-well-formed t w = record {
+  some-process = omega (arith, rollback-processes t, w .some-process);
+  some-checkpoint = λ p l. omega (arith, rollback-count t p (omega (arith, rollback-processes t)));
+  good-messages = rollback-each t (GoodMessage (afterRollback t)) (λ k l e. good k l e 0 (omega arith)) (λ k l e. good k l e (messageOf t k .received));
+}
+  where
+    good : (k : ℕ) → k < messageCount t → stays (recoveryLine t) (messageOf t k) ≡ true → (n : ℕ) → n ≤ at (recoveryLine t) (messageOf t k .receiver)
+        → GoodMessage (afterRollback t) (withReceipt (messageOf t k) n)
+    good k l e n under =
+        let m = messageOf t k in
+        let g = w .good-messages k l in
+        record {
+          sender-known = omega (arith, g .sender-known, rollback-processes t);
+          receiver-known = omega (arith, g .receiver-known, rollback-processes t);
+          two-processes = g .two-processes;
+          sent-below = omega (arith, stays-sent (recoveryLine t) m e, rollback-count t (m .sender) (g .sender-known));
+          received-below = omega (arith, rollback-count t (m .receiver) (g .receiver-known));
+        }
+
+pub step-well-formed : (t : Table) → WellFormed t → (s : Step) → WellFormed (step t s)
+unfolding step
+step-well-formed t w (send j i) = step-cases (sendChecks t j i) (afterSend t j i) t WellFormed (send-well-formed t j i w) w
+step-well-formed t w (checkpoint i list) = step-cases (checkpointChecks t i list) (afterCheckpoint t i list) t WellFormed (checkpoint-well-formed t i list w) w
+step-well-formed t w rollback = rollback-well-formed t w
+
+-- ---- limits
+pub send-limits : (t : Table) (j i : ℕ) → Limits t → messageCount t < 4096 → Limits (afterSend t j i)
+send-limits t j i limits room = record {
+  processes-limit = omega (arith, send-processes t j i, limits .processes-limit);
+  messages-limit = omega (arith, send-messages t j i);
+  counts-limit = λ p l. omega (arith, send-count t j i p, limits .counts-limit p (omega (arith, send-processes t j i)));
+}
+
+pub checkpoint-limits : (t : Table) (i : ℕ) (list : List ℕ) → Limits t → countOf t i < 4096 → Limits (afterCheckpoint t i list)
+checkpoint-limits t i list limits room = record {
+  processes-limit = omega (arith, checkpoint-processes t i list, limits .processes-limit);
+  messages-limit = omega (arith, checkpoint-messages t i list, limits .messages-limit);
+  counts-limit = λ p l. by-place p (omega (arith, checkpoint-processes t i list)) (ℕ-discrete p i);
+}
+  where
+    by-place : (p : ℕ) → p < processCount t → Dec (p ≡ i) → countOf (afterCheckpoint t i list) p ≤ 4096
+    by-place p l (yes e) =
+        subst⁻¹ (λ (q : ℕ). countOf (afterCheckpoint t i list) q ≤ 4096) e (omega (arith, checkpoint-count-here t i list (omega arith)))
+    by-place p l (no e) = omega (arith, checkpoint-count-other t i list p e, limits .counts-limit p l)
+
+pub rollback-limits : (t : Table) → WellFormed t → Limits t → Limits (afterRollback t)
+rollback-limits t w limits = record {
+  processes-limit = omega (arith, rollback-processes t, limits .processes-limit);
+  messages-limit = omega (arith, rollback-fewer t, limits .messages-limit);
+  counts-limit = λ p h.
+      let l : p < processCount t = omega (arith, rollback-processes t) in
+      omega (arith, rollback-count t p l, recovery-latest t .under p, w .some-checkpoint p l, limits .counts-limit p l);
+}
+
+-- ---- the recovery line never goes back
+module _ (t : Table) where
+  abbrev NoOrphan : Message → Type 0
+  NoOrphan m = Orphan m (at (recoveryLine t)) → ⊥
+
+  no-orphan-of : (k : ℕ) → NoOrphan (messageOf t k)
+  unfolding messageOf
+  no-orphan-of = recovery-latest t .consistent
+
+  -- the line is no higher than that of a table of which it is at or below the last checkpoints, with no message for an orphan
+  no-higher : (t′ : Table) → ((p : ℕ) → at (recoveryLine t) p ≤ countOf t′ p - 1) → ((k : ℕ) → k < messageCount t′ → NoOrphan (messageOf t′ k))
+      → AtOrBelow (at (recoveryLine t)) (at (recoveryLine t′))
+  unfolding messageOf
+  no-higher t′ under none = recovery-latest t′ .latest (at (recoveryLine t)) under (λ k o. go k o (decLt k (messageCount t′)))
+    where
+      go : (k : ℕ) → Orphan (messageOf t′ k) (at (recoveryLine t)) → Dec (k < messageCount t′) → ⊥
+      go k o (yes b) = none k b o
+      go k o (no b) = omega (arith, o .delivered, ap (λ (m : Message). m .received) (message-beyond t′ k (omega arith)))
+
+  -- the new message is undelivered
+  send-no-higher : (j i : ℕ) → AtOrBelow (at (recoveryLine t)) (at (recoveryLine (afterSend t j i)))
+  send-no-higher j i =
+      no-higher (afterSend t j i) (λ p. omega (arith, recovery-latest t .under p, send-count t j i p))
+      (send-each t j i NoOrphan (λ k _. no-orphan-of k) (λ o. omega (arith, o .delivered)))
+
+  -- a listed message is received at the old count, which is above the line
+  checkpoint-no-higher : (i : ℕ) (list : List ℕ) → firstCaught (checkpointChecks t i list) ≡ 0
+      → AtOrBelow (at (recoveryLine t)) (at (recoveryLine (afterCheckpoint t i list)))
+  checkpoint-no-higher i list quiet =
+      no-higher (afterCheckpoint t i list)
+      (λ p. omega (arith, recovery-latest t .under p, checkpoint-grows t i list (checkpoint-known t i list quiet) p))
+      (checkpoint-each t i list NoOrphan
+      (λ k _ listed o.
+      let here : countOf t i ≤ at (recoveryLine t) i =
+      subst (λ (q : ℕ). countOf t i ≤ at (recoveryLine t) q) (checkpoint-waiting t i list quiet k listed .to-process) (o .received-before)
+      in
+      omega (arith, o .delivered, recovery-latest t .under i))
+      (λ k _. no-orphan-of k))
+
+  -- a message that remains is undelivered or as it was
+  rollback-no-higher : AtOrBelow (at (recoveryLine t)) (at (recoveryLine (afterRollback t)))
+  rollback-no-higher =
+      no-higher (afterRollback t) (λ p. omega (arith, last-checkpoint t p))
+      (rollback-each t NoOrphan (λ k _ _ o. omega (arith, o .delivered)) (λ k _ _ _. no-orphan-of k))
+
+  pub rollback-line : (p : ℕ) → at (recoveryLine (afterRollback t)) p ≡ at (recoveryLine t) p
+  rollback-line p = omega (arith, rollback-no-higher p, recovery-latest (afterRollback t) .under p, last-checkpoint t p)
+
+  pub line-never-back : (s : Step) (p : ℕ) → at (recoveryLine t) p ≤ at (recoveryLine (step t s)) p
+  unfolding step
+  line-never-back (send j i) p =
+      step-cases (sendChecks t j i) (afterSend t j i) t (λ t′. at (recoveryLine t) p ≤ at (recoveryLine t′) p) (λ _. send-no-higher j i p) (omega arith)
+  line-never-back (checkpoint i list) p =
+      step-cases (checkpointChecks t i list) (afterCheckpoint t i list) t (λ t′. at (recoveryLine t) p ≤ at (recoveryLine t′) p)
+      (λ quiet. checkpoint-no-higher i list quiet p) (omega arith)
+  line-never-back rollback p = rollback-no-higher p
