@@ -196,7 +196,7 @@ u16s-read (suc n) (x ∷ y ∷ rest) e b =
     rw (same, later, low, high)
 
 -- entries that are the even and the odd numbers of w, one after another
-entries-tabulate : (f g : Message → ℕ) (m : ℕ) (h : ℕ → Message) (w : ℕ → ℕ)
+pub entries-tabulate : (f g : Message → ℕ) (m : ℕ) (h : ℕ → Message) (w : ℕ → ℕ)
     → ((k : ℕ) → k < m → f (h k) ≡ w (2 * k)) → ((k : ℕ) → k < m → g (h k) ≡ w (2 * k + 1)) → entriesOf f g (tabulate m h) ≡ tabulate (2 * m) w
 unfolding entriesOf tabulate
 entries-tabulate f g zero h w a b = refl

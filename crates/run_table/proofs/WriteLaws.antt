@@ -1,15 +1,26 @@
 -- Numbers written to the front of a buffer, one after another, by a loop.
+--     put-next, put-length            bytes put after those that were put to the front of a buffer
 --     Written                         the loop's invariant
 --     written-none, written-more, written-all    how it begins, goes on and ends
 -- Assumes nothing.
 use mathlib.Core.List.{List, [], _∷_, _++_}
 use mathlib.Core.Path.{_≡_, refl, sym, ap, ap₂, _∙_, subst}
 use Prim.Native.Nat.{ℕ, _+_, _*_, _≤_, _<_, zero-le}
-use native.Mathlib.Nat.{le-antisymm}
+use native.Mathlib.Nat.{le-antisymm, zero-add}
 use native.Mathlib.Omega.{arith}
 use lib.ListN.{length}
 use Rattle.run_table.proofs.NumberLaws.{length-putAt, length-tabulate, length-u16s, putAt-more, putAt-none, tabulate-more, u16s-append}
 use Rattle.run_table.specs.Numbers.{putAt, tabulate, u16Bytes, u16s}
+
+-- what was put to the front of a buffer goes on at its end
+pub put-next : (before after later xs ys : List ℕ) (at : ℕ) → after ≡ putAt before 0 xs → at ≡ length xs → later ≡ putAt after at ys
+    → length xs + length ys ≤ length before → later ≡ putAt before 0 (xs ++ ys)
+put-next before after later xs ys at put place more fits =
+    more ∙ ap₂ (λ (b : List ℕ) (i : ℕ). putAt b i ys) put (place ∙ sym (zero-add (length xs))) ∙ putAt-more before 0 xs ys (omega arith)
+
+-- a buffer keeps its length
+pub put-length : (before after xs : List ℕ) → after ≡ putAt before 0 xs → length xs ≤ length before → length after ≡ length before
+put-length before after xs put fits = ap length put ∙ length-putAt before 0 xs (omega arith)
 
 -- The first k of n numbers of f stand from a place on, and the rest of the buffer is as it was.
 pub record Written (f : ℕ → ℕ) (n at : ℕ) (before after : List ℕ) (k : ℕ) : Type 0 where
