@@ -244,7 +244,7 @@ module _ (t : Table) (i : ℕ) (list : List ℕ) where
       let free : (any (badPosition t i) list || notRising list) ≡ false = rw good up in
       passed _ _ 0 (lt-leb (processCount t) i known) (passed _ _ 0 free clear)
 
-  checkpoint-grows : i < processCount t → (p : ℕ) → countOf t p ≤ countOf (afterCheckpoint t i list) p
+  pub checkpoint-grows : i < processCount t → (p : ℕ) → countOf t p ≤ countOf (afterCheckpoint t i list) p
   checkpoint-grows known p = go (ℕ-discrete p i)
     where
       go : Dec (p ≡ i) → countOf t p ≤ countOf (afterCheckpoint t i list) p
@@ -443,7 +443,7 @@ module _ (checks : List Check) (after before : Table) where
   unfolding unlessCaught
   step-caught e = rw (ne-eqb (firstCaught checks) 0 e)
 
-  step-cases : (P : Table → Type 0) → (firstCaught checks ≡ 0 → P after) → P before → P (unlessCaught checks after before)
+  pub step-cases : (P : Table → Type 0) → (firstCaught checks ≡ 0 → P after) → P before → P (unlessCaught checks after before)
   step-cases P taken caught = go (ℕ-discrete (firstCaught checks) 0)
     where
       go : Dec (firstCaught checks ≡ 0) → P (unlessCaught checks after before)

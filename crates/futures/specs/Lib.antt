@@ -2,6 +2,8 @@
 --     Steps      send, checkpoint and rollback on tables
 --     Futures    lists of steps; what is still there at their end, and what they need
 --     Sheet      the checkpoints and messages that are kept, and the bytes of the sheet
+--     Demand3    the claim that the sheet lists exactly what futures need
+pub mod Demand3
 pub mod Futures
 pub mod Sheet
 pub mod Steps

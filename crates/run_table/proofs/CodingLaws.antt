@@ -1,6 +1,8 @@
 -- Reading and writing a table undo each other.
 --     decode-encode      a table whose numbers fit 16 bits, written and read again
 --     encode-decode      bytes whose length is right, read and written again
+--     entries-append, entries-tabulate     the numbers of one array
+--     counts-numbers, sends-numbers, receipts-numbers    the numbers of the parts are those of the decoded table
 -- Assumes nothing.
 use mathlib.Core.List.{List, [], _∷_, _++_, append-nil}
 use mathlib.Core.Path.{_≡_, refl, sym, ap, _∙_, subst, subst⁻¹}
@@ -38,6 +40,11 @@ module _ (f g : Message → ℕ) where
   entries-checkpoint (m ∷ rest) (suc k) l =
       let place : 2 * suc k + 1 ≡ suc (suc (2 * k + 1)) = omega arith in
       rw place (entries-checkpoint rest k (le-of-suc-le-suc l))
+
+  pub entries-append : (xs ys : List Message) → entriesOf f g (xs ++ ys) ≡ entriesOf f g xs ++ entriesOf f g ys
+  unfolding entriesOf
+  entries-append [] ys = refl
+  entries-append (m ∷ rest) ys = ap (λ (l : List ℕ). f m ∷ g m ∷ l) (entries-append rest ys)
 
 -- Every number of a table fits 16 bits.
 pub record Fits16 (t : Table) : Type 0 where
@@ -263,3 +270,31 @@ module _ (bytes : List ℕ) where
   unfolding encode tableLength
   encode-decode whole b =
       ap u16s numbers-read ∙ u16s-read (suc (suc (n + (2 * m + 2 * m)))) bytes (omega arith) b
+
+-- the numbers of the parts, one after another, are those of the decoded table
+module _ (bytes : List ℕ) where
+  pub counts-numbers : decode bytes .counts ≡ tabulate (processesIn bytes) (λ p. u16At (countsPart bytes) (2 * p))
+  unfolding decode countAt
+  counts-numbers = refl
+
+  even-number : (part : List ℕ) (k : ℕ) → u16At part (4 * k) ≡ u16At part (2 * (2 * k))
+  even-number part k =
+      let place : 4 * k ≡ 2 * (2 * k) = omega arith in
+      ap (u16At part) place
+
+  odd-number : (part : List ℕ) (k : ℕ) → u16At part (4 * k + 2) ≡ u16At part (2 * (2 * k + 1))
+  odd-number part k =
+      let place : 4 * k + 2 ≡ 2 * (2 * k + 1) = omega arith in
+      ap (u16At part) place
+
+  pub sends-numbers : sendsOf (decode bytes .messages) ≡ tabulate (2 * messagesIn bytes) (λ i. u16At (sendsPart bytes) (2 * i))
+  unfolding decode messageAt processAt checkpointAt
+  sends-numbers =
+      entries-tabulate (λ x. x .sender) (λ x. x .sent) (messagesIn bytes) (messageAt (sendsPart bytes) (receiptsPart bytes)) (λ i. u16At (sendsPart bytes) (2 * i))
+      (λ k _. even-number (sendsPart bytes) k) (λ k _. odd-number (sendsPart bytes) k)
+
+  pub receipts-numbers : receiptsOf (decode bytes .messages) ≡ tabulate (2 * messagesIn bytes) (λ i. u16At (receiptsPart bytes) (2 * i))
+  unfolding decode messageAt processAt checkpointAt
+  receipts-numbers =
+      entries-tabulate (λ x. x .receiver) (λ x. x .received) (messagesIn bytes) (messageAt (sendsPart bytes) (receiptsPart bytes)) (λ i. u16At (receiptsPart bytes) (2 * i))
+      (λ k _. even-number (receiptsPart bytes) k) (λ k _. odd-number (receiptsPart bytes) k)

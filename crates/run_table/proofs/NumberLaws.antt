@@ -8,6 +8,7 @@
 --     tabulate-append, tabulate-more           one after another; one entry more
 --     any-none, any-some, none-of              `any`, by the entries of the list
 --     anyBelow-more, anyBelow-found, none-below          `anyBelow`, as a loop finds it
+--     found-below                              an index that passes, where some index does
 --     any-tabulate, anyBelow-ext, anyBelow-or  one test in the other's terms
 -- Assumes nothing.
 use mathlib.Core.Bool.{Bool, true, false, _&&_, _||_, or-true, true≢false, false≢true}
@@ -213,17 +214,16 @@ none-below test n none k b = is-false (test k) refl
     is-false false e = refl
 
 -- an index that passes, where some index does
-Found : (ℕ → Bool) → ℕ → Type 0
+abbrev pub Found : (ℕ → Bool) → ℕ → Type 0
 Found test n = (k : ℕ) × (k < n) × (test k ≡ true)
 
 found-here : (test : ℕ → Bool) (n : ℕ) (r : Bool) → test n ≡ r → (r || anyBelow n test) ≡ true → (anyBelow n test ≡ true → Found test n) → Found test (suc n)
-unfolding Found
 found-here test n true here e below = (n, omega arith, here)
 found-here test n false here e below =
     let found = below e in
     (found .0, omega (arith, found .1), found .2)
 
-found-below : (test : ℕ → Bool) (n : ℕ) → anyBelow n test ≡ true → Found test n
+pub found-below : (test : ℕ → Bool) (n : ℕ) → anyBelow n test ≡ true → Found test n
 unfolding anyBelow
 found-below test zero e = absurd (false≢true e)
 found-below test (suc n) e = found-here test n (test n) refl e (found-below test n)
@@ -252,7 +252,6 @@ anyBelow-or a b (suc n) = ap (λ (r : Bool). (a n || b n) || r) (anyBelow-or a b
 -- a test over a list that is given by its entries
 module _ {A : Type 0} (test : A → Bool) (n : ℕ) (f : ℕ → A) where
   by-cases : (r : Bool) → anyBelow n (λ k. test (f k)) ≡ r → any test (tabulate n f) ≡ r
-  unfolding Found
   by-cases true e =
       let found = found-below (λ k. test (f k)) n e in
       let k = found .0 in

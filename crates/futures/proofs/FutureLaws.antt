@@ -1,0 +1,322 @@
+-- Laws of futures: what a list of steps keeps of the run that it starts from.
+--     end-well-formed                  the table at the end is well formed
+--     Grown, send-grown, checkpoint-grown    a send and a checkpoint keep every checkpoint and message, and receive late
+--     rolled-to, rolled-message        where a rollback moves a message, and what it makes of it
+--     moved-inside, moved-same, moved-order    the messages over one step
+--     still-there-count                a checkpoint that is still there is a checkpoint of the last table
+--     followed-inside, followed-same   a message that is still there is a message of the last table, with the sender, send number
+--                                      and receiver that it had
+--     followed-once, followed-order    it stands at one position, and messages that are still there keep their order
+--     end-append, still-there-append, followed-append    one future after another
+--     needs-checkpoint-later, needs-message-later        what a later future needs, the whole future needs
+--     needs-checkpoint-now, needs-message-now            the empty future needs what the table's own recovery line needs
+-- Assumes nothing.
+use mathlib.Core.Bool.{Bool, true, false, cond}
+use mathlib.Core.List.{List, [], _∷_, _++_}
+use mathlib.Core.Logic.{_↔_, _⊎_}
+use mathlib.Core.Path.{_≡_, refl, sym, ap, _∙_, subst, subst⁻¹}
+use Prim.Native.Nat.{ℕ, _≤_, _<_}
+use native.Mathlib.Decide.{decLt, ℕ-discrete}
+use native.Mathlib.Nat.{le-refl}
+use native.Mathlib.Omega.{arith}
+use lib.Dec.{eqb}
+use lib.ListN.{length, take}
+use Rattle.consistency.specs.Ceilings.{recoveryLine}
+use Rattle.consistency.specs.Lines.{AtOrBelow, at}
+use Rattle.futures.proofs.StepLaws.{checkpoint-grows, checkpoint-known, checkpoint-message, checkpoint-messages, checkpoint-waiting, putBack-receiver, putBack-sender, putBack-sent, receivedAt-listed, receivedAt-unlisted, rollback-count, rollback-message, rollback-order, rollback-place, send-count, send-message-new, send-message-old, send-messages, step-cases, step-well-formed}
+use Rattle.futures.specs.Futures.{FollowedTo, Future, NeedsCheckpoint, NeedsMessage, Place, StepKeeps, StillThere, at-position, endOf, gone, moved, placeOf}
+use Rattle.futures.specs.Steps.{Step, afterCheckpoint, afterRollback, afterSend, checkpoint, checkpointChecks, putBack, receivedAt, remaining, rollback, send, sendChecks, stays, step, unlessCaught}
+use Rattle.run_table.proofs.FormatLaws.{count-beyond, message-beyond}
+use Rattle.run_table.specs.Checks.{Check, WellFormed, firstCaught}
+use Rattle.run_table.specs.Numbers.{any}
+use Rattle.run_table.specs.Table.{Message, Table, countOf, messageCount, messageOf, processCount}
+
+pub end-well-formed : (t : Table) → WellFormed t → (future : Future) → WellFormed (endOf t future)
+unfolding endOf
+end-well-formed t w [] = w
+end-well-formed t w (s ∷ rest) = end-well-formed (step t s) (step-well-formed t w s) rest
+
+-- ---- one step
+-- a process that has a checkpoint is one of the table's
+pub known-process : (t : Table) (i c : ℕ) → c < countOf t i → i < processCount t
+known-process t i c b = go (decLt i (processCount t))
+  where
+    go : Dec (i < processCount t) → i < processCount t
+    go (yes l) = l
+    go (no l) = absurd (omega (arith, count-beyond t i (omega arith)))
+
+-- A message after a step, or after several, is the one that it was but for its receipt.
+pub record SameMessage (m m′ : Message) : Type 0 where
+  pub sender-same : m′ .sender ≡ m .sender
+  pub sent-same : m′ .sent ≡ m .sent
+  pub receiver-same : m′ .receiver ≡ m .receiver
+
+pub same-refl : (m : Message) → SameMessage m m
+same-refl m = record { sender-same = refl; sent-same = refl; receiver-same = refl }
+
+-- How a message goes on in a send or a checkpoint: it is received at most once, and after every checkpoint that there was.
+pub record GoesOn (t : Table) (m m′ : Message) : Type 0 where
+  pub same : SameMessage m m′
+  pub received-stay : 0 < m .received → m′ ≡ m
+  pub received-late : m .received ≡ 0 → 0 < m′ .received → countOf t (m′ .receiver) ≤ m′ .received
+
+-- What a send and a checkpoint do: they keep every checkpoint, and every message at its position; new messages are undelivered.
+pub record Grown (t t′ : Table) : Type 0 where
+  pub counts-grow : AtOrBelow (countOf t) (countOf t′)
+  pub messages-grow : messageCount t ≤ messageCount t′
+  pub messages-go-on : (k : ℕ) → k < messageCount t → GoesOn t (messageOf t k) (messageOf t′ k)
+  pub new-undelivered : (k : ℕ) → messageCount t ≤ k → messageOf t′ k .received ≡ 0
+
+module _ (t : Table) where
+  unchanged : (m : Message) → GoesOn t m m
+  unchanged m = record { same = same-refl m; received-stay = λ _. refl; received-late = λ e d. absurd (omega arith) }
+
+  pub beyond-undelivered : (k : ℕ) → messageCount t ≤ k → messageOf t k .received ≡ 0
+  beyond-undelivered k l = ap (λ (m : Message). m .received) (message-beyond t k l)
+
+  table-grown : Grown t t
+  table-grown = record {
+    counts-grow = λ p. le-refl (countOf t p);
+    messages-grow = le-refl (messageCount t);
+    messages-go-on = λ k l. unchanged (messageOf t k);
+    new-undelivered = beyond-undelivered;
+  }
+
+module _ (t : Table) where
+  pub send-grown : (j i : ℕ) → Grown t (step t (send j i))
+  unfolding step
+  send-grown j i = step-cases (sendChecks t j i) (afterSend t j i) t (Grown t) (λ _. record {
+    counts-grow = λ p. omega (arith, send-count t j i p);
+    messages-grow = omega (arith, send-messages t j i);
+    messages-go-on = λ k l. subst⁻¹ (GoesOn t (messageOf t k)) (send-message-old t j i k l) (unchanged t (messageOf t k));
+    new-undelivered = λ k l. new k l (ℕ-discrete k (messageCount t));
+  }) (table-grown t)
+    where
+      new : (k : ℕ) → messageCount t ≤ k → Dec (k ≡ messageCount t) → messageOf (afterSend t j i) k .received ≡ 0
+      new k l (yes e) = ap (λ (m : Message). m .received) (ap (messageOf (afterSend t j i)) e ∙ send-message-new t j i)
+      new k l (no e) = beyond-undelivered (afterSend t j i) k (omega (arith, send-messages t j i))
+
+  pub checkpoint-grown : (i : ℕ) (list : List ℕ) → Grown t (step t (checkpoint i list))
+  unfolding step
+  checkpoint-grown i list = step-cases (checkpointChecks t i list) (afterCheckpoint t i list) t (Grown t) (λ quiet. record {
+    counts-grow = λ p. checkpoint-grows t i list (checkpoint-known t i list quiet) p;
+    messages-grow = omega (arith, checkpoint-messages t i list);
+    messages-go-on = λ k l. subst⁻¹ (GoesOn t (messageOf t k)) (checkpoint-message t i list k l) (goes-on quiet k (any (eqb k) list) refl);
+    new-undelivered = λ k l. beyond-undelivered (afterCheckpoint t i list) k (omega (arith, checkpoint-messages t i list));
+  }) (table-grown t)
+    where
+      goes-on : firstCaught (checkpointChecks t i list) ≡ 0 → (k : ℕ) (listed : Bool) → any (eqb k) list ≡ listed → GoesOn t (messageOf t k) (receivedAt t i list k)
+      goes-on quiet k true e =
+          let waits = checkpoint-waiting t i list quiet k e in
+          subst⁻¹ (GoesOn t (messageOf t k)) (receivedAt-listed t i list k e) (record {
+            same = record { sender-same = refl; sent-same = refl; receiver-same = refl };
+            received-stay = λ d. absurd (omega (arith, waits .undelivered));
+            received-late = λ _ _. subst⁻¹ (λ (p : ℕ). countOf t p ≤ countOf t i) (waits .to-process) (le-refl (countOf t i));
+          })
+      goes-on quiet k false e = subst⁻¹ (GoesOn t (messageOf t k)) (receivedAt-unlisted t i list k e) (unchanged t (messageOf t k))
+
+-- a checkpoint that a step keeps is one of the table after it
+pub step-keeps-count : (t : Table) (s : Step) (i c : ℕ) → c < countOf t i → StepKeeps t s i c → c < countOf (step t s) i
+unfolding StepKeeps
+step-keeps-count t (send j i′) i c b keeps = omega (arith, send-grown t j i′ .counts-grow i)
+step-keeps-count t (checkpoint i′ list) i c b keeps = omega (arith, checkpoint-grown t i′ list .counts-grow i)
+step-keeps-count t rollback i c b keeps = unfold step in omega (arith, rollback-count t i (known-process t i c b))
+
+-- ---- where a step moves a message
+-- The message at position k is at position n after the step.
+abbrev pub MovedTo : Table → Step → ℕ → ℕ → Type 0
+MovedTo t s k n = moved t s k ≡ at-position n
+
+pub same-position : (k n : ℕ) → at-position k ≡ at-position n → k ≡ n
+same-position k n e = cc
+
+-- a rollback moves a message that stays to the number of those before it that stay
+pub record RolledTo (t : Table) (k n : ℕ) : Type 0 where
+  pub stayed : stays (recoveryLine t) (messageOf t k) ≡ true
+  pub position : length (remaining (recoveryLine t) (take k (t .messages))) ≡ n
+
+pub rolled-to : (t : Table) (k n : ℕ) → MovedTo t rollback k n → RolledTo t k n
+unfolding moved
+rolled-to t k n e = go (stays (recoveryLine t) (messageOf t k)) refl e
+  where
+    place : ℕ
+    place = length (remaining (recoveryLine t) (take k (t .messages)))
+
+    go : (b : Bool) → stays (recoveryLine t) (messageOf t k) ≡ b → cond b (at-position place) gone ≡ at-position n → RolledTo t k n
+    go true h x = record { stayed = h; position = same-position place n x }
+    go false h x =
+        let z : _≡_ {A = ℕ} 0 1 = cc in
+        absurd (omega arith)
+
+-- a message that a step leaves in the table
+module _ (t : Table) where
+  module _ (t′ : Table) (g : Grown t t′) (k n : ℕ) (e : at-position k ≡ at-position n) (l : k < messageCount t) where
+    kept-inside : n < messageCount t′
+    kept-inside = omega (arith, same-position k n e, g .messages-grow)
+
+    kept-same : SameMessage (messageOf t k) (messageOf t′ n)
+    kept-same = subst (λ (x : ℕ). SameMessage (messageOf t k) (messageOf t′ x)) (same-position k n e) (g .messages-go-on k l .same)
+
+  pub moved-inside : (s : Step) (k n : ℕ) → k < messageCount t → MovedTo t s k n → n < messageCount (step t s)
+  unfolding moved
+  moved-inside (send j i) k n l e = kept-inside (step t (send j i)) (send-grown t j i) k n e l
+  moved-inside (checkpoint i list) k n l e = kept-inside (step t (checkpoint i list)) (checkpoint-grown t i list) k n e l
+  moved-inside rollback k n l e =
+      let to = rolled-to t k n e in
+      unfold step in subst (λ (x : ℕ). x < messageCount (afterRollback t)) (to .position) (rollback-place t k l (to .stayed))
+
+  pub rolled-message : (k n : ℕ) → k < messageCount t → RolledTo t k n → messageOf (step t rollback) n ≡ putBack (recoveryLine t) (messageOf t k)
+  unfolding step
+  rolled-message k n l to = ap (messageOf (afterRollback t)) (sym (to .position)) ∙ rollback-message t k l (to .stayed)
+
+  pub moved-same : (s : Step) (k n : ℕ) → k < messageCount t → MovedTo t s k n → SameMessage (messageOf t k) (messageOf (step t s) n)
+  unfolding moved
+  moved-same (send j i) k n l e = kept-same (step t (send j i)) (send-grown t j i) k n e l
+  moved-same (checkpoint i list) k n l e = kept-same (step t (checkpoint i list)) (checkpoint-grown t i list) k n e l
+  moved-same rollback k n l e = subst⁻¹ (SameMessage m) (rolled-message k n l (rolled-to t k n e)) (record {
+    sender-same = putBack-sender (recoveryLine t) m;
+    sent-same = putBack-sent (recoveryLine t) m;
+    receiver-same = putBack-receiver (recoveryLine t) m;
+  })
+    where
+      m : Message
+      m = messageOf t k
+
+  pub moved-order : (s : Step) (a b a′ b′ : ℕ) → a < b → b < messageCount t → MovedTo t s a a′ → MovedTo t s b b′ → a′ < b′
+  unfolding moved
+  moved-order (send j i) a b a′ b′ h l e f = omega (arith, same-position a a′ e, same-position b b′ f)
+  moved-order (checkpoint i list) a b a′ b′ h l e f = omega (arith, same-position a a′ e, same-position b b′ f)
+  moved-order rollback a b a′ b′ h l e f =
+      let to = rolled-to t a a′ e in
+      omega (arith, to .position, rolled-to t b b′ f .position, rollback-order t a (omega arith) (to .stayed) b h)
+
+-- ---- a future, one step at a time
+pub gone-stays : (t : Table) (future : Future) → placeOf t future gone ≡ gone
+unfolding placeOf
+gone-stays t [] = refl
+gone-stays t (s ∷ rest) = refl
+
+pub followed-here : (t : Table) (k n : ℕ) → FollowedTo t [] k n → k ≡ n
+unfolding FollowedTo placeOf
+followed-here t k n e = same-position k n e
+
+-- a message that is still there at the end is there after the first step
+pub followed-first : (t : Table) (s : Step) (rest : Future) (k k′ : ℕ) → FollowedTo t (s ∷ rest) k k′
+    → (n : ℕ) × MovedTo t s k n × FollowedTo (step t s) rest n k′
+unfolding FollowedTo placeOf
+followed-first t s rest k k′ e = go (moved t s k) refl e
+  where
+    go : (place : Place) → moved t s k ≡ place → placeOf (step t s) rest place ≡ at-position k′
+        → (n : ℕ) × MovedTo t s k n × (placeOf (step t s) rest (at-position n) ≡ at-position k′)
+    go (at-position n) m f = (n, m, f)
+    go gone m f =
+        let gone-there : placeOf (step t s) rest gone ≡ gone = gone-stays (step t s) rest in
+        let z : _≡_ {A = ℕ} 0 1 = cc in
+        absurd (omega arith)
+
+-- ---- what is still there
+pub still-there-count : (t : Table) (future : Future) (i c : ℕ) → c < countOf t i → StillThere t future i c → c < countOf (endOf t future) i
+unfolding StillThere endOf
+still-there-count t [] i c b still = b
+still-there-count t (s ∷ rest) i c b still = still-there-count (step t s) rest i c (step-keeps-count t s i c b (still .0)) (still .1)
+
+pub followed-inside : (t : Table) (future : Future) (k k′ : ℕ) → k < messageCount t → FollowedTo t future k k′ → k′ < messageCount (endOf t future)
+unfolding endOf
+followed-inside t [] k k′ l e = omega (arith, followed-here t k k′ e)
+followed-inside t (s ∷ rest) k k′ l e =
+    let first = followed-first t s rest k k′ e in
+    followed-inside (step t s) rest (first .0) k′ (moved-inside t s k (first .0) l (first .1)) (first .2)
+
+pub followed-same : (t : Table) (future : Future) (k k′ : ℕ) → k < messageCount t → FollowedTo t future k k′
+    → SameMessage (messageOf t k) (messageOf (endOf t future) k′)
+unfolding endOf
+followed-same t [] k k′ l e = subst (λ (n : ℕ). SameMessage (messageOf t k) (messageOf t n)) (followed-here t k k′ e) (same-refl (messageOf t k))
+followed-same t (s ∷ rest) k k′ l e =
+    let first = followed-first t s rest k k′ e in
+    let n = first .0 in
+    let here : SameMessage (messageOf t k) (messageOf (step t s) n) = moved-same t s k n l (first .1) in
+    let later : SameMessage (messageOf (step t s) n) (messageOf (endOf (step t s) rest) k′) =
+    followed-same (step t s) rest n k′ (moved-inside t s k n l (first .1)) (first .2)
+    in
+    record {
+      sender-same = later .sender-same ∙ here .sender-same;
+      sent-same = later .sent-same ∙ here .sent-same;
+      receiver-same = later .receiver-same ∙ here .receiver-same;
+    }
+
+pub followed-once : (t : Table) (future : Future) (k a b : ℕ) → FollowedTo t future k a → FollowedTo t future k b → a ≡ b
+unfolding FollowedTo
+followed-once t future k a b e f = same-position a b (sym e ∙ f)
+
+pub followed-order : (t : Table) (future : Future) (a b a′ b′ : ℕ) → a < b → b < messageCount t → FollowedTo t future a a′ → FollowedTo t future b b′ → a′ < b′
+followed-order t [] a b a′ b′ h l e f = omega (arith, followed-here t a a′ e, followed-here t b b′ f)
+followed-order t (s ∷ rest) a b a′ b′ h l e f =
+    let x = followed-first t s rest a a′ e in
+    let y = followed-first t s rest b b′ f in
+    followed-order (step t s) rest (x .0) (y .0) a′ b′ (moved-order t s a b (x .0) (y .0) h l (x .1) (y .1)) (moved-inside t s b (y .0) l (y .1)) (x .2) (y .2)
+
+-- ---- one future after another
+pub end-append : (t : Table) (first later : Future) → endOf t (first ++ later) ≡ endOf (endOf t first) later
+unfolding endOf
+end-append t [] later = refl
+end-append t (s ∷ rest) later = end-append (step t s) rest later
+
+pub still-there-append : (t : Table) (first later : Future) (i c : ℕ)
+    → StillThere t (first ++ later) i c ↔ (StillThere t first i c × StillThere (endOf t first) later i c)
+unfolding StillThere endOf
+still-there-append t [] later i c = (λ h. (tt, h), λ h. h .1)
+still-there-append t (s ∷ rest) later i c =
+    let rest-of = still-there-append (step t s) rest later i c in
+    (λ h. ((h .0, rest-of .0 (h .1) .0), rest-of .0 (h .1) .1), λ h. (h .0 .0, rest-of .1 (h .0 .1, h .1)))
+
+pub place-append : (t : Table) (first later : Future) (place : Place) → placeOf t (first ++ later) place ≡ placeOf (endOf t first) later (placeOf t first place)
+unfolding placeOf endOf
+place-append t [] later place = refl
+place-append t (s ∷ rest) later (at-position k) = place-append (step t s) rest later (moved t s k)
+place-append t (s ∷ rest) later gone = sym (gone-stays (endOf (step t s) rest) later)
+
+pub followed-append : (t : Table) (first later : Future) (k k′ k″ : ℕ) → FollowedTo t first k k′ → FollowedTo (endOf t first) later k′ k″
+    → FollowedTo t (first ++ later) k k″
+unfolding FollowedTo
+followed-append t first later k k′ k″ e f = place-append t first later (at-position k) ∙ ap (placeOf (endOf t first) later) e ∙ f
+
+module _ (t : Table) (first later : Future) where
+  pub needs-checkpoint-later : (i c : ℕ) → c < countOf t i → StillThere t first i c → NeedsCheckpoint (endOf t first) later i c → NeedsCheckpoint t (first ++ later) i c
+  needs-checkpoint-later i c b still needs = record {
+    a-checkpoint = b;
+    still-there = still-there-append t first later i c .1 (still, needs .still-there);
+    on-the-line = ap (λ (x : Table). at (recoveryLine x) i) (end-append t first later) ∙ needs .on-the-line;
+  }
+
+  pub needs-message-later : (k k′ : ℕ) → k < messageCount t → FollowedTo t first k k′ → NeedsMessage (endOf t first) later k′ → NeedsMessage t (first ++ later) k
+  needs-message-later k k′ l still needs = record {
+    a-message = l;
+    position = n;
+    still-there = followed-append t first later k k′ n still (needs .still-there);
+    sent-before = subst⁻¹ (λ (x : Table). messageOf x n .sent < at (recoveryLine x) (messageOf x n .sender)) (end-append t first later) (needs .sent-before);
+    not-received = subst⁻¹ (λ (x : Table). (messageOf x n .received ≡ 0) ⊎ (at (recoveryLine x) (messageOf x n .receiver) < messageOf x n .received))
+        (end-append t first later) (needs .not-received);
+  }
+    where
+      n : ℕ
+      n = needs .position
+
+-- ---- the empty future
+pub needs-checkpoint-now : (t : Table) (i c : ℕ) → NeedsCheckpoint t [] i c ↔ ((c < countOf t i) × (at (recoveryLine t) i ≡ c))
+unfolding StillThere endOf
+needs-checkpoint-now t i c = (λ n. (n .a-checkpoint, n .on-the-line), λ h. record { a-checkpoint = h .0; still-there = tt; on-the-line = h .1 })
+
+pub needs-message-now : (t : Table) (k : ℕ)
+    → NeedsMessage t [] k
+    ↔ ((k < messageCount t) × (messageOf t k .sent < at (recoveryLine t) (messageOf t k .sender))
+    × ((messageOf t k .received ≡ 0) ⊎ (at (recoveryLine t) (messageOf t k .receiver) < messageOf t k .received)))
+unfolding FollowedTo placeOf endOf
+needs-message-now t k = (
+  λ n.
+      let here : n .position ≡ k = sym (followed-here t k (n .position) (n .still-there)) in (
+        n .a-message,
+        subst (λ (x : ℕ). messageOf t x .sent < at (recoveryLine t) (messageOf t x .sender)) here (n .sent-before),
+        subst (λ (x : ℕ). (messageOf t x .received ≡ 0) ⊎ (at (recoveryLine t) (messageOf t x .receiver) < messageOf t x .received)) here (n .not-received),
+      ),
+  λ h. record { a-message = h .0; position = k; still-there = refl; sent-before = h .1; not-received = h .2 },
+)

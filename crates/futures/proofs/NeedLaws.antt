@@ -1,0 +1,190 @@
+-- What lies on a held line, or is open over one, did so before every step. So whatever a future needs lies on a held line of the
+-- first table, or is open over one, and is on its sheet.
+--     on-held-kept, kept-on-held          a checkpoint lies on a held line just when the sheet keeps it
+--     open-kept, kept-open                a message is open over a held line just when the sheet keeps it
+--     checkpoint-back, message-back       over one step
+--     checkpoint-all-back, message-all-back    over a future
+--     checkpoint-need-kept, message-need-kept  what a future needs is kept
+-- Assumes nothing.
+use mathlib.Core.Bool.{true}
+use mathlib.Core.List.{[], _∷_}
+use mathlib.Core.Logic.{_⊎_, inl, inr}
+use mathlib.Core.Path.{_≡_, _∙_, subst, subst⁻¹}
+use Prim.Native.Nat.{ℕ, _≤_, _<_, min}
+use native.Mathlib.Decide.{decLt, ℕ-discrete}
+use native.Mathlib.Omega.{arith}
+use Rattle.consistency.specs.Ceilings.{recoveryLine, single}
+use Rattle.consistency.specs.Lines.{AtOrBelow, Line, at}
+use Rattle.futures.proofs.FutureLaws.{Grown, MovedTo, checkpoint-grown, followed-first, followed-here, moved-inside, rolled-message, rolled-to, same-position, send-grown, step-keeps-count}
+use Rattle.futures.proofs.HeldLaws.{Held, held-above, held-attained, held-before, set-held}
+use Rattle.futures.proofs.SheetLaws.{Across, HolderWith, keeps-checkpoint, keeps-message}
+use Rattle.futures.proofs.StepLaws.{putBack-before, recovery-latest, rollback-line, stays-sent, step-well-formed}
+use Rattle.futures.specs.Futures.{FollowedTo, Future, NeedsCheckpoint, NeedsMessage, StepKeeps, StillThere, at-position, endOf, moved}
+use Rattle.futures.specs.Sheet.{holderLine, keepsCheckpoint, keepsMessage}
+use Rattle.futures.specs.Steps.{Step, afterRollback, checkpoint, putBack, rollback, send, step}
+use Rattle.run_table.specs.Checks.{WellFormed}
+use Rattle.run_table.specs.Table.{Message, Table, countOf, messageCount, messageOf}
+
+-- Checkpoint c of process i lies on a held line.
+pub record OnHeld (t : Table) (i c : ℕ) : Type 0 where
+  pub line : Line
+  pub held : Held t line
+  pub on-line : line i ≡ c
+
+-- A message crosses a held line.
+pub record AcrossHeld (t : Table) (m : Message) : Type 0 where
+  pub line : Line
+  pub held : Held t line
+  pub across : Across m line
+
+-- A message is open: it is undelivered, or it crosses a held line.
+abbrev pub Open : Table → Message → Type 0
+Open t m = (m .received ≡ 0) ⊎ AcrossHeld t m
+
+pub recovery-held : (t : Table) → Held t (at (recoveryLine t))
+unfolding recoveryLine
+recovery-held t = set-held t (λ p. true)
+
+holder-held : (t : Table) (k : ℕ) → Held t (at (holderLine t k))
+unfolding holderLine
+holder-held t k = set-held t (single k)
+
+-- ---- what the sheet keeps
+module _ (t : Table) where
+  pub kept-on-held : (i c : ℕ) → keepsCheckpoint t i c ≡ true → OnHeld t i c
+  kept-on-held i c e =
+      let holder = keeps-checkpoint t i c .0 e .1 in
+      record { line = at (holderLine t (holder .0)); held = holder-held t (holder .0); on-line = holder .2 }
+
+  pub kept-open : (m : Message) → keepsMessage t m ≡ true → Open t m
+  kept-open m e = go (keeps-message t m .0 e)
+    where
+      go : (m .received ≡ 0) ⊎ HolderWith t (λ l. Across m (at l)) → Open t m
+      go (inl waits) = inl waits
+      go (inr h) = inr (record { line = at (holderLine t (h .0)); held = holder-held t (h .0); across = h .2 })
+
+  module _ (w : WellFormed t) where
+    pub on-held-kept : (i c : ℕ) → c < countOf t i → OnHeld t i c → keepsCheckpoint t i c ≡ true
+    on-held-kept i c b on =
+        let one = held-attained t (on .line) (on .held) w i (omega (arith, on .on-line)) in
+        keeps-checkpoint t i c .1 (b, (one .0, one .1, one .2 ∙ on .on-line))
+
+    -- it was received before the count of its receiver, so the line there is below the count, and is some single holder's
+    pub open-kept : (k : ℕ) → k < messageCount t → Open t (messageOf t k) → keepsMessage t (messageOf t k) ≡ true
+    open-kept k l (inl waits) = keeps-message t (messageOf t k) .1 (inl waits)
+    open-kept k l (inr a) =
+        let m = messageOf t k in
+        let one = held-attained t (a .line) (a .held) w (m .receiver) (omega (arith, a .across .1, w .good-messages k l .received-below)) in
+        keeps-message t m .1 (inr (one .0, one .1, (omega (arith, a .across .0, one .3 (m .sender)), omega (arith, a .across .1, one .2))))
+
+-- ---- before a send or a checkpoint
+module _ (t t′ : Table) (w : WellFormed t) (g : Grown t t′) where
+  grown-checkpoint : (i c : ℕ) → c < countOf t i → OnHeld t′ i c → OnHeld t i c
+  grown-checkpoint i c b on = record {
+    line = λ p. min (on .line p) (countOf t p);
+    held = held-before t t′ w g (on .line) (on .held);
+    on-line = omega (arith, on .on-line);
+  }
+
+  grown-message : (k : ℕ) → k < messageCount t → Open t′ (messageOf t′ k) → Open t (messageOf t k)
+  grown-message k l open′ = go (ℕ-discrete (messageOf t k .received) 0)
+    where
+      same : Open t′ (messageOf t k) → (messageOf t k .received ≡ 0 → ⊥) → Open t (messageOf t k)
+      same (inl waits) d = inl waits
+      same (inr a) d = inr (record {
+        line = λ p. min (a .line p) (countOf t p);
+        held = held-before t t′ w g (a .line) (a .held);
+        across = (omega (arith, a .across .0, w .good-messages k l .sent-below), omega (arith, a .across .1));
+      })
+
+      go : Dec (messageOf t k .received ≡ 0) → Open t (messageOf t k)
+      go (yes waits) = inl waits
+      go (no d) = same (subst (Open t′) (g .messages-go-on k l .received-stay (omega arith)) open′) d
+
+-- ---- before a rollback
+module _ (t : Table) where
+  -- the recovery line is one of checkpoints that are still there, and consistent, so no held line is lower
+  above-recovery : (l : Line) → Held (afterRollback t) l → AtOrBelow (at (recoveryLine t)) l
+  above-recovery l h p =
+      let after = recovery-latest (afterRollback t) in
+      omega (arith, rollback-line t p, held-above (afterRollback t) l (at (recoveryLine (afterRollback t))) h (after .consistent) (after .under) p)
+
+  rolled-checkpoint : (i c : ℕ) → c ≤ at (recoveryLine t) i → OnHeld (afterRollback t) i c → OnHeld t i c
+  rolled-checkpoint i c keeps on = record {
+    line = at (recoveryLine t);
+    held = recovery-held t;
+    on-line = omega (arith, on .on-line, above-recovery (on .line) (on .held) i);
+  }
+
+  -- one that is put back crosses the recovery line; any other was received at or before it, and crosses no held line
+  rolled-open : (m : Message) → m .sent < at (recoveryLine t) (m .sender) → Open (afterRollback t) (putBack (recoveryLine t) m) → Open t m
+  rolled-open m sent-before open′ = go (decLt (at (recoveryLine t) (m .receiver)) (m .received))
+    where
+      received : m .received ≤ at (recoveryLine t) (m .receiver) → Open (afterRollback t) m → Open t m
+      received b (inl waits) = inl waits
+      received b (inr a) = absurd (omega (arith, a .across .1, above-recovery (a .line) (a .held) (m .receiver)))
+
+      go : Dec (at (recoveryLine t) (m .receiver) < m .received) → Open t m
+      go (yes b) = inr (record { line = at (recoveryLine t); held = recovery-held t; across = (sent-before, b) })
+      go (no b) = received (omega arith) (subst (Open (afterRollback t)) (putBack-before (recoveryLine t) m (omega arith)) open′)
+
+-- ---- before any step
+module _ (t : Table) (w : WellFormed t) where
+  pub checkpoint-back : (s : Step) (i c : ℕ) → c < countOf t i → StepKeeps t s i c → OnHeld (step t s) i c → OnHeld t i c
+  unfolding StepKeeps
+  checkpoint-back (send j i′) i c b keeps on = grown-checkpoint t (step t (send j i′)) w (send-grown t j i′) i c b on
+  checkpoint-back (checkpoint i′ list) i c b keeps on = grown-checkpoint t (step t (checkpoint i′ list)) w (checkpoint-grown t i′ list) i c b on
+  checkpoint-back rollback i c b keeps on = unfold step in rolled-checkpoint t i c keeps on
+
+  grown-back : (t′ : Table) → Grown t t′ → (k n : ℕ) → at-position k ≡ at-position n → k < messageCount t → Open t′ (messageOf t′ n) → Open t (messageOf t k)
+  grown-back t′ g k n e l open′ = grown-message t t′ w g k l (subst⁻¹ (λ (x : ℕ). Open t′ (messageOf t′ x)) (same-position k n e) open′)
+
+  pub message-back : (s : Step) (k n : ℕ) → k < messageCount t → MovedTo t s k n → Open (step t s) (messageOf (step t s) n) → Open t (messageOf t k)
+  unfolding moved
+  message-back (send j i) k n l e open′ = grown-back (step t (send j i)) (send-grown t j i) k n e l open′
+  message-back (checkpoint i list) k n l e open′ = grown-back (step t (checkpoint i list)) (checkpoint-grown t i list) k n e l open′
+  message-back rollback k n l e open′ =
+      let to = rolled-to t k n e in
+      unfold step in rolled-open t (messageOf t k) (stays-sent (recoveryLine t) (messageOf t k) (to .stayed))
+      (subst (Open (step t rollback)) (rolled-message t k n l to) open′)
+
+-- ---- before any future
+pub checkpoint-all-back : (t : Table) → WellFormed t → (future : Future) (i c : ℕ) → c < countOf t i → StillThere t future i c
+    → OnHeld (endOf t future) i c → OnHeld t i c
+unfolding StillThere endOf
+checkpoint-all-back t w [] i c b still on = on
+checkpoint-all-back t w (s ∷ rest) i c b still on =
+    checkpoint-back t w s i c b (still .0)
+    (checkpoint-all-back (step t s) (step-well-formed t w s) rest i c (step-keeps-count t s i c b (still .0)) (still .1) on)
+
+pub message-all-back : (t : Table) → WellFormed t → (future : Future) (k k′ : ℕ) → k < messageCount t → FollowedTo t future k k′
+    → Open (endOf t future) (messageOf (endOf t future) k′) → Open t (messageOf t k)
+unfolding endOf
+message-all-back t w [] k k′ l e open′ = subst⁻¹ (λ (n : ℕ). Open t (messageOf t n)) (followed-here t k k′ e) open′
+message-all-back t w (s ∷ rest) k k′ l e open′ =
+    let first = followed-first t s rest k k′ e in
+    message-back t w s k (first .0) l (first .1)
+    (message-all-back (step t s) (step-well-formed t w s) rest (first .0) k′ (moved-inside t s k (first .0) l (first .1)) (first .2) open′)
+
+-- what a future needs lies on the recovery line of its end, or is open over it
+module _ (t : Table) (w : WellFormed t) (future : Future) where
+  pub checkpoint-need-kept : (i c : ℕ) → NeedsCheckpoint t future i c → keepsCheckpoint t i c ≡ true
+  checkpoint-need-kept i c needs =
+      on-held-kept t w i c (needs .a-checkpoint)
+      (checkpoint-all-back t w future i c (needs .a-checkpoint) (needs .still-there)
+      (record { line = at (recoveryLine (endOf t future)); held = recovery-held (endOf t future); on-line = needs .on-the-line }))
+
+  pub message-need-kept : (k : ℕ) → NeedsMessage t future k → keepsMessage t (messageOf t k) ≡ true
+  message-need-kept k needs =
+      open-kept t w k (needs .a-message)
+      (message-all-back t w future k (needs .position) (needs .a-message) (needs .still-there) (go (needs .not-received)))
+    where
+      E : Table
+      E = endOf t future
+
+      m : Message
+      m = messageOf E (needs .position)
+
+      go : (m .received ≡ 0) ⊎ (at (recoveryLine E) (m .receiver) < m .received) → Open E m
+      go (inl waits) = inl waits
+      go (inr late) = inr (record { line = at (recoveryLine E); held = recovery-held E; across = (needs .sent-before, late) })

@@ -1,0 +1,19 @@
+-- Demand 3 (document 01, "The keep sheet"): what any future needs is on the sheet, and what is on the sheet some future needs.
+-- Assumes nothing.
+use mathlib.Core.List.{List}
+use mathlib.Core.Logic.{_↔_}
+use mathlib.Core.Path.{_≡_}
+use Prim.Native.Nat.{ℕ, _<_}
+use lib.ListN.{length, getD}
+use Rattle.futures.specs.Futures.{CheckpointNeeded, MessageNeeded}
+use Rattle.futures.specs.Sheet.{Kept, keptCheckpoints, keptMessages}
+use Rattle.run_table.specs.Table.{Table}
+
+-- An entry is listed where it stands at some position of the list.
+unfoldable pub Listed : {A : Type 0} → A → List A → Type 0
+Listed x l = (n : ℕ) × (n < length l) × (getD l n x ≡ x)
+
+-- Checkpoint c of process i is listed just when some future needs it, and the message at position k just when some future needs it.
+pub record Demand3 (t : Table) : Type 0 where
+  pub checkpoints : (i c : ℕ) → Listed {A = Kept} (record { process = i; state = c }) (keptCheckpoints t) ↔ CheckpointNeeded t i c
+  pub messages : (k : ℕ) → Listed k (keptMessages t) ↔ MessageNeeded t k
