@@ -1,5 +1,6 @@
 -- Numbers written to the front of a buffer, one after another, by a loop.
---     put-next, put-length            bytes put after those that were put to the front of a buffer
+--     Front, front-first, front-next  bytes put to the front of a buffer, and further ones after them
+--     numbers-size                    the length of numbers, as bytes
 --     Written                         the loop's invariant
 --     written-none, written-more, written-all    how it begins, goes on and ends
 -- Assumes nothing.
@@ -8,19 +9,30 @@ use mathlib.Core.Path.{_≡_, refl, sym, ap, ap₂, _∙_, subst}
 use Prim.Native.Nat.{ℕ, _+_, _*_, _≤_, _<_, zero-le}
 use native.Mathlib.Nat.{le-antisymm, zero-add}
 use native.Mathlib.Omega.{arith}
-use lib.ListN.{length}
+use lib.ListN.{length, length-append}
 use Rattle.run_table.proofs.NumberLaws.{length-putAt, length-tabulate, length-u16s, putAt-more, putAt-none, tabulate-more, u16s-append}
 use Rattle.run_table.specs.Numbers.{putAt, tabulate, u16Bytes, u16s}
 
--- what was put to the front of a buffer goes on at its end
-pub put-next : (before after later xs ys : List ℕ) (at : ℕ) → after ≡ putAt before 0 xs → at ≡ length xs → later ≡ putAt after at ys
-    → length xs + length ys ≤ length before → later ≡ putAt before 0 (xs ++ ys)
-put-next before after later xs ys at put place more fits =
-    more ∙ ap₂ (λ (b : List ℕ) (i : ℕ). putAt b i ys) put (place ∙ sym (zero-add (length xs))) ∙ putAt-more before 0 xs ys (omega arith)
+-- Bytes stand at the front of a buffer, up to a place, and the rest of it is as it was.
+pub record Front (before after bytes : List ℕ) (at : ℕ) : Type 0 where
+  pub put : after ≡ putAt before 0 bytes
+  pub size : length bytes ≡ at
 
--- a buffer keeps its length
-pub put-length : (before after xs : List ℕ) → after ≡ putAt before 0 xs → length xs ≤ length before → length after ≡ length before
-put-length before after xs put fits = ap length put ∙ length-putAt before 0 xs (omega arith)
+pub front-first : (before after bytes : List ℕ) (at : ℕ) → after ≡ putAt before 0 bytes → length bytes ≡ at → Front before after bytes at
+front-first before after bytes at put size = record { put = put; size = size }
+
+-- further bytes, put where the last ones end
+pub front-next : {before after bytes : List ℕ} {at : ℕ} → Front before after bytes at → (later more : List ℕ) (next : ℕ) → later ≡ putAt after at more
+    → length more + at ≡ next → next ≤ length before → Front before later (bytes ++ more) next
+front-next {before} {after} {bytes} {at} f later more next put size fits = record {
+  put = put ∙ ap₂ (λ (b : List ℕ) (i : ℕ). putAt b i more) (f .put) (sym (f .size) ∙ sym (zero-add (length bytes)))
+      ∙ putAt-more before 0 bytes more (omega (arith, f .size));
+  size = omega (arith, length-append bytes more, f .size);
+}
+
+-- the length of numbers given by their entries, as bytes
+pub numbers-size : (n : ℕ) (f : ℕ → ℕ) → length (u16s (tabulate n f)) ≡ 2 * n
+numbers-size n f = length-u16s (tabulate n f) ∙ ap (λ (x : ℕ). 2 * x) (length-tabulate n f)
 
 -- The first k of n numbers of f stand from a place on, and the rest of the buffer is as it was.
 pub record Written (f : ℕ → ℕ) (n at : ℕ) (before after : List ℕ) (k : ℕ) : Type 0 where
@@ -34,9 +46,6 @@ unfolding tabulate u16s
 written-none f n at before room = record { within = zero-le; room = room; same-length = refl; contents = sym (putAt-none before at) }
 
 module _ (f : ℕ → ℕ) (n at : ℕ) (before after : List ℕ) (k : ℕ) (w : Written f n at before after k) where
-  size : (j : ℕ) → length (u16s (tabulate j f)) ≡ 2 * j
-  size j = length-u16s (tabulate j f) ∙ ap (λ (x : ℕ). 2 * x) (length-tabulate j f)
-
   one-more : (v : ℕ) → v ≡ f k → u16s (tabulate k f) ++ u16Bytes v ≡ u16s (tabulate (k + 1) f)
   unfolding u16s u16Bytes
   one-more v e = sym (ap u16s (tabulate-more k f) ∙ u16s-append (tabulate k f) (f k ∷ []) ∙ ap (λ (x : ℕ). u16s (tabulate k f) ++ u16Bytes x) (sym e))
@@ -48,8 +57,8 @@ module _ (f : ℕ → ℕ) (n at : ℕ) (before after : List ℕ) (k : ℕ) (w :
     room = w .room;
     same-length = length-putAt after (at + 2 * k) (u16Bytes v) (omega (arith, w .room, w .same-length)) ∙ w .same-length;
     contents =
-        ap₂ (λ (b : List ℕ) (i : ℕ). putAt b (at + i) (u16Bytes v)) (w .contents) (sym (size k))
-        ∙ putAt-more before at (u16s (tabulate k f)) (u16Bytes v) (omega (arith, w .room, size k)) ∙ ap (putAt before at) (one-more v e);
+        ap₂ (λ (b : List ℕ) (i : ℕ). putAt b (at + i) (u16Bytes v)) (w .contents) (sym (numbers-size k f))
+        ∙ putAt-more before at (u16s (tabulate k f)) (u16Bytes v) (omega (arith, w .room, numbers-size k f)) ∙ ap (putAt before at) (one-more v e);
   }
 
   -- number k was put at its place
