@@ -1,0 +1,20 @@
+-- The numbers that a checkpoint changes, as the code writes them from the parts of a table. Assumes nothing.
+use mathlib.Core.Bool.{cond}
+use mathlib.Core.List.{List, [], _∷_, _++_}
+use Prim.Native.Nat.{ℕ, zero, suc, _+_}
+use lib.Dec.{eqb}
+use Rattle.run_table.specs.Format.{checkpointAt, countAt, processAt}
+use Rattle.run_table.specs.Numbers.{any}
+
+-- Count p, one more at the process that takes the checkpoint.
+unfoldable pub raisedCount : List ℕ → ℕ → ℕ → ℕ
+raisedCount counts process p = cond (eqb p process) (countAt counts p + 1) (countAt counts p)
+
+-- The receipt number of entry k: the new one where k is listed.
+unfoldable pub newReceipt : List ℕ → List ℕ → ℕ → ℕ → ℕ
+newReceipt receipts list number k = cond (any (eqb k) list) number (checkpointAt receipts k)
+
+-- The numbers of the first m receipts, entry after entry.
+unfoldable pub receiptNumbers : ℕ → List ℕ → List ℕ → ℕ → List ℕ
+receiptNumbers zero receipts list number = []
+receiptNumbers (suc k) receipts list number = receiptNumbers k receipts list number ++ (processAt receipts k ∷ newReceipt receipts list number k ∷ [])

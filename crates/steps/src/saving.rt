@@ -1,0 +1,112 @@
+// Checkpoint (document 01: save): the listed messages are received, and the count of the process grows.
+use crate::copying::{copy_numbers, put_pair};
+use run_table::numbers::{put_u16, u16_at};
+use run_table::parts;
+ghost use mathlib.Core.Bool.{Bool, cond, _&&_, false};
+ghost use mathlib.Core.Path.{_≡_};
+ghost use Prim.Native.Nat.{ℕ, _+_, _*_, _<_, _≤_};
+ghost use lib.Dec.{eqb, ltb};
+ghost use lib.ListN.{getD, length};
+ghost use Rattle.futures.specs.Steps.{afterCheckpoint, badPosition, notRising};
+ghost use Rattle.run_table.specs.Checks.{tableRefusal};
+ghost use Rattle.run_table.specs.Format.{checkpointAt, countAt, decode, encode, processAt};
+ghost use Rattle.run_table.specs.Numbers.{any, putAt, tabulate, u16s};
+ghost use Rattle.run_table.specs.Table.{countOf, messageCount, processCount};
+ghost use Rattle.steps.specs.Saving.{raisedCount, receiptNumbers};
+
+// Whether a position of the list is not above the one before it.
+pub fn not_rising(list: &[u16]) -> bool
+    ensures { λ r. ⌜ r ≡ notRising (now (list .entry)) ⌝ }
+{
+    let mut a = 1;
+    while a < list.len() {
+        if list[a] <= list[a - 1] {
+            return true;
+        }
+        a += 1;
+    }
+    false
+}
+
+// Whether a position of the list is not that of a message that waits for the process.
+pub fn bad_position(table: &[u8], process: u16, list: &[u16]) -> bool
+    requires { ⌜ tableRefusal (now table) ≡ 0 ⌝ }
+    ensures { λ r. ⌜ r ≡ any (badPosition (decode (now (table .entry))) process) (now (list .entry)) ⌝ }
+{
+    let m = parts::message_count(table);
+    let receipts = parts::receipts(table);
+    let mut a = 0;
+    while a < list.len() {
+        let k = list[a] as usize;
+        a += 1;
+        if m <= k {
+            return true;
+        }
+        if u16_at(receipts, 4 * k) != process {
+            return true;
+        }
+        if u16_at(receipts, 4 * k + 2) != 0 {
+            return true;
+        }
+    }
+    false
+}
+
+// A count, one more where it grows.
+fn raised(count: u16, grows: bool) -> u16
+    requires { ⌜ count < 65535 ⌝ }
+    ensures { λ r. ⌜ r ≡ cond grows (count + 1) count ⌝ }
+{
+    if grows {
+        return count + 1;
+    }
+    count
+}
+
+// Writes n counts, that of one process raised by one, to a place of a buffer that has room for them.
+fn put_raised(counts: &[u8], n: usize, process: usize, answer: &mut [u8], at: usize)
+    requires { ⌜ length (now counts) ≡ 2 * n ⌝ }
+    requires { ⌜ ((p : ℕ) → p < n → countAt (now counts) p < 65535) ⌝ }
+    requires { ⌜ at + 2 * n ≤ length (now answer) ⌝ }
+    ensures { λ _. ⌜ now (answer .exit) ≡ putAt (now (answer .entry)) at (u16s (tabulate n (raisedCount (now (counts .entry)) process))) ⌝ }
+{
+    let mut p = 0;
+    while p < n {
+        put_u16(answer, at + 2 * p, raised(u16_at(counts, 2 * p), p == process));
+        p += 1;
+    }
+}
+
+// Whether entry a of the list is there and is position k.
+fn listed_at(list: &[u16], a: usize, k: usize) -> bool
+    ensures { λ r. ⌜ r ≡ (ltb a (length (now (list .entry))) && eqb (getD (now (list .entry)) a 0) k) ⌝ }
+{
+    if list.len() <= a {
+        return false;
+    }
+    (list[a] as usize) == k
+}
+
+// Writes the receipts of m messages, those at the listed positions with a new number, to a place of a
+// buffer that has room for them.
+fn put_receipts(receipts: &[u8], m: usize, list: &[u16], number: u16, answer: &mut [u8], at: usize)
+    requires { ⌜ length (now receipts) ≡ 4 * m ⌝ }
+    requires { ⌜ notRising (now list) ≡ false ⌝ }
+    requires { ⌜ at + 4 * m ≤ length (now answer) ⌝ }
+    ensures { λ _. ⌜ now (answer .exit) ≡ putAt (now (answer .entry)) at (u16s (receiptNumbers m (now (receipts .entry)) (now (list .entry)) number)) ⌝ }
+{
+    let mut a = 0;
+    let mut k = 0;
+    while k < m {
+        let receiver = u16_at(receipts, 4 * k);
+        let place = at + 4 * k;
+        if listed_at(list, a, k) {
+            put_pair(answer, place, receiver, number);
+            a += 1;
+            k += 1;
+            continue;
+        }
+        put_pair(answer, place, receiver, u16_at(receipts, 4 * k + 2));
+        k += 1;
+    }
+}
