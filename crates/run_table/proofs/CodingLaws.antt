@@ -271,21 +271,22 @@ module _ (bytes : List ℕ) where
   encode-decode whole b =
       ap u16s numbers-read ∙ u16s-read (suc (suc (n + (2 * m + 2 * m)))) bytes (omega arith) b
 
+-- the two numbers of entry k of an array
+pub even-number : (part : List ℕ) (k : ℕ) → u16At part (4 * k) ≡ u16At part (2 * (2 * k))
+even-number part k =
+    let place : 4 * k ≡ 2 * (2 * k) = omega arith in
+    ap (u16At part) place
+
+pub odd-number : (part : List ℕ) (k : ℕ) → u16At part (4 * k + 2) ≡ u16At part (2 * (2 * k + 1))
+odd-number part k =
+    let place : 4 * k + 2 ≡ 2 * (2 * k + 1) = omega arith in
+    ap (u16At part) place
+
 -- the numbers of the parts, one after another, are those of the decoded table
 module _ (bytes : List ℕ) where
   pub counts-numbers : decode bytes .counts ≡ tabulate (processesIn bytes) (λ p. u16At (countsPart bytes) (2 * p))
   unfolding decode countAt
   counts-numbers = refl
-
-  even-number : (part : List ℕ) (k : ℕ) → u16At part (4 * k) ≡ u16At part (2 * (2 * k))
-  even-number part k =
-      let place : 4 * k ≡ 2 * (2 * k) = omega arith in
-      ap (u16At part) place
-
-  odd-number : (part : List ℕ) (k : ℕ) → u16At part (4 * k + 2) ≡ u16At part (2 * (2 * k + 1))
-  odd-number part k =
-      let place : 4 * k + 2 ≡ 2 * (2 * k + 1) = omega arith in
-      ap (u16At part) place
 
   pub sends-numbers : sendsOf (decode bytes .messages) ≡ tabulate (2 * messagesIn bytes) (λ i. u16At (sendsPart bytes) (2 * i))
   unfolding decode messageAt processAt checkpointAt

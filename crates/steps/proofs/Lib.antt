@@ -1,5 +1,7 @@
 -- The laws of the code of the steps.
 --     PutLaws       numbers put one after another, and the bytes of the table after a send
+--     CheckpointLaws    the bytes of the table after a checkpoint
 --     SavingLaws    the list of a checkpoint, and what it changes
+mod CheckpointLaws
 mod PutLaws
 mod SavingLaws

@@ -161,7 +161,7 @@ module _ (receipts list : List ℕ) (number : ℕ) where
   numbers-length (suc k) =
       omega (arith, length-append (receiptNumbers k receipts list number) (processAt receipts k ∷ newReceipt receipts list number k ∷ []), numbers-length k)
 
-  bytes-length : (k : ℕ) → length (u16s (receiptNumbers k receipts list number)) ≡ 4 * k
+  pub bytes-length : (k : ℕ) → length (u16s (receiptNumbers k receipts list number)) ≡ 4 * k
   bytes-length k = omega (arith, length-u16s (receiptNumbers k receipts list number), numbers-length k)
 
   next-numbers : (k : ℕ) → receiptNumbers k receipts list number ++ (processAt receipts k ∷ newReceipt receipts list number k ∷ [])

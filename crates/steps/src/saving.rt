@@ -2,16 +2,16 @@
 use crate::copying::{copy_numbers, put_pair};
 use run_table::numbers::{put_u16, u16_at};
 use run_table::parts;
-ghost use mathlib.Core.Bool.{Bool, cond, _&&_, false};
+ghost use mathlib.Core.Bool.{cond, _&&_, false};
 ghost use mathlib.Core.Path.{_≡_};
 ghost use Prim.Native.Nat.{ℕ, _+_, _*_, _<_, _≤_};
 ghost use lib.Dec.{eqb, ltb};
 ghost use lib.ListN.{getD, length};
 ghost use Rattle.futures.specs.Steps.{afterCheckpoint, badPosition, notRising};
 ghost use Rattle.run_table.specs.Checks.{tableRefusal};
-ghost use Rattle.run_table.specs.Format.{checkpointAt, countAt, decode, encode, processAt};
+ghost use Rattle.run_table.specs.Format.{countAt, decode, encode};
 ghost use Rattle.run_table.specs.Numbers.{any, putAt, tabulate, u16s};
-ghost use Rattle.run_table.specs.Table.{countOf, messageCount, processCount};
+ghost use Rattle.run_table.specs.Table.{messageCount, processCount};
 ghost use Rattle.steps.specs.Saving.{raisedCount, receiptNumbers};
 
 // Whether a position of the list is not above the one before it.
@@ -109,4 +109,23 @@ fn put_receipts(receipts: &[u8], m: usize, list: &[u16], number: u16, answer: &m
         put_pair(answer, place, receiver, u16_at(receipts, 4 * k + 2));
         k += 1;
     }
+}
+
+// Writes the table after a checkpoint of a known process, with a rising list, to the front of a buffer
+// that has room for it.
+pub fn put_checkpoint(table: &[u8], process: u16, list: &[u16], answer: &mut [u8])
+    requires { ⌜ tableRefusal (now table) ≡ 0 ⌝ }
+    requires { ⌜ process < processCount (decode (now table)) ⌝ }
+    requires { ⌜ notRising (now list) ≡ false ⌝ }
+    requires { ⌜ 4 + 2 * processCount (decode (now table)) + 8 * messageCount (decode (now table)) ≤ length (now answer) ⌝ }
+    ensures { λ _. ⌜ now (answer .exit) ≡ putAt (now (answer .entry)) 0 (encode (afterCheckpoint (decode (now (table .entry))) process (now (list .entry)))) ⌝ }
+{
+    let n = parts::process_count(table);
+    let m = parts::message_count(table);
+    let counts = parts::counts(table);
+    let number = u16_at(counts, 2 * (process as usize));
+    put_pair(answer, 0, n as u16, m as u16);
+    put_raised(counts, n, process as usize, answer, 4);
+    copy_numbers(parts::sends(table), 2 * m, answer, 4 + 2 * n);
+    put_receipts(parts::receipts(table), m, list, number, answer, 4 + 2 * n + 4 * m);
 }

@@ -1,0 +1,125 @@
+-- The bytes of the table after a checkpoint.
+--     counts-raised, sends-kept, receipts-new     its counts, sends and receipts, as the code writes them
+--     checkpoint-put                              the four writes
+-- Assumes nothing.
+use mathlib.Core.Bool.{Bool, true, false, cond}
+use mathlib.Core.List.{List, [], _∷_, _++_}
+use mathlib.Core.Path.{_≡_, refl, sym, ap, ap₂, _∙_, subst, subst⁻¹}
+use Prim.Native.Nat.{ℕ, zero, suc, _+_, _*_, _≤_, _<_}
+use native.Mathlib.Decide.{ℕ-discrete}
+use native.Mathlib.Nat.{le-refl}
+use native.Mathlib.Numerals.{add-one}
+use native.Mathlib.Omega.{arith}
+use borrow.Author.Tests.{eq-eqb, ne-eqb}
+use lib.Dec.{eqb}
+use lib.ListN.{length, getD, set, length-set}
+use lib.Seq.{ext-getD, getD-set-other, getD-set-same}
+use Rattle.futures.proofs.StepLaws.{checkpoint-messages, checkpoint-processes, receivedAt-listed, receivedAt-receiver, receivedAt-sender, receivedAt-sent, receivedAt-unlisted}
+use Rattle.futures.specs.Steps.{afterCheckpoint, receivedAt}
+use Rattle.run_table.proofs.CodingLaws.{entries-append, entries-tabulate, even-number, odd-number}
+use Rattle.run_table.proofs.FormatLaws.{decode-messages}
+use Rattle.run_table.proofs.NumberLaws.{getD-tabulate, length-tabulate, length-u16s, tabulate-append, tabulate-more, u16s-append}
+use Rattle.run_table.proofs.ReadLaws.{count-is, message-is}
+use Rattle.run_table.proofs.WriteLaws.{front-first, front-next, numbers-size}
+use Rattle.run_table.specs.Checks.{tableRefusal}
+use Rattle.run_table.specs.Format.{checkpointAt, countAt, countsPart, decode, encode, entriesOf, messageAt, processAt, receiptsOf, receiptsPart, sendsOf, sendsPart}
+use Rattle.run_table.specs.Numbers.{any, putAt, tabulate, u16At, u16Bytes, u16s}
+use Rattle.run_table.specs.Table.{Message, Table, countOf, messageCount, messageOf, processCount}
+use Rattle.steps.proofs.PutLaws.{bytes-in-groups}
+use Rattle.steps.proofs.SavingLaws.{bytes-length}
+use Rattle.steps.specs.Saving.{newReceipt, raisedCount, receiptNumbers}
+
+module _ (bytes : List ℕ) (none : tableRefusal bytes ≡ 0) (i : ℕ) (list : List ℕ) where
+  abbrev t : Table
+  t = decode bytes
+
+  abbrev after : Table
+  after = afterCheckpoint t i list
+
+  -- the counts
+  count-at : (p : ℕ) → p < processCount t → Dec (p ≡ i) → getD (set (t .counts) i (countOf t i + 1)) p 0 ≡ raisedCount (countsPart bytes) i p
+  unfolding raisedCount countOf processCount
+  count-at p l (yes e) =
+      ap (λ (x : ℕ). getD (set (t .counts) i (countOf t i + 1)) x 0) e ∙ getD-set-same (t .counts) i (countOf t i + 1) 0 (omega (arith, e))
+      ∙ sym (rw (eq-eqb p i e) (ap (λ (x : ℕ). x + 1) (count-is bytes none p l ∙ ap (countOf t) e)))
+  count-at p l (no e) = getD-set-other (t .counts) i p (countOf t i + 1) 0 e ∙ sym (rw (ne-eqb p i e) (count-is bytes none p l))
+
+  pub counts-raised : (n : ℕ) → n ≡ processCount t → tabulate n (raisedCount (countsPart bytes) i) ≡ after .counts
+  unfolding afterCheckpoint processCount
+  counts-raised n e =
+      sym (ext-getD 0 (set (t .counts) i (countOf t i + 1)) (tabulate n (raisedCount (countsPart bytes) i))
+      (length-set (t .counts) i (countOf t i + 1) ∙ sym e ∙ sym (length-tabulate n (raisedCount (countsPart bytes) i)))
+      (λ p l.
+        let below : p < length (t .counts) = subst (λ (x : ℕ). p < x) (length-set (t .counts) i (countOf t i + 1)) l in
+        count-at p below (ℕ-discrete p i) ∙ sym (getD-tabulate n (raisedCount (countsPart bytes) i) p 0 (omega arith))))
+
+  -- the sends
+  sender-read : (k : ℕ) → k < messageCount t → receivedAt t i list k .sender ≡ u16At (sendsPart bytes) (4 * k)
+  unfolding messageAt processAt
+  sender-read k l = receivedAt-sender t i list k ∙ ap (λ (m : Message). m .sender) (sym (message-is bytes none k l))
+
+  sent-read : (k : ℕ) → k < messageCount t → receivedAt t i list k .sent ≡ u16At (sendsPart bytes) (4 * k + 2)
+  unfolding messageAt checkpointAt
+  sent-read k l = receivedAt-sent t i list k ∙ ap (λ (m : Message). m .sent) (sym (message-is bytes none k l))
+
+  pub sends-kept : (m : ℕ) → m ≡ messageCount t → tabulate (2 * m) (λ e. u16At (sendsPart bytes) (2 * e)) ≡ sendsOf (after .messages)
+  unfolding afterCheckpoint
+  sends-kept m e =
+      sym (entries-tabulate (λ x. x .sender) (λ x. x .sent) (messageCount t) (receivedAt t i list) (λ j. u16At (sendsPart bytes) (2 * j))
+      (λ k l. sender-read k l ∙ even-number (sendsPart bytes) k) (λ k l. sent-read k l ∙ odd-number (sendsPart bytes) k)
+      ∙ ap (λ (x : ℕ). tabulate (2 * x) (λ j. u16At (sendsPart bytes) (2 * j))) (sym e))
+
+  -- the receipts
+  receiver-read : (k : ℕ) → k < messageCount t → processAt (receiptsPart bytes) k ≡ receivedAt t i list k .receiver
+  unfolding messageAt
+  receiver-read k l = ap (λ (m : Message). m .receiver) (message-is bytes none k l) ∙ sym (receivedAt-receiver t i list k)
+
+  received-read : (k : ℕ) → k < messageCount t → newReceipt (receiptsPart bytes) list (countOf t i) k ≡ receivedAt t i list k .received
+  unfolding newReceipt messageAt
+  received-read k l = go (any (eqb k) list) refl
+    where
+      go : (b : Bool) → any (eqb k) list ≡ b → cond b (countOf t i) (checkpointAt (receiptsPart bytes) k) ≡ receivedAt t i list k .received
+      go true e = sym (ap (λ (m : Message). m .received) (receivedAt-listed t i list k e))
+      go false e = ap (λ (m : Message). m .received) (message-is bytes none k l) ∙ sym (ap (λ (m : Message). m .received) (receivedAt-unlisted t i list k e))
+
+  receipts-upto : (k : ℕ) → k ≤ messageCount t → receiptNumbers k (receiptsPart bytes) list (countOf t i) ≡ receiptsOf (tabulate k (receivedAt t i list))
+  unfolding receiptNumbers tabulate entriesOf
+  receipts-upto zero l = refl
+  receipts-upto (suc k) l =
+      ap₂ (λ (a : List ℕ) (x : ℕ). a ++ (x ∷ newReceipt (receiptsPart bytes) list (countOf t i) k ∷ [])) (receipts-upto k (omega arith)) (receiver-read k l)
+      ∙ ap (λ (y : ℕ). receiptsOf (tabulate k (receivedAt t i list)) ++ (receivedAt t i list k .receiver ∷ y ∷ [])) (received-read k l)
+      ∙ sym (entries-append (λ x. x .receiver) (λ x. x .received) (tabulate k (receivedAt t i list)) (receivedAt t i list k ∷ []))
+      ∙ ap receiptsOf (sym (tabulate-more k (receivedAt t i list)) ∙ ap (λ (j : ℕ). tabulate j (receivedAt t i list)) (add-one k))
+
+  pub receipts-new : (m : ℕ) → m ≡ messageCount t → receiptNumbers m (receiptsPart bytes) list (countOf t i) ≡ receiptsOf (after .messages)
+  unfolding afterCheckpoint
+  receipts-new m e = ap (λ (x : ℕ). receiptNumbers x (receiptsPart bytes) list (countOf t i)) e ∙ receipts-upto (messageCount t) (le-refl (messageCount t))
+
+  -- the four writes
+  module _ (n m number : ℕ) (counts sends receipts b₀ b₁ b₂ b₃ b₄ : List ℕ) (read-n : n ≡ processCount t) (read-m : m ≡ messageCount t)
+    (is-c : counts ≡ countsPart bytes) (is-s : sends ≡ sendsPart bytes) (is-r : receipts ≡ receiptsPart bytes) (is-number : number ≡ countOf t i)
+    (room : 4 + 2 * n + 8 * m ≤ length b₀) where
+    abbrev head : List ℕ
+    head = tabulate n (raisedCount counts i)
+
+    abbrev array : List ℕ
+    array = tabulate (2 * m) (λ k. u16At sends (2 * k))
+
+    groups : ((u16s (n ∷ m ∷ []) ++ u16s head) ++ u16s array) ++ u16s (receiptNumbers m receipts list number) ≡ encode after
+    unfolding u16s u16Bytes
+    groups =
+        ap (λ (l : List ℕ). (l ++ u16s array) ++ u16s (receiptNumbers m receipts list number)) (sym (u16s-append (n ∷ m ∷ []) head))
+        ∙ ap₂ (λ (s r : List ℕ). (u16s (n ∷ m ∷ head) ++ u16s s) ++ u16s r)
+        (ap (λ (p : List ℕ). tabulate (2 * m) (λ k. u16At p (2 * k))) is-s ∙ sends-kept m read-m)
+        (ap₂ (λ (p : List ℕ) (x : ℕ). receiptNumbers m p list x) is-r is-number ∙ receipts-new m read-m)
+        ∙ bytes-in-groups after n m (read-n ∙ sym (checkpoint-processes t i list)) (read-m ∙ sym (checkpoint-messages t i list))
+        (ap (λ (p : List ℕ). tabulate n (raisedCount p i)) is-c ∙ counts-raised n read-n)
+
+    pub checkpoint-put : b₁ ≡ putAt b₀ 0 (u16s (n ∷ m ∷ [])) → b₂ ≡ putAt b₁ 4 (u16s head) → b₃ ≡ putAt b₂ (4 + 2 * n) (u16s array)
+        → b₄ ≡ putAt b₃ (4 + 2 * n + 4 * m) (u16s (receiptNumbers m receipts list number)) → b₄ ≡ putAt b₀ 0 (encode after)
+    checkpoint-put w₁ w₂ w₃ w₄ =
+        let f₁ = front-first b₀ b₁ (u16s (n ∷ m ∷ [])) 4 w₁ (length-u16s (n ∷ m ∷ [])) in
+        let f₂ = front-next f₁ b₂ (u16s head) (4 + 2 * n) w₂ (omega (arith, numbers-size n (raisedCount counts i))) (omega arith) in
+        let f₃ = front-next f₂ b₃ (u16s array) (4 + 2 * n + 4 * m) w₃ (omega (arith, numbers-size (2 * m) (λ k. u16At sends (2 * k)))) (omega arith) in
+        let f₄ = front-next f₃ b₄ (u16s (receiptNumbers m receipts list number)) (4 + 2 * n + 4 * m + 4 * m) w₄ (omega (arith, bytes-length receipts list number m)) (omega arith) in
+        f₄ .put ∙ ap (putAt b₀ 0) groups
