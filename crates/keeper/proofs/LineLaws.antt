@@ -1,30 +1,24 @@
 -- The answers of the line calls.
---     all-hold           the set of all 32 bits gives the recovery line
 --     line-size          a line's answer has 2N bytes
 --     answer-latest      the numbers of a line's answer are the latest consistent line
 -- Assumes nothing.
-use mathlib.Core.Bool.{Bool, true, cond}
-use mathlib.Core.List.{List, _++_}
-use mathlib.Core.Path.{_≡_, refl, sym, ap, _∙_, subst, subst⁻¹}
-use Prim.Native.Nat.{ℕ, _-_, _*_, _≤_, _<_}
+use mathlib.Core.List.{List}
+use mathlib.Core.Path.{_≡_, sym, ap, _∙_, subst, subst⁻¹}
+use Prim.Native.Nat.{ℕ, _*_, _<_}
 use native.Mathlib.Omega.{arith}
 use lib.ListN.{length, getD, drop}
 use lib.Seq.{ext-getD}
 use Rattle.consistency.proofs.CeilingLaws.{set-below, set-latest, set-length}
-use Rattle.consistency.specs.Ceilings.{Holders, ceilingOf, lineOf, recoveryLine}
+use Rattle.consistency.specs.Ceilings.{Holders, ceilingOf, lineOf}
 use Rattle.consistency.specs.Lines.{Latest, at}
-use Rattle.consistency.specs.Lowering.{lineUnder}
 use Rattle.keeper.proofs.AnswerLaws.{put-in-front}
 use Rattle.keeper.specs.Calls.{HoldsLatest}
-use Rattle.process_set.proofs.SetLaws.{all-member}
-use Rattle.process_set.specs.Sets.{allProcesses, member}
 use Rattle.run_table.proofs.AcceptLaws.{accepted}
-use Rattle.run_table.proofs.NumberLaws.{getD-tabulate, length-tabulate, length-u16s, tabulate-ext, u16At-u16s}
-use Rattle.run_table.proofs.ReadLaws.{processes-few}
+use Rattle.run_table.proofs.NumberLaws.{getD-tabulate, length-tabulate, length-u16s, u16At-u16s}
 use Rattle.run_table.specs.Checks.{tableRefusal}
 use Rattle.run_table.specs.Format.{decode}
 use Rattle.run_table.specs.Numbers.{putAt, tabulate, u16At, u16s}
-use Rattle.run_table.specs.Table.{Table, countOf, processCount}
+use Rattle.run_table.specs.Table.{Table, processCount}
 
 pub line-size : (t : Table) (holds : Holders) → length (u16s (lineOf t holds)) ≡ 2 * processCount t
 line-size t holds = length-u16s (lineOf t holds) ∙ ap (λ (n : ℕ). 2 * n) (set-length t holds)
@@ -32,13 +26,6 @@ line-size t holds = length-u16s (lineOf t holds) ∙ ap (λ (n : ℕ). 2 * n) (s
 module _ (table : List ℕ) (none : tableRefusal table ≡ 0) where
   abbrev t : Table
   t = decode table
-
-  pub all-hold : lineOf t (member 4294967295) ≡ recoveryLine t
-  unfolding recoveryLine lineOf ceilingOf allProcesses
-  all-hold =
-      ap (lineUnder (t .messages))
-      (tabulate-ext (processCount t) _ _
-      (λ p l. ap (λ (b : Bool). cond b (countOf t p - 1) (countOf t p)) (all-member p (omega (arith, processes-few table none)))))
 
   -- the numbers of the answer are those of the line
   module _ (holds : Holders) (buffer buffer′ : List ℕ) (put : buffer′ ≡ putAt buffer 0 (u16s (lineOf t holds))) where

@@ -5,6 +5,7 @@
 --     height-in, height-beyond   how high a process may stand, entry by entry
 --     messages-found, line-found the messages and the line of a set in an accepted table
 --     ceiling-needs, lower-needs, line-read    the same, from what the code read
+--     all-hold                   the set of all 32 bits gives the recovery line
 -- Assumes nothing.
 use mathlib.Core.Bool.{Bool, cond}
 use mathlib.Core.List.{List}
@@ -18,11 +19,12 @@ use lib.ListN.{length, getD, List·getD-eq-default}
 use Rattle.consistency.proofs.CeilingLaws.{all-zero, ceiling-at, ceiling-length, set-length}
 use Rattle.consistency.proofs.LineLaws.{latest-same}
 use Rattle.consistency.proofs.LoweringLaws.{line-is, line-latest, line-length}
-use Rattle.consistency.specs.Ceilings.{ceilingOf, lineOf}
+use Rattle.consistency.specs.Ceilings.{ceilingOf, lineOf, recoveryLine}
 use Rattle.consistency.specs.Lines.{at}
 use Rattle.consistency.specs.Lowering.{lineUnder}
 use Rattle.lines.specs.Arrays.{arrayOf, heightAt, messagesOf}
-use Rattle.process_set.specs.Sets.{member}
+use Rattle.process_set.proofs.SetLaws.{all-member}
+use Rattle.process_set.specs.Sets.{allProcesses, member}
 use Rattle.run_table.proofs.FormatLaws.{count-beyond, decode-messages}
 use Rattle.run_table.proofs.NumberLaws.{getD-tabulate, length-tabulate, tabulate-ext, tabulate-getD}
 use Rattle.run_table.proofs.ReadLaws.{count-is, counts-positive, counts-size, processes-few, receipts-size, receivers-known, senders-known, sends-size}
@@ -133,3 +135,10 @@ pub line-numbers : (bytes : List ℕ) (none : tableRefusal bytes ≡ 0) (set n :
 line-numbers bytes none set n line same e =
     let size = set-length (decode bytes) (member set) in
     array-numbers (lineOf (decode bytes) (member set)) line n e (same ∙ sym size) (subst⁻¹ (λ (x : ℕ). x ≤ 32) size (processes-few bytes none))
+
+pub all-hold : (bytes : List ℕ) → tableRefusal bytes ≡ 0 → lineOf (decode bytes) (member 4294967295) ≡ recoveryLine (decode bytes)
+unfolding recoveryLine lineOf ceilingOf allProcesses
+all-hold bytes none =
+    ap (lineUnder (decode bytes .messages))
+    (tabulate-ext (processCount (decode bytes)) _ _
+    (λ p l. ap (λ (b : Bool). cond b (countOf (decode bytes) p - 1) (countOf (decode bytes) p)) (all-member p (omega (arith, processes-few bytes none)))))

@@ -1,7 +1,9 @@
 -- The laws of the code of the steps.
---     PutLaws       numbers put one after another, and the bytes of the table after a send
+--     PutLaws           numbers put one after another, and the bytes of the table after a send
 --     CheckpointLaws    the bytes of the table after a checkpoint
---     SavingLaws    the list of a checkpoint, and what it changes
+--     RollbackLaws      what a rollback leaves, as the code finds it message by message
+--     SavingLaws        the list of a checkpoint, and what it changes
 mod CheckpointLaws
 mod PutLaws
+mod RollbackLaws
 mod SavingLaws

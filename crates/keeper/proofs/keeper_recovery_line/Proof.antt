@@ -10,7 +10,8 @@ use denote.Ref.{now}
 use lib.ListN.{length}
 use Rattle.consistency.specs.Ceilings.{lineOf, recoveryLine}
 use Rattle.keeper.proofs.AnswerLaws.{table-refused, room-refused, all-answered}
-use Rattle.keeper.proofs.LineLaws.{all-hold, answer-latest, line-size}
+use Rattle.keeper.proofs.LineLaws.{answer-latest, line-size}
+use Rattle.lines.proofs.ArrayLaws.{all-hold}
 use Rattle.keeper.specs.Calls.{recoveryLineAnswer}
 use Rattle.run_table.proofs.CheckLaws.{areRefusals, clear}
 use Rattle.run_table.proofs.ReadLaws.{processes-few}

@@ -1,0 +1,84 @@
+-- `rollback::count_remaining` meets its contract: the loop counts what remains of the first k messages.
+-- Assumes nothing.
+use borrow.Author.Needs.{needs}
+use native.Mathlib.Omega.{arith}
+use mathlib.Core.Bool.{true}
+use mathlib.Core.Path.{_≡_}
+use Prim.Native.Nat.{_-_}
+use lib.ListN.{length}
+use denote.Ref.{now}
+use Rattle.consistency.specs.Ceilings.{recoveryLine}
+use Rattle.futures.specs.Steps.{stays}
+use Rattle.run_table.proofs.ReadLaws.{messages-few}
+use Rattle.run_table.specs.Format.{decode}
+use Rattle.run_table.specs.Table.{Table, messageOf}
+use Rattle.steps.proofs.RollbackLaws.{soFar, counted-none, counted-skips, counted-adds, counted-fits, counted-all, send-within, found-staying, found-going}
+use Rattle.steps.proofs.rollback.count_remaining.Statement.{statement}
+use Rattle.steps.proofs.rollback.count_remaining.Tie as tie
+
+abbrev Inv-loop : tie.InvT-loop
+Inv-loop table line m sends remaining₀ k₀ remaining k = remaining ≡ length (soFar (decode table) k)
+
+abbrev μ-loop : tie.MeasureT-loop
+μ-loop table line m sends remaining₀ k₀ remaining k = m - k
+
+-- where the code has found that message k stays
+abbrev Here : Type 0
+Here = tie.Else1 Inv-loop μ-loop
+
+abbrev t : Here → Table
+t c = decode (now (c .before .before .before .before .before .before .before .args .table))
+
+found : (c : Here) → stays (recoveryLine (t c)) (messageOf (t c) (c .before .before .before .loop .k)) ≡ true
+found c = found-staying _ (c .before .before .before .before .before .before .before .pre .0) _ (c .before .before .before .before .before .before .before .pre .1) _ _ (omega arith) (c .before .before .before .before .sends .ensures) _ (c .before .stays .ensures) (c .if1 .left)
+
+message-count-requires : tie.Need-message-count-requires Inv-loop μ-loop
+message-count-requires c κs = search needs
+
+sends-requires : tie.Need-sends-requires Inv-loop μ-loop
+sends-requires c κs = search needs
+
+loop-holds : tie.Need-loop-holds Inv-loop μ-loop
+loop-holds c = counted-none _
+
+add-k : tie.Need-add-k Inv-loop μ-loop
+add-k c = omega arith
+
+stays-requires : tie.Need-stays-requires Inv-loop μ-loop
+stays-requires c κs = send-within _ (c .before .before .before .before .before .pre .0) _ _ (omega arith) (c .before .before .sends .ensures)
+
+loop-less : tie.Need-loop-less Inv-loop μ-loop
+loop-less c = omega arith
+
+loop-again : tie.Need-loop-again Inv-loop μ-loop
+loop-again c = counted-skips _ _ _ (c .before .before .before .loop .inv) (omega arith) (found-going _ (c .before .before .before .before .before .before .before .pre .0) _ (c .before .before .before .before .before .before .before .pre .1) _ _ (omega arith) (c .before .before .before .before .sends .ensures) _ (c .before .stays .ensures) (c .if1 .taken))
+
+add-remaining : tie.Need-add-remaining Inv-loop μ-loop
+add-remaining c = omega (arith, messages-few _ (c .before .before .before .before .before .before .before .pre .0), counted-fits _ _ _ (c .before .before .before .loop .inv) (omega arith) (found c))
+
+loop-less-2 : tie.Need-loop-less-2 Inv-loop μ-loop
+loop-less-2 c = omega arith
+
+loop-again-2 : tie.Need-loop-again-2 Inv-loop μ-loop
+loop-again-2 c = counted-adds _ _ _ (c .before .before .before .loop .inv) (omega arith) (found c)
+
+returns : tie.Need-returns Inv-loop μ-loop
+returns c = counted-all (decode (now (c .before .before .before .before .before .args .table))) (c .before .loop .k) _ (c .before .loop .inv) (omega arith)
+
+pub count-remaining-spec : {M : Type 1} → statement M
+count-remaining-spec =
+    tie.close
+    (tie.spec
+    Inv-loop
+    μ-loop
+    message-count-requires
+    sends-requires
+    loop-holds
+    add-k
+    stays-requires
+    loop-less
+    loop-again
+    add-remaining
+    loop-less-2
+    loop-again-2
+    returns)

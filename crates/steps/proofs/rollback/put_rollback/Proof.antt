@@ -1,0 +1,87 @@
+-- `rollback::put_rollback` meets its contract: the parts of the table, one after another.
+-- Assumes nothing.
+use borrow.Author.Needs.{needs}
+use native.Mathlib.Omega.{arith}
+use mathlib.Core.Path.{sym, _∙_}
+use denote.Ref.{now}
+use Rattle.futures.proofs.StepLaws.{rollback-fewer, rollback-processes}
+use Rattle.run_table.proofs.ReadLaws.{messages-few, processes-few}
+use Rattle.run_table.specs.Format.{decode}
+use Rattle.steps.proofs.RollbackLaws.{counts-left, line-small, table-put}
+use Rattle.steps.proofs.rollback.put_rollback.Statement.{statement}
+use Rattle.steps.proofs.rollback.put_rollback.Tie as tie
+
+process-count-requires : tie.Need-process-count-requires
+process-count-requires c κs = search needs
+
+cast-put-pair : tie.Need-cast-put-pair
+cast-put-pair c = omega (arith, processes-few _ (c .before .before .before .before .pre .0))
+
+cast-put-pair-2 : tie.Need-cast-put-pair-2
+cast-put-pair-2 c = omega (arith, messages-few _ (c .before .before .before .before .pre .0), rollback-fewer (decode (now (c .before .before .before .before .args .table))))
+
+put-pair-requires : tie.Need-put-pair-requires
+put-pair-requires c κs = search needs
+
+put-counts-requires : tie.Need-put-counts-requires
+put-counts-requires c κs =
+    let start = c .before .before .before .before .before .before .before .before in
+    (omega (arith, processes-few _ (start .pre .0)), (line-small _ (start .pre .0) _ (start .pre .1 .0) _ (c .before .before .before .before .before .process-count .ensures), omega arith))
+
+mul-put-sends : tie.Need-mul-put-sends
+mul-put-sends c = search needs
+
+add-put-sends : tie.Need-add-put-sends
+add-put-sends c = search needs
+
+put-sends-requires : tie.Need-put-sends-requires
+put-sends-requires c κs =
+    let start = c .before .before .before .before .before .before .before .before .before .before .before .before in
+    (start .pre .0, (start .pre .1 .0, omega arith))
+
+mul-put-receipts : tie.Need-mul-put-receipts
+mul-put-receipts c = search needs
+
+add-put-receipts : tie.Need-add-put-receipts
+add-put-receipts c = search needs
+
+mul-put-receipts-2 : tie.Need-mul-put-receipts-2
+mul-put-receipts-2 c = search needs
+
+add-put-receipts-2 : tie.Need-add-put-receipts-2
+add-put-receipts-2 c = search needs
+
+put-receipts-requires : tie.Need-put-receipts-requires
+put-receipts-requires c κs =
+    let start = c .before .before .before .before .before .before .before .before .before .before .before .before .before .before .before .before in
+    (start .pre .0, (start .pre .1 .0, omega arith))
+
+same-length : tie.Need-same-length
+same-length c = search needs
+
+returns : tie.Need-returns
+returns c =
+    let start = c .before .before .before .before .before .before .before .before .before .before .before .before .before .before .before .before .before .before .before in
+    let n = c .before .before .before .before .before .before .before .before .before .before .before .before .before .before .before .before .process-count .ensures in
+    table-put _ _ _ _ (n ∙ sym (rollback-processes (decode (now (start .args .table))))) (start .pre .1 .1 .0) (counts-left _ (start .pre .0) _ (start .pre .1 .0) _ n) _ _ _ _ _ (omega arith)
+    (c .before .before .before .before .before .before .before .before .before .before .before .before .before .before .put-pair .ensures) (c .before .before .before .before .before .before .before .before .before .before .put-counts .ensures) (c .before .before .before .before .before .before .put-sends .ensures) (c .before .before .put-receipts .ensures)
+
+pub put-rollback-spec : {M : Type 1} → statement M
+put-rollback-spec =
+    tie.close
+    (tie.spec
+    process-count-requires
+    cast-put-pair
+    cast-put-pair-2
+    put-pair-requires
+    put-counts-requires
+    mul-put-sends
+    add-put-sends
+    put-sends-requires
+    mul-put-receipts
+    add-put-receipts
+    mul-put-receipts-2
+    add-put-receipts-2
+    put-receipts-requires
+    same-length
+    returns)

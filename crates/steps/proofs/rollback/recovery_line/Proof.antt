@@ -1,0 +1,17 @@
+-- `rollback::recovery_line` meets its contract: all processes are in the set of all 32 bits.
+-- Assumes nothing.
+use borrow.Author.Needs.{needs}
+use mathlib.Core.Path.{ap, _∙_}
+use Rattle.lines.proofs.ArrayLaws.{all-hold}
+use Rattle.lines.specs.Arrays.{arrayOf}
+use Rattle.steps.proofs.rollback.recovery_line.Statement.{statement}
+use Rattle.steps.proofs.rollback.recovery_line.Tie as tie
+
+line-of-set-requires : tie.Need-line-of-set-requires
+line-of-set-requires c κs = search needs
+
+returns : tie.Need-returns
+returns c = c .line-of-set .ensures ∙ ap arrayOf (all-hold _ (c .before .before .pre))
+
+pub recovery-line-spec : {M : Type 1} → statement M
+recovery-line-spec = tie.close (tie.spec line-of-set-requires returns)
