@@ -1,6 +1,6 @@
 -- What a call yields where a check catches, where the buffer is too short, and where nothing refuses.
 --     table-refused      one of the checks 1 to 9 catches
---     own-refused        one of the call's own checks catches
+--     own-refused, own-caught    one of the call's own checks catches
 --     room-refused       16 alone catches
 --     all-answered       nothing catches, and the answer was put at the front of the buffer
 -- Assumes nothing.
@@ -53,6 +53,11 @@ module _ (table : List ℕ) (own : List Check) (bytes : List ℕ) (room : ℕ) w
     -- one of the call's own checks catches
     pub own-refused : (n : ℕ) (buffer : List ℕ) (written : ℕ) → firstCaught own ≡ suc n → Yields (answer table own bytes room) (suc n) buffer buffer written written
     own-refused n buffer written e = yields-refused n buffer written (past-table ∙ append-stopped own last n e)
+
+    -- the same, by the number that was found
+    pub own-caught : (r : ℕ) (buffer : List ℕ) (written : ℕ) → r ≡ firstCaught own → (r ≡ 0 → ⊥) → Yields (answer table own bytes room) r buffer buffer written written
+    own-caught zero buffer written e nonzero = absurd (nonzero refl)
+    own-caught (suc n) buffer written e nonzero = own-refused n buffer written (sym e)
 
     module _ (ok : areRefusals own ≡ true) (none : firstCaught own ≡ 0) where
       -- 16 alone catches

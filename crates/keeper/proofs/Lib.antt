@@ -1,5 +1,7 @@
 -- The laws of the keeper's answers.
 --     AnswerLaws    what a refusal and an answer leave
 --     LineLaws      the answers of the line calls
+--     StepLaws      the checks and the answers of the steps
 pub mod AnswerLaws
 pub mod LineLaws
+pub mod StepLaws

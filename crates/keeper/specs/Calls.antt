@@ -1,13 +1,18 @@
 -- The answer of each call, from the table's bytes, its other arguments and the length of the answer buffer. Assumes nothing.
-use mathlib.Core.List.{List, [], _∷_}
+use mathlib.Core.List.{List, [], _∷_, _++_}
+use mathlib.Core.Path.{_≡_}
 use Prim.Native.Nat.{ℕ, _*_}
+use lib.Dec.{leb}
+use lib.ListN.{take}
 use Rattle.consistency.specs.Ceilings.{Holders, ceilingOf, lineOf, recoveryLine}
 use Rattle.consistency.specs.Lines.{Latest, at}
+use Rattle.futures.specs.Steps.{afterCheckpoint, afterRollback, afterSend, checkpointChecks, sendChecks}
 use Rattle.keeper.specs.Answers.{Answer, answer}
 use Rattle.process_set.specs.Sets.{highBit, member}
-use Rattle.run_table.specs.Format.{decode}
+use Rattle.run_table.specs.Checks.{Accepted, Check}
+use Rattle.run_table.specs.Format.{decode, encode}
 use Rattle.run_table.specs.Numbers.{tabulate, u16At, u16s}
-use Rattle.run_table.specs.Table.{processCount}
+use Rattle.run_table.specs.Table.{Table, countOf, messageCount, processCount}
 
 -- The recovery line of the run: checks 1 to 9, 16.
 unfoldable pub recoveryLineAnswer : List ℕ → ℕ → Answer
@@ -22,3 +27,30 @@ lineOfSetAnswer table set room =
 unfoldable pub HoldsLatest : List ℕ → Holders → List ℕ → Type 0
 HoldsLatest table holds buffer =
     Latest (decode table .messages) (at (ceilingOf (decode table) holds)) (at (tabulate (processCount (decode table)) (λ p. u16At buffer (2 * p))))
+
+-- ---- the steps
+-- Checks 10 and 11; 14, that M is 4,096 already.
+unfoldable pub sendCallChecks : Table → ℕ → ℕ → List Check
+sendCallChecks t from to = sendChecks t from to ++ (record { caught = leb 4096 (messageCount t); number = 14 } ∷ [])
+
+-- Checks 10 and 13; 14, that the count of the process is 4,096 already.
+unfoldable pub saveCallChecks : Table → ℕ → List ℕ → List Check
+saveCallChecks t process list = checkpointChecks t process list ++ (record { caught = leb 4096 (countOf t process); number = 14 } ∷ [])
+
+-- The table after a send: checks 1 to 9, 10, 11, 14, 16.
+unfoldable pub sendAnswer : List ℕ → ℕ → ℕ → ℕ → Answer
+sendAnswer table from to room = answer table (sendCallChecks (decode table) from to) (encode (afterSend (decode table) from to)) room
+
+-- The table after a checkpoint: checks 1 to 9, 10, 13, 14, 16.
+unfoldable pub saveAnswer : List ℕ → ℕ → List ℕ → ℕ → Answer
+saveAnswer table process list room =
+    answer table (saveCallChecks (decode table) process list) (encode (afterCheckpoint (decode table) process list)) room
+
+-- The table after a rollback: checks 1 to 9, 16.
+unfoldable pub fallBackAnswer : List ℕ → ℕ → Answer
+fallBackAnswer table room = answer table [] (encode (afterRollback (decode table))) room
+
+-- The first bytes of a buffer are an accepted table, and they read as this one.
+pub record HoldsTable (t : Table) (buffer : List ℕ) (size : ℕ) : Type 0 where
+  pub accepted : Accepted (take size buffer)
+  pub reads : decode (take size buffer) ≡ t

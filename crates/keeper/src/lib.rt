@@ -1,16 +1,28 @@
 // The keeper: every call that a user makes, with a C name and no requires. A call answers 0, or the
 // number of the first check that catches. On success the answer stands at the front of the answer
 // buffer and its length in `written`; on a refusal nothing lent is changed.
+pub mod refusals;
+
+use refusals::save_refusal;
+use refusals::send_refusal;
 use run_table::checks::check;
+use run_table::parts::message_count;
 use run_table::parts::process_count;
+use steps::rollback::count_remaining;
+use steps::rollback::put_rollback;
+use steps::rollback::recovery_line;
+use steps::saving::put_checkpoint;
+use steps::sending::put_send;
 ghost use mathlib.Core.Bool.{true};
 ghost use mathlib.Core.Path.{_≡_};
 ghost use Prim.Native.Nat.{ℕ};
 ghost use lib.ListN.{length};
+ghost use Rattle.futures.specs.Steps.{checkpoint, rollback, send, step};
 ghost use Rattle.keeper.specs.Answers.{Yields};
-ghost use Rattle.keeper.specs.Calls.{HoldsLatest, lineOfSetAnswer, recoveryLineAnswer};
+ghost use Rattle.keeper.specs.Calls.{HoldsLatest, HoldsTable, fallBackAnswer, lineOfSetAnswer, recoveryLineAnswer, saveAnswer, sendAnswer};
 ghost use Rattle.process_set.specs.Sets.{member};
 ghost use Rattle.run_table.specs.Checks.{tableRefusal};
+ghost use Rattle.run_table.specs.Format.{decode};
 
 // The refusal of a table: the first of the checks 1 to 9 that catches, or 0.
 #[no_mangle]
@@ -66,5 +78,88 @@ pub extern "C" fn keeper_line_of_set(
     }
     lines::put_line_of_set(table, set, answer);
     *written = length;
+    0
+}
+
+// The table after a send.
+#[no_mangle]
+pub extern "C" fn keeper_send(
+    table: &[u8],
+    from: u16,
+    to: u16,
+    answer: &mut [u8],
+    written: &mut usize,
+) -> u32
+    ensures outcome { λ r. ⌜ Yields (sendAnswer (now (table .entry)) from to (length (now (answer .entry)))) r
+        (now (answer .entry)) (now (answer .exit)) (now (written .entry)) (now (written .exit)) ⌝ }
+    ensures table { λ (r : ℕ). ⌜ (r ≡ 0 → HoldsTable (step (decode (now (table .entry))) (send from to)) (now (answer .exit)) (now (written .exit))) ⌝ }
+{
+    let refusal = check(table);
+    if refusal != 0 {
+        return refusal;
+    }
+    let caught = send_refusal(table, from, to);
+    if caught != 0 {
+        return caught;
+    }
+    let size = 12 + 2 * process_count(table) + 8 * message_count(table);
+    if answer.len() < size {
+        return 16;
+    }
+    put_send(table, from, to, answer);
+    *written = size;
+    0
+}
+
+// The table after a checkpoint (save) of a process, which first receives the messages at the listed
+// positions.
+#[no_mangle]
+pub extern "C" fn keeper_save(
+    table: &[u8],
+    process: u16,
+    list: &[u16],
+    answer: &mut [u8],
+    written: &mut usize,
+) -> u32
+    ensures outcome { λ r. ⌜ Yields (saveAnswer (now (table .entry)) process (now (list .entry)) (length (now (answer .entry)))) r
+        (now (answer .entry)) (now (answer .exit)) (now (written .entry)) (now (written .exit)) ⌝ }
+    ensures table { λ (r : ℕ). ⌜ (r ≡ 0 → HoldsTable (step (decode (now (table .entry))) (checkpoint process (now (list .entry)))) (now (answer .exit)) (now (written .exit))) ⌝ }
+{
+    let refusal = check(table);
+    if refusal != 0 {
+        return refusal;
+    }
+    let caught = save_refusal(table, process, list);
+    if caught != 0 {
+        return caught;
+    }
+    let size = 4 + 2 * process_count(table) + 8 * message_count(table);
+    if answer.len() < size {
+        return 16;
+    }
+    put_checkpoint(table, process, list, answer);
+    *written = size;
+    0
+}
+
+// The table after a rollback (fall back) of the whole run to its recovery line.
+#[no_mangle]
+pub extern "C" fn keeper_fall_back(table: &[u8], answer: &mut [u8], written: &mut usize) -> u32
+    ensures outcome { λ r. ⌜ Yields (fallBackAnswer (now (table .entry)) (length (now (answer .entry)))) r
+        (now (answer .entry)) (now (answer .exit)) (now (written .entry)) (now (written .exit)) ⌝ }
+    ensures table { λ (r : ℕ). ⌜ (r ≡ 0 → HoldsTable (step (decode (now (table .entry))) (rollback)) (now (answer .exit)) (now (written .exit))) ⌝ }
+{
+    let refusal = check(table);
+    if refusal != 0 {
+        return refusal;
+    }
+    let line = recovery_line(table);
+    let m = count_remaining(table, line);
+    let size = 4 + 2 * process_count(table) + 8 * m;
+    if answer.len() < size {
+        return 16;
+    }
+    put_rollback(table, line, m, answer);
+    *written = size;
     0
 }

@@ -50,8 +50,8 @@ module _ (bytes : List ℕ) (none : tableRefusal bytes ≡ 0) (i : ℕ) (list : 
       sym (ext-getD 0 (set (t .counts) i (countOf t i + 1)) (tabulate n (raisedCount (countsPart bytes) i))
       (length-set (t .counts) i (countOf t i + 1) ∙ sym e ∙ sym (length-tabulate n (raisedCount (countsPart bytes) i)))
       (λ p l.
-        let below : p < length (t .counts) = subst (λ (x : ℕ). p < x) (length-set (t .counts) i (countOf t i + 1)) l in
-        count-at p below (ℕ-discrete p i) ∙ sym (getD-tabulate n (raisedCount (countsPart bytes) i) p 0 (omega arith))))
+      let below : p < length (t .counts) = subst (λ (x : ℕ). p < x) (length-set (t .counts) i (countOf t i + 1)) l in
+      count-at p below (ℕ-discrete p i) ∙ sym (getD-tabulate n (raisedCount (countsPart bytes) i) p 0 (omega arith))))
 
   -- the sends
   sender-read : (k : ℕ) → k < messageCount t → receivedAt t i list k .sender ≡ u16At (sendsPart bytes) (4 * k)
@@ -97,8 +97,8 @@ module _ (bytes : List ℕ) (none : tableRefusal bytes ≡ 0) (i : ℕ) (list : 
 
   -- the four writes
   module _ (n m number : ℕ) (counts sends receipts b₀ b₁ b₂ b₃ b₄ : List ℕ) (read-n : n ≡ processCount t) (read-m : m ≡ messageCount t)
-    (is-c : counts ≡ countsPart bytes) (is-s : sends ≡ sendsPart bytes) (is-r : receipts ≡ receiptsPart bytes) (is-number : number ≡ countOf t i)
-    (room : 4 + 2 * n + 8 * m ≤ length b₀) where
+      (is-c : counts ≡ countsPart bytes) (is-s : sends ≡ sendsPart bytes) (is-r : receipts ≡ receiptsPart bytes) (is-number : number ≡ countOf t i)
+      (room : 4 + 2 * n + 8 * m ≤ length b₀) where
     abbrev head : List ℕ
     head = tabulate n (raisedCount counts i)
 

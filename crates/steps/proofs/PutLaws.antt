@@ -119,5 +119,9 @@ module _ (bytes : List ℕ) (n m : ℕ) (read-n : n ≡ processCount (decode byt
 
       array-size : (part : List ℕ) (a b : ℕ) → length (u16s (tabulate (2 * m) (λ k. u16At part (2 * k)) ++ (a ∷ b ∷ []))) ≡ 4 * m + 4
       array-size part a b =
-          omega (arith, length-u16s (tabulate (2 * m) (λ k. u16At part (2 * k)) ++ (a ∷ b ∷ [])), length-append (tabulate (2 * m) (λ k. u16At part (2 * k))) (a ∷ b ∷ []),
-          length-tabulate (2 * m) (λ k. u16At part (2 * k)))
+          omega (
+            arith,
+            length-u16s (tabulate (2 * m) (λ k. u16At part (2 * k)) ++ (a ∷ b ∷ [])),
+            length-append (tabulate (2 * m) (λ k. u16At part (2 * k))) (a ∷ b ∷ []),
+            length-tabulate (2 * m) (λ k. u16At part (2 * k)),
+          )

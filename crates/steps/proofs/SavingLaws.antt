@@ -122,13 +122,14 @@ module _ (list : List ℕ) where
     pub merge-listed : (r : Bool) → r ≡ (ltb a (length list) && eqb (getD list a 0) k) → r ≡ true → (any (eqb k) list ≡ true) × Merging list (k + 1) (a + 1)
     merge-listed r e h =
         let within : a < length list = ltb-true a (length list) (and-left (ltb a (length list)) (eqb (getD list a 0) k) (sym e ∙ h)) in
-        let here : getD list a 0 ≡ k = eqb-true (getD list a 0) k (and-right (ltb a (length list)) (eqb (getD list a 0) k) (sym e ∙ h)) in
-        (any-some (eqb k) list 0 a within (eq-eqb k (getD list a 0) (sym here)),
-        record {
-          entry = omega arith;
-          passed = λ b l. before b l (ℕ-discrete b a) here;
-          ahead = λ b l l′. omega (arith, rising list up a b (omega arith) l′);
-        })
+        let here : getD list a 0 ≡ k = eqb-true (getD list a 0) k (and-right (ltb a (length list)) (eqb (getD list a 0) k) (sym e ∙ h)) in (
+          any-some (eqb k) list 0 a within (eq-eqb k (getD list a 0) (sym here)),
+          record {
+            entry = omega arith;
+            passed = λ b l. before b l (ℕ-discrete b a) here;
+            ahead = λ b l l′. omega (arith, rising list up a b (omega arith) l′);
+          },
+        )
       where
         before : (b : ℕ) → b < a + 1 → Dec (b ≡ a) → getD list a 0 ≡ k → getD list b 0 < k + 1
         before b l (yes same) here = omega (arith, ap (λ (x : ℕ). getD list x 0) same)
@@ -136,11 +137,14 @@ module _ (list : List ℕ) where
 
     -- the entry is not k: it is not listed, and the message alone goes on
     pub merge-unlisted : (r : Bool) → r ≡ (ltb a (length list) && eqb (getD list a 0) k) → r ≡ false → (any (eqb k) list ≡ false) × Merging list (k + 1) a
-    merge-unlisted r e h = (any-none (eqb k) list 0 (λ b l. ne-eqb k (getD list b 0) (other b l)), record {
-      entry = m .entry;
-      passed = λ b l. omega (arith, m .passed b l);
-      ahead = λ b l l′. omega (arith, m .ahead b l l′, other b l′);
-    })
+    merge-unlisted r e h = (
+      any-none (eqb k) list 0 (λ b l. ne-eqb k (getD list b 0) (other b l)),
+      record {
+        entry = m .entry;
+        passed = λ b l. omega (arith, m .passed b l);
+        ahead = λ b l l′. omega (arith, m .ahead b l l′, other b l′);
+      },
+    )
       where
         not-here : a < length list → getD list a 0 ≡ k → ⊥
         not-here within same = true≢false (sym (rw (lt-ltb a (length list) within) (eq-eqb (getD list a 0) k same)) ∙ sym e ∙ h)

@@ -1,5 +1,6 @@
 // Numbers put and copied.
-use run_table::numbers::{put_u16, u16_at};
+use run_table::numbers::put_u16;
+use run_table::numbers::u16_at;
 use run_table::parts;
 ghost use mathlib.Core.Path.{_≡_};
 ghost use Prim.Native.Nat.{_+_, _*_, _<_, _≤_};
@@ -39,7 +40,7 @@ pub fn put_head(table: &[u8], m: usize, answer: &mut [u8])
     requires { ⌜ m < 65536 ⌝ }
     requires { ⌜ 4 + 2 * processCount (decode (now table)) ≤ length (now answer) ⌝ }
     ensures { λ _. ⌜ now (answer .exit)
-      ≡ putAt (now (answer .entry)) 0 (u16s (processCount (decode (now (table .entry))) ∷ m ∷ decode (now (table .entry)) .counts)) ⌝ }
+        ≡ putAt (now (answer .entry)) 0 (u16s (processCount (decode (now (table .entry))) ∷ m ∷ decode (now (table .entry)) .counts)) ⌝ }
 {
     let n = parts::process_count(table);
     put_pair(answer, 0, n as u16, m as u16);

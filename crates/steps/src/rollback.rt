@@ -1,7 +1,8 @@
 // A rollback of the run to its recovery line: how many messages stay, and the table that it leaves.
 use crate::copying::put_pair;
 use lines::line_of_set;
-use run_table::numbers::{put_u16, u16_at};
+use run_table::numbers::put_u16;
+use run_table::numbers::u16_at;
 use run_table::parts;
 ghost use mathlib.Core.Path.{_≡_};
 ghost use Prim.Native.Nat.{ℕ, _+_, _*_, _≤_, _<_};

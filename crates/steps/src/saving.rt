@@ -1,6 +1,8 @@
 // Checkpoint (document 01: save): the listed messages are received, and the count of the process grows.
-use crate::copying::{copy_numbers, put_pair};
-use run_table::numbers::{put_u16, u16_at};
+use crate::copying::copy_numbers;
+use crate::copying::put_pair;
+use run_table::numbers::put_u16;
+use run_table::numbers::u16_at;
 use run_table::parts;
 ghost use mathlib.Core.Bool.{cond, _&&_, false};
 ghost use mathlib.Core.Path.{_≡_};
@@ -72,7 +74,11 @@ fn put_raised(counts: &[u8], n: usize, process: usize, answer: &mut [u8], at: us
 {
     let mut p = 0;
     while p < n {
-        put_u16(answer, at + 2 * p, raised(u16_at(counts, 2 * p), p == process));
+        put_u16(
+            answer,
+            at + 2 * p,
+            raised(u16_at(counts, 2 * p), p == process),
+        );
         p += 1;
     }
 }
@@ -127,5 +133,12 @@ pub fn put_checkpoint(table: &[u8], process: u16, list: &[u16], answer: &mut [u8
     put_pair(answer, 0, n as u16, m as u16);
     put_raised(counts, n, process as usize, answer, 4);
     copy_numbers(parts::sends(table), 2 * m, answer, 4 + 2 * n);
-    put_receipts(parts::receipts(table), m, list, number, answer, 4 + 2 * n + 4 * m);
+    put_receipts(
+        parts::receipts(table),
+        m,
+        list,
+        number,
+        answer,
+        4 + 2 * n + 4 * m,
+    );
 }

@@ -1,5 +1,7 @@
 // Send: the table with one message more.
-use crate::copying::{copy_numbers, put_head, put_pair};
+use crate::copying::copy_numbers;
+use crate::copying::put_head;
+use crate::copying::put_pair;
 use run_table::numbers::u16_at;
 use run_table::parts;
 ghost use mathlib.Core.List.{[], _∷_, _++_};
@@ -17,7 +19,7 @@ fn put_longer(part: &[u8], m: usize, process: u16, checkpoint: u16, answer: &mut
     requires { ⌜ length (now part) ≡ 4 * m ⌝ }
     requires { ⌜ at + 4 * m + 4 ≤ length (now answer) ⌝ }
     ensures { λ _. ⌜ now (answer .exit)
-      ≡ putAt (now (answer .entry)) at (u16s (tabulate (2 * m) (λ k. u16At (now (part .entry)) (2 * k)) ++ (process ∷ checkpoint ∷ []))) ⌝ }
+        ≡ putAt (now (answer .entry)) at (u16s (tabulate (2 * m) (λ k. u16At (now (part .entry)) (2 * k)) ++ (process ∷ checkpoint ∷ []))) ⌝ }
 {
     copy_numbers(part, 2 * m, answer, at);
     put_pair(answer, at + 4 * m, process, checkpoint);
@@ -44,5 +46,12 @@ pub fn put_send(table: &[u8], from: u16, to: u16, answer: &mut [u8])
     let sent = latest(parts::counts(table), from);
     put_head(table, m + 1, answer);
     put_longer(parts::sends(table), m, from, sent, answer, 4 + 2 * n);
-    put_longer(parts::receipts(table), m, to, 0, answer, 4 + 2 * n + 4 * m + 4);
+    put_longer(
+        parts::receipts(table),
+        m,
+        to,
+        0,
+        answer,
+        4 + 2 * n + 4 * m + 4,
+    );
 }

@@ -44,10 +44,13 @@ put-pair-requires : tie.Need-put-pair-requires
 put-pair-requires c κs = search needs
 
 put-raised-requires : tie.Need-put-raised-requires
-put-raised-requires c κs =
-    (ap length (c .before .before .before .before .before .before .counts .ensures) ∙ counts-size _ (c .before .before .before .before .before .before .before .before .before .before .before .before .pre .0) ∙ ap (λ (x : ℕ). 2 * x) (sym (c .before .before .before .before .before .before .before .before .process-count .ensures)),
-    (λ p l. subst⁻¹ (λ (x : List ℕ). countAt x p < 65535) (c .before .before .before .before .before .before .counts .ensures) (omega (arith, counts-small _ (c .before .before .before .before .before .before .before .before .before .before .before .before .pre .0) p (omega (arith, l, c .before .before .before .before .before .before .before .before .process-count .ensures)))),
-    omega (arith, processes-few _ (c .before .before .before .before .before .before .before .before .before .before .before .before .pre .0), messages-few _ (c .before .before .before .before .before .before .before .before .before .before .before .before .pre .0), c .before .before .before .before .before .before .before .before .process-count .ensures, c .before .before .before .before .before .before .before .message-count .ensures, c .before .before .before .before .before .before .before .before .before .before .before .before .pre .1 .1 .1, c .before .before .before .put-pair .kept)))
+put-raised-requires c κs = (
+  ap length (c .before .before .before .before .before .before .counts .ensures) ∙ counts-size _ (c .before .before .before .before .before .before .before .before .before .before .before .before .pre .0) ∙ ap (λ (x : ℕ). 2 * x) (sym (c .before .before .before .before .before .before .before .before .process-count .ensures)),
+  (
+    λ p l. subst⁻¹ (λ (x : List ℕ). countAt x p < 65535) (c .before .before .before .before .before .before .counts .ensures) (omega (arith, counts-small _ (c .before .before .before .before .before .before .before .before .before .before .before .before .pre .0) p (omega (arith, l, c .before .before .before .before .before .before .before .before .process-count .ensures)))),
+    omega (arith, processes-few _ (c .before .before .before .before .before .before .before .before .before .before .before .before .pre .0), messages-few _ (c .before .before .before .before .before .before .before .before .before .before .before .before .pre .0), c .before .before .before .before .before .before .before .before .process-count .ensures, c .before .before .before .before .before .before .before .message-count .ensures, c .before .before .before .before .before .before .before .before .before .before .before .before .pre .1 .1 .1, c .before .before .before .put-pair .kept),
+  ),
+)
 
 sends-requires : tie.Need-sends-requires
 sends-requires c κs = search needs
@@ -80,10 +83,13 @@ add-put-receipts-2 : tie.Need-add-put-receipts-2
 add-put-receipts-2 c = search needs
 
 put-receipts-requires : tie.Need-put-receipts-requires
-put-receipts-requires c κs =
-    (ap length (c .before .receipts .ensures) ∙ receipts-size _ (c .before .before .before .before .before .before .before .before .before .before .before .before .before .before .before .before .before .before .before .before .before .before .pre .0) ∙ ap (λ (x : ℕ). 4 * x) (sym (c .before .before .before .before .before .before .before .before .before .before .before .before .before .before .before .before .before .message-count .ensures)),
-    (c .before .before .before .before .before .before .before .before .before .before .before .before .before .before .before .before .before .before .before .before .before .before .pre .1 .1 .0,
-    omega (arith, processes-few _ (c .before .before .before .before .before .before .before .before .before .before .before .before .before .before .before .before .before .before .before .before .before .before .pre .0), messages-few _ (c .before .before .before .before .before .before .before .before .before .before .before .before .before .before .before .before .before .before .before .before .before .before .pre .0), c .before .before .before .before .before .before .before .before .before .before .before .before .before .before .before .before .before .before .process-count .ensures, c .before .before .before .before .before .before .before .before .before .before .before .before .before .before .before .before .before .message-count .ensures, c .before .before .before .before .before .before .before .before .before .before .before .before .before .before .before .before .before .before .before .before .before .before .pre .1 .1 .1, c .before .before .before .before .before .before .before .before .before .before .before .before .before .put-pair .kept, c .before .before .before .before .before .before .before .before .before .put-raised .kept, c .before .before .before .before .copy-numbers .kept)))
+put-receipts-requires c κs = (
+  ap length (c .before .receipts .ensures) ∙ receipts-size _ (c .before .before .before .before .before .before .before .before .before .before .before .before .before .before .before .before .before .before .before .before .before .before .pre .0) ∙ ap (λ (x : ℕ). 4 * x) (sym (c .before .before .before .before .before .before .before .before .before .before .before .before .before .before .before .before .before .message-count .ensures)),
+  (
+    c .before .before .before .before .before .before .before .before .before .before .before .before .before .before .before .before .before .before .before .before .before .before .pre .1 .1 .0,
+    omega (arith, processes-few _ (c .before .before .before .before .before .before .before .before .before .before .before .before .before .before .before .before .before .before .before .before .before .before .pre .0), messages-few _ (c .before .before .before .before .before .before .before .before .before .before .before .before .before .before .before .before .before .before .before .before .before .before .pre .0), c .before .before .before .before .before .before .before .before .before .before .before .before .before .before .before .before .before .before .process-count .ensures, c .before .before .before .before .before .before .before .before .before .before .before .before .before .before .before .before .before .message-count .ensures, c .before .before .before .before .before .before .before .before .before .before .before .before .before .before .before .before .before .before .before .before .before .before .pre .1 .1 .1, c .before .before .before .before .before .before .before .before .before .before .before .before .before .put-pair .kept, c .before .before .before .before .before .before .before .before .before .put-raised .kept, c .before .before .before .before .copy-numbers .kept),
+  ),
+)
 
 same-length : tie.Need-same-length
 same-length c = search needs
