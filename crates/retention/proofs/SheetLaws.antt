@@ -1,0 +1,240 @@
+-- What the code finds is the keep sheet of the table.
+--     lines-length, lines-stand                   the lines of single holders; where `fill_lines` leaves them
+--     holder-numbers                              the line of one holder, as the code finds it
+--     checkpoints-are, columns-are, positions-are what the code finds in a scratch that has the lines
+--     .. -needs, .. -found                        the same, from what the code read
+--     sheet-length, sheet-is                      the sheet's length and its numbers
+-- Assumes nothing.
+use mathlib.Core.Bool.{Bool, cond, true, false, _&&_, _||_}
+use mathlib.Core.List.{List, [], _∷_, _++_, append-assoc, map, map-map}
+use mathlib.Core.Path.{_≡_, sym, ap, ap₂, _∙_}
+use Prim.Native.Nat.{ℕ, _+_, _-_, _*_, _^_, _<_, _≤_}
+use native.Mathlib.Omega.{arith}
+use borrow.Author.Tests.{lt-ltb}
+use lib.Dec.{eqb, ltb}
+use lib.ListN.{length, getD, take, drop, length-append, length-map, length-take}
+use lib.Seq.{getD-take, take-at}
+use Rattle.consistency.proofs.CeilingLaws.{set-length}
+use Rattle.consistency.specs.Ceilings.{ceilingOf, lineOf, single}
+use Rattle.consistency.specs.Lines.{at}
+use Rattle.consistency.specs.Lowering.{lineUnder}
+use Rattle.futures.specs.Sheet.{Kept, crosses, holderLine, keepsCheckpoint, keepsMessage, keptCheckpoints, keptMessages, rows, select, sheet}
+use Rattle.lines.proofs.ArrayLaws.{line-numbers}
+use Rattle.lines.specs.Arrays.{arrayOf}
+use Rattle.process_set.proofs.SetLaws.{member-one}
+use Rattle.process_set.specs.Sets.{member}
+use Rattle.retention.proofs.ListLaws.{map-rows, rows-at, rows-ext, rows-length, select-ext}
+use Rattle.retention.proofs.ScratchLaws.{cell-below}
+use Rattle.retention.proofs.WritingLaws.{room-checkpoints, room-positions, sheet-put}
+use Rattle.retention.specs.Lines.{holderLines}
+use Rattle.retention.specs.Scratch.{checkpointsAt, checkpointsOf, columnAt, columnOf, crossesLine, entryAt, isKept, positionsOf, shows, statesOf}
+use Rattle.retention.specs.Writing.{Put}
+use Rattle.run_table.proofs.NumberLaws.{anyBelow-ext, length-u16s, tabulate-ext}
+use Rattle.run_table.proofs.ReadLaws.{count-is, counts-size, message-good, message-is, messages-few, processes-few, receipts-size, receivers-known, senders-known, sends-size}
+use Rattle.run_table.specs.Checks.{tableRefusal}
+use Rattle.run_table.specs.Format.{countAt, countsPart, decode, processAt, receiptsPart, sendsPart}
+use Rattle.run_table.specs.Numbers.{putAt, tabulate, u16s}
+use Rattle.run_table.specs.Table.{Message, Table, countOf, messageCount, messageOf, processCount}
+
+-- ---- the lines of single holders
+module _ (t : Table) where
+  abbrev N : ℕ
+  N = processCount t
+
+  pub holder-length : (k : ℕ) → length (holderLine t k) ≡ N
+  unfolding holderLine
+  holder-length k = set-length t (single k)
+
+  pub lines-length : length (holderLines t) ≡ N * N
+  unfolding holderLines
+  lines-length = rows-length (holderLine t) N holder-length N
+
+  pub lines-fit : (n : ℕ) (s : List ℕ) → n ≡ N → N * N ≤ length s → length (rows (holderLine t) n) ≤ length s
+  unfolding holderLines
+  lines-fit n s same room = rw same (omega (arith, lines-length))
+
+  -- where the lines stand once they are written to the front of a scratch
+  pub lines-stand : (before after : List ℕ) → N * N ≤ length before → after ≡ putAt before 0 (holderLines t) → take (N * N) after ≡ holderLines t
+  unfolding putAt
+  lines-stand before after room e = ap (take (N * N)) e ∙ take-at (holderLines t) (drop (0 + length (holderLines t)) before) (N * N) lines-length
+
+  pub holder-line : (k set : ℕ) → set ≡ 2 ^ k → lineOf t (member set) ≡ holderLine t k
+  unfolding lineOf ceilingOf single holderLine
+  holder-line k set e =
+      ap (lineUnder (t .messages))
+      (tabulate-ext N _ _ (λ p _. ap (λ (b : Bool). cond b (countOf t p - 1) (countOf t p)) (ap (λ (x : ℕ). member x p) e ∙ member-one k p)))
+
+  pub sheet-length : length (sheet t) ≡ 4 + 4 * length (keptCheckpoints t) + 2 * length (keptMessages t)
+  unfolding sheet
+  sheet-length =
+      let ks = keptCheckpoints t in
+      let ps = map (λ (k : Kept). k .process) ks in
+      let ss = map (λ (k : Kept). k .state) ks in
+      omega (
+        arith,
+        length-u16s (length ks ∷ length (keptMessages t) ∷ (ps ++ (ss ++ keptMessages t))),
+        length-append ps (ss ++ keptMessages t),
+        length-append ss (keptMessages t),
+        length-map ks (λ (k : Kept). k .process),
+        length-map ks (λ (k : Kept). k .state),
+      )
+
+-- the line of holder k, as the code finds it
+pub holder-numbers : (bytes : List ℕ) (none : tableRefusal bytes ≡ 0) (n k set : ℕ) (line : List ℕ) → n ≡ processCount (decode bytes) → set ≡ 2 ^ k
+    → line ≡ arrayOf (lineOf (decode bytes) (member set)) → tabulate n (λ p. getD line p 0) ≡ holderLine (decode bytes) k
+holder-numbers bytes none n k set line read-n one e = line-numbers bytes none set n line read-n e ∙ holder-line (decode bytes) k set one
+
+-- the numbers of the sheet
+sheet-is : (t : Table) (k q : ℕ) (cs qs : List ℕ) → k ≡ length (keptCheckpoints t) → q ≡ length (keptMessages t)
+    → cs ≡ map (λ x. x .process) (keptCheckpoints t) ++ map (λ x. x .state) (keptCheckpoints t) → qs ≡ keptMessages t → u16s (k ∷ q ∷ (cs ++ qs)) ≡ sheet t
+unfolding sheet
+sheet-is t k q cs qs a b c d = rw (a, b, c, d, append-assoc)
+
+-- ---- what the code finds in a scratch that has the lines of an accepted table
+module _ (bytes : List ℕ) (none : tableRefusal bytes ≡ 0) (s : List ℕ)
+    (stand : take (processCount (decode bytes) * processCount (decode bytes)) s ≡ holderLines (decode bytes)) where
+  abbrev t : Table
+  t = decode bytes
+
+  scratch-room : N t * N t ≤ length s
+  scratch-room = omega (arith, ap length stand, lines-length t, length-take (N t * N t) s)
+
+  entry-is : (k i : ℕ) → k < N t → i < N t → entryAt s (N t) k i ≡ at (holderLine t k) i
+  unfolding entryAt holderLines
+  entry-is k i l b =
+      sym (getD-take (N t * N t) s (N t * k + i) 0 (cell-below (N t) k i l b)) ∙ ap (λ (x : List ℕ). getD x (N t * k + i) 0) stand
+      ∙ rows-at (holderLine t) (N t) (holder-length t) (N t) k i 0 l b
+
+  -- checkpoints
+  keeps-is : (i c : ℕ) → i < N t → c < countOf t i → shows s (N t) i c ≡ keepsCheckpoint t i c
+  unfolding shows keepsCheckpoint
+  keeps-is i c l b =
+      rw (lt-ltb c (countOf t i) b)
+      (anyBelow-ext (λ k. eqb (entryAt s (N t) k i) c) (λ k. eqb (at (holderLine t k) i) c) (N t)
+      (λ k d. ap (λ (x : ℕ). eqb x c) (entry-is k i d l)))
+
+  states-are : (i : ℕ) → i < N t → statesOf s (N t) i (countAt (countsPart bytes) i) ≡ select (keepsCheckpoint t i) (countOf t i)
+  unfolding statesOf
+  states-are i l =
+      ap (select (shows s (N t) i)) (count-is bytes none i l) ∙ select-ext (shows s (N t) i) (keepsCheckpoint t i) (countOf t i) (λ c b. keeps-is i c l b)
+
+  checkpoints-are : checkpointsOf s (N t) (countsPart bytes) ≡ keptCheckpoints t
+  unfolding checkpointsOf checkpointsAt keptCheckpoints
+  checkpoints-are = rows-ext _ _ (N t) (λ i l. ap (map (λ c. record { process = i; state = c })) (states-are i l))
+
+  -- messages
+  kept-is : (m : Message) → m .sender < N t → m .receiver < N t → isKept s (N t) m ≡ keepsMessage t m
+  unfolding isKept keepsMessage crossesLine crosses
+  kept-is m a b =
+      ap (λ (r : Bool). eqb (m .received) 0 || r)
+      (anyBelow-ext _ _ (N t) (λ k l. ap₂ (λ (x y : ℕ). ltb (m .sent) x && ltb y (m .received)) (entry-is k (m .sender) l a) (entry-is k (m .receiver) l b)))
+
+  positions-are : positionsOf s (N t) (sendsPart bytes) (receiptsPart bytes) (messageCount t) ≡ keptMessages t
+  unfolding positionsOf keptMessages
+  positions-are =
+      select-ext _ _ (messageCount t)
+      (λ k l.
+      let good = message-good bytes none k l in
+      ap (isKept s (N t)) (message-is bytes none k l) ∙ kept-is (messageOf t k) (good .sender-known) (good .receiver-known))
+
+  -- from what the code read
+  module _ (n : ℕ) (counts : List ℕ) (read-n : n ≡ N t) (read-c : counts ≡ countsPart bytes) where
+    pub checkpoints-needs : (n * n ≤ length s) × ((n ≤ 32) × (length counts ≡ 2 * n))
+    checkpoints-needs = rw (read-n, read-c) (scratch-room, (processes-few bytes none, counts-size bytes none))
+
+    pub checkpoints-found : checkpointsOf s n counts ≡ keptCheckpoints t
+    checkpoints-found = rw (read-n, read-c) checkpoints-are
+
+    processes-found : columnOf false s n counts ≡ map (λ k. k .process) (keptCheckpoints t)
+    unfolding columnOf columnAt checkpointsOf checkpointsAt
+    processes-found =
+        rows-ext _ _ n (λ i _. sym (map-map (λ (k : Kept). k .process) (λ c. record { process = i; state = c }) (statesOf s n i (countAt counts i))))
+        ∙ sym (map-rows (λ (k : Kept). k .process) _ n) ∙ ap (map (λ (k : Kept). k .process)) checkpoints-found
+
+    states-found : columnOf true s n counts ≡ map (λ k. k .state) (keptCheckpoints t)
+    unfolding columnOf columnAt checkpointsOf checkpointsAt
+    states-found =
+        rows-ext _ _ n (λ i _. sym (map-map (λ (k : Kept). k .state) (λ c. record { process = i; state = c }) (statesOf s n i (countAt counts i))))
+        ∙ sym (map-rows (λ (k : Kept). k .state) _ n) ∙ ap (map (λ (k : Kept). k .state)) checkpoints-found
+
+    columns-found : columnOf false s n counts ++ columnOf true s n counts ≡ map (λ k. k .process) (keptCheckpoints t) ++ map (λ k. k .state) (keptCheckpoints t)
+    columns-found = ap₂ (λ (x y : List ℕ). x ++ y) processes-found states-found
+
+    columns-size : (k : ℕ) → k ≡ length (keptCheckpoints t) → length (columnOf false s n counts ++ columnOf true s n counts) ≡ 2 * k
+    columns-size k e =
+        let ps = map (λ (x : Kept). x .process) (keptCheckpoints t) in
+        let ss = map (λ (x : Kept). x .state) (keptCheckpoints t) in
+        omega (
+          arith,
+          ap length columns-found,
+          length-append ps ss,
+          length-map (keptCheckpoints t) (λ (x : Kept). x .process),
+          length-map (keptCheckpoints t) (λ (x : Kept). x .state),
+        )
+
+  module _ (n m : ℕ) (sends receipts : List ℕ) (read-n : n ≡ N t) (read-m : m ≡ messageCount t) (read-s : sends ≡ sendsPart bytes)
+      (read-r : receipts ≡ receiptsPart bytes) where
+    pub messages-needs : (n * n ≤ length s)
+        × ((length sends ≡ 4 * m) × ((length receipts ≡ 4 * m) × (((k : ℕ) → k < m → processAt sends k < n) × ((k : ℕ) → k < m → processAt receipts k < n))))
+    messages-needs =
+        rw (read-n, read-m, read-s, read-r) (
+          scratch-room,
+          (sends-size bytes none, (receipts-size bytes none, ((λ k l. senders-known bytes none k l), (λ k l. receivers-known bytes none k l)))),
+        )
+
+    pub positions-found : positionsOf s n sends receipts m ≡ keptMessages t
+    positions-found = rw (read-n, read-m, read-s, read-r) positions-are
+
+    positions-size : (q : ℕ) → q ≡ length (keptMessages t) → length (positionsOf s n sends receipts m) ≡ q
+    positions-size q e = ap length positions-found ∙ sym e
+
+  -- the sheet, as the code puts it: K and Q, then the two arrays of checkpoints, then the positions
+  module _ (n : ℕ) (counts : List ℕ) (read-n : n ≡ N t) (read-c : counts ≡ countsPart bytes) (k q : ℕ) (kept : k ≡ length (keptCheckpoints t))
+      (logged : q ≡ length (keptMessages t)) (before a : List ℕ) (at : ℕ) (sizes : Put before a 0 (k ∷ q ∷ []) at)
+      (room : 4 + 4 * length (keptCheckpoints t) + 2 * length (keptMessages t) ≤ length before) where
+    columns : List ℕ
+    columns = columnOf false s n counts ++ columnOf true s n counts
+
+    columns-length : length columns ≡ 2 * k
+    unfolding columns
+    columns-length = columns-size n counts read-n read-c k kept
+
+    fits : 4 + 4 * k + 2 * q ≤ length before
+    fits = omega arith
+
+    pub columns-needs : (n * n ≤ length s)
+        × ((n ≤ 32) × ((length counts ≡ 2 * n) × (at + 2 * length (columnOf false s n counts ++ columnOf true s n counts) ≤ length a)))
+    unfolding columns
+    columns-needs =
+        let needed = checkpoints-needs n counts read-n read-c in
+        (needed .0, (needed .1 .0, (needed .1 .1, room-checkpoints before k q columns (keptMessages t) columns-length (sym logged) fits a at sizes)))
+
+    module _ (m : ℕ) (sends receipts : List ℕ) (read-m : m ≡ messageCount t) (read-s : sends ≡ sendsPart bytes) (read-r : receipts ≡ receiptsPart bytes)
+        (a₂ : List ℕ) (at₂ : ℕ) (put : Put a a₂ at (columnOf false s n counts ++ columnOf true s n counts) at₂) where
+      positions : List ℕ
+      positions = positionsOf s n sends receipts m
+
+      positions-length : length positions ≡ q
+      unfolding positions
+      positions-length = positions-size n m sends receipts read-n read-m read-s read-r q logged
+
+      pub positions-needs : (n * n ≤ length s)
+          × ((m ≤ 4096)
+          × ((length sends ≡ 4 * m)
+          × ((length receipts ≡ 4 * m)
+          × (((k : ℕ) → k < m → processAt sends k < n)
+          × (((k : ℕ) → k < m → processAt receipts k < n) × (at₂ + 2 * length (positionsOf s n sends receipts m) ≤ length a₂))))))
+      unfolding columns positions
+      positions-needs =
+          let needed = messages-needs n m sends receipts read-n read-m read-s read-r in
+          let last = room-positions before k q columns positions columns-length positions-length fits a at sizes a₂ at₂ put in (
+            needed .0,
+            (omega (arith, messages-few bytes none), (needed .1 .0, (needed .1 .1 .0, (needed .1 .1 .1 .0, (needed .1 .1 .1 .1, last))))),
+          )
+
+      pub sheet-written : (a₃ : List ℕ) (at₃ : ℕ) → Put a₂ a₃ at₂ (positionsOf s n sends receipts m) at₃ → a₃ ≡ putAt before 0 (sheet t)
+      unfolding columns positions
+      sheet-written a₃ at₃ last =
+          sheet-put before k q columns positions columns-length positions-length fits a at sizes a₂ at₂ put a₃ at₃ last
+          ∙ ap (putAt before 0)
+          (sheet-is t k q columns positions kept logged (columns-found n counts read-n read-c) (positions-found n m sends receipts read-n read-m read-s read-r))

@@ -1,0 +1,63 @@
+-- `messages::count_kept` meets its contract: the loop tests one message after another.
+-- Assumes nothing.
+use native.Mathlib.Omega.{arith}
+use borrow.Author.Tests.{not-true, not-false}
+use Prim.Native.Nat.{_-_}
+use Rattle.retention.proofs.ScratchLaws.{Tallied, tallied-none, tallied-small, tallied-skip, tallied-more, tallied-all}
+use Rattle.retention.specs.Scratch.{isKept, positionsOf}
+use Rattle.run_table.specs.Format.{messageAt}
+use Rattle.retention.proofs.messages.count_kept.Statement.{statement}
+use Rattle.retention.proofs.messages.count_kept.Tie as tie
+
+abbrev Inv-loop : tie.InvT-loop
+Inv-loop scratch n sends receipts m kept₀ k₀ kept k = Tallied (λ j. isKept scratch n (messageAt sends receipts j)) m kept k
+
+abbrev μ-loop : tie.MeasureT-loop
+μ-loop scratch n sends receipts m kept₀ k₀ kept k = m - k
+
+loop-holds : tie.Need-loop-holds Inv-loop μ-loop
+loop-holds c = tallied-none _ _
+
+is-kept-requires : tie.Need-is-kept-requires Inv-loop μ-loop
+is-kept-requires c κs =
+    let start = c .before .before .before .before .before in
+    let l = c .loop-test .taken in
+    omega (arith, start .pre .1 .1 .1 .0 _ l, start .pre .1 .1 .1 .1 _ l)
+
+add-k : tie.Need-add-k Inv-loop μ-loop
+add-k c = omega arith
+
+loop-less : tie.Need-loop-less Inv-loop μ-loop
+loop-less c = omega arith
+
+loop-again : tie.Need-loop-again Inv-loop μ-loop
+loop-again c = tallied-skip _ _ _ _ (c .before .before .before .loop .inv) (c .before .before .loop-test .taken) _ (c .before .is-kept .ensures) (not-true _ (c .if1 .taken))
+
+add-kept : tie.Need-add-kept Inv-loop μ-loop
+add-kept c = omega (arith, tallied-small _ _ _ _ (c .before .before .before .loop .inv))
+
+loop-less-2 : tie.Need-loop-less-2 Inv-loop μ-loop
+loop-less-2 c = omega arith
+
+loop-again-2 : tie.Need-loop-again-2 Inv-loop μ-loop
+loop-again-2 c = tallied-more _ _ _ _ (c .before .before .before .loop .inv) (c .before .before .loop-test .taken) _ (c .before .is-kept .ensures) (not-false _ (c .if1 .left))
+
+returns : tie.Need-returns Inv-loop μ-loop
+unfolding positionsOf
+returns c = tallied-all _ _ _ _ (c .before .loop .inv) (c .loop-test .left)
+
+pub count-kept-spec : {M : Type 1} → statement M
+count-kept-spec =
+    tie.close
+    (tie.spec
+    Inv-loop
+    μ-loop
+    loop-holds
+    is-kept-requires
+    add-k
+    loop-less
+    loop-again
+    add-kept
+    loop-less-2
+    loop-again-2
+    returns)

@@ -1,0 +1,63 @@
+-- `messages::crosses_line` meets its contract: the loop leaves at the first line that the message crosses.
+-- Assumes nothing.
+use native.Mathlib.Omega.{arith}
+use Prim.Native.Nat.{_-_}
+use Rattle.retention.proofs.ScratchLaws.{Uncrossed, uncrossed-none, sent-after, received-before, crossed, uncrossed-all}
+use Rattle.retention.specs.Scratch.{crossesLine, entryAt}
+use Rattle.retention.proofs.messages.crosses_line.Statement.{statement}
+use Rattle.retention.proofs.messages.crosses_line.Tie as tie
+
+abbrev Inv-loop : tie.InvT-loop
+Inv-loop scratch n sender sent receiver received k₀ k = Uncrossed (λ j. entryAt scratch n j sender) (λ j. entryAt scratch n j receiver) sent received n k
+
+abbrev μ-loop : tie.MeasureT-loop
+μ-loop scratch n sender sent receiver received k₀ k = n - k
+
+loop-holds : tie.Need-loop-holds Inv-loop μ-loop
+loop-holds c = uncrossed-none _ _ _ _ _
+
+entry-requires : tie.Need-entry-requires Inv-loop μ-loop
+entry-requires c κs = omega arith
+
+entry-requires-2 : tie.Need-entry-requires-2 Inv-loop μ-loop
+entry-requires-2 c κs = omega arith
+
+add-k : tie.Need-add-k Inv-loop μ-loop
+add-k c = omega arith
+
+loop-less : tie.Need-loop-less Inv-loop μ-loop
+loop-less c = omega arith
+
+loop-again : tie.Need-loop-again Inv-loop μ-loop
+loop-again c = sent-after _ _ _ _ _ _ (c .before .before .before .before .loop .inv) (c .before .before .before .loop-test .taken) _ _ (c .before .before .entry .ensures) (c .before .entry2 .ensures) (c .if1 .taken)
+
+loop-less-2 : tie.Need-loop-less-2 Inv-loop μ-loop
+loop-less-2 c = omega arith
+
+loop-again-2 : tie.Need-loop-again-2 Inv-loop μ-loop
+loop-again-2 c = received-before _ _ _ _ _ _ (c .before .before .before .before .before .loop .inv) (c .before .before .before .before .loop-test .taken) _ _ (c .before .before .before .entry .ensures) (c .before .before .entry2 .ensures) (c .if2 .taken)
+
+returns : tie.Need-returns Inv-loop μ-loop
+unfolding crossesLine
+returns c = crossed _ _ _ _ _ _ (c .before .before .before .before .before .loop .inv) (c .before .before .before .before .loop-test .taken) _ _ (c .before .before .before .entry .ensures) (c .before .before .entry2 .ensures) (c .before .if1 .left) (c .if2 .left)
+
+returns-2 : tie.Need-returns-2 Inv-loop μ-loop
+unfolding crossesLine
+returns-2 c = uncrossed-all _ _ _ _ _ _ (c .before .loop .inv) (c .loop-test .left)
+
+pub crosses-line-spec : {M : Type 1} → statement M
+crosses-line-spec =
+    tie.close
+    (tie.spec
+    Inv-loop
+    μ-loop
+    loop-holds
+    entry-requires
+    entry-requires-2
+    add-k
+    loop-less
+    loop-again
+    loop-less-2
+    loop-again-2
+    returns
+    returns-2)

@@ -1,0 +1,74 @@
+-- `writing::put_positions` meets its contract: the loop tests one message after another.
+-- Assumes nothing.
+use native.Mathlib.Omega.{arith}
+use mathlib.Core.Path.{refl}
+use borrow.Author.Tests.{not-true, not-false}
+use Prim.Native.Nat.{_-_, zero-le}
+use Rattle.futures.specs.Sheet.{select}
+use Rattle.retention.proofs.WritingLaws.{Putting, putting-none, putting-length, putting-all, passing-room, passing-skip, passing-more}
+use Rattle.retention.specs.Scratch.{isKept, positionsOf}
+use Rattle.run_table.specs.Format.{messageAt}
+use Rattle.retention.proofs.writing.put_positions.Statement.{statement}
+use Rattle.retention.proofs.writing.put_positions.Tie as tie
+
+abbrev Inv-loop : tie.InvT-loop
+Inv-loop buffer₀ at scratch n sends receipts m next₀ k₀ buffer next k = Putting (select (λ j. isKept scratch n (messageAt sends receipts j))) m buffer₀ at buffer next k
+
+abbrev μ-loop : tie.MeasureT-loop
+μ-loop buffer₀ at scratch n sends receipts m next₀ k₀ buffer next k = m - k
+
+loop-holds : tie.Need-loop-holds Inv-loop μ-loop
+unfolding select positionsOf
+loop-holds c = putting-none _ _ _ _ _ zero-le refl (c .before .before .before .before .pre .1 .1 .1 .1 .1 .1)
+
+is-kept-requires : tie.Need-is-kept-requires Inv-loop μ-loop
+is-kept-requires c κs =
+    let start = c .before .before .before .before .before .before in
+    let l = c .loop-test .taken in
+    omega (arith, start .pre .1 .1 .1 .1 .0 _ l, start .pre .1 .1 .1 .1 .1 .0 _ l)
+
+add-k : tie.Need-add-k Inv-loop μ-loop
+add-k c = omega arith
+
+loop-less : tie.Need-loop-less Inv-loop μ-loop
+loop-less c = omega arith
+
+loop-again : tie.Need-loop-again Inv-loop μ-loop
+loop-again c = passing-skip _ _ _ _ _ _ _ (c .before .before .before .loop .inv) (c .before .before .loop-test .taken) _ (c .before .is-kept .ensures) (not-true _ (c .if1 .taken))
+
+cast-put-number : tie.Need-cast-put-number Inv-loop μ-loop
+cast-put-number c = omega arith
+
+put-number-requires : tie.Need-put-number-requires Inv-loop μ-loop
+put-number-requires c κs = passing-room _ _ _ _ _ _ _ (c .before .before .before .before .loop .inv) (c .before .before .before .loop-test .taken) _ (c .before .before .is-kept .ensures) (not-false _ (c .before .if1 .left))
+
+loop-less-2 : tie.Need-loop-less-2 Inv-loop μ-loop
+loop-less-2 c = omega arith
+
+loop-again-2 : tie.Need-loop-again-2 Inv-loop μ-loop
+loop-again-2 c = passing-more _ _ _ _ _ _ _ (c .before .before .before .before .before .before .before .loop .inv) (c .before .before .before .before .before .before .loop-test .taken) _ (c .before .before .before .before .before .is-kept .ensures) (not-false _ (c .before .before .before .before .if1 .left)) _ _ (c .before .before .put-number .ensures)
+
+same-length : tie.Need-same-length Inv-loop μ-loop
+same-length c = putting-length _ _ _ _ _ _ _ (c .before .loop .inv)
+
+returns : tie.Need-returns Inv-loop μ-loop
+unfolding positionsOf
+returns c = putting-all _ _ _ _ _ _ _ (c .before .loop .inv) (c .loop-test .left)
+
+pub put-positions-spec : {M : Type 1} → statement M
+put-positions-spec =
+    tie.close
+    (tie.spec
+    Inv-loop
+    μ-loop
+    loop-holds
+    is-kept-requires
+    add-k
+    loop-less
+    loop-again
+    cast-put-number
+    put-number-requires
+    loop-less-2
+    loop-again-2
+    same-length
+    returns)

@@ -1,0 +1,62 @@
+// The kept checkpoints: the states below a process's count that some line has there.
+use crate::scratch::entry;
+use run_table::numbers::u16_at;
+ghost use mathlib.Core.Path.{_≡_};
+ghost use Prim.Native.Nat.{_*_, _<_, _≤_};
+ghost use lib.ListN.{length};
+ghost use Rattle.retention.specs.Scratch.{First, checkpointsOf, shows, statesOf};
+
+// The smallest state from a start on, below a count, that some line has at process i; the count where
+// there is none.
+pub fn next_kept(scratch: &[u16], n: usize, i: usize, from: u16, count: u16) -> u16
+    requires { ⌜ n * n ≤ length (now scratch) ⌝ }
+    requires { ⌜ i < n ⌝ }
+    requires { ⌜ from ≤ count ⌝ }
+    ensures { λ r. ⌜ First (shows (now (scratch .entry)) n i) from count r ⌝ }
+{
+    let mut least = count;
+    let mut k = 0;
+    while k < n {
+        let state = entry(scratch, n, k, i);
+        k += 1;
+        if state < from {
+            continue;
+        }
+        if least <= state {
+            continue;
+        }
+        least = state;
+    }
+    least
+}
+
+// How many states of process i are kept.
+fn count_states(scratch: &[u16], n: usize, i: usize, count: u16) -> usize
+    requires { ⌜ n * n ≤ length (now scratch) ⌝ }
+    requires { ⌜ i < n ⌝ }
+    ensures { λ r. ⌜ r ≡ length (statesOf (now (scratch .entry)) n i count) ⌝ }
+{
+    let mut kept = 0;
+    let mut state = next_kept(scratch, n, i, 0, count);
+    while state < count {
+        kept += 1;
+        state = next_kept(scratch, n, i, state + 1, count);
+    }
+    kept
+}
+
+// How many checkpoints are kept of n processes, from a part of their counts.
+pub fn count_kept(scratch: &[u16], n: usize, counts: &[u8]) -> usize
+    requires { ⌜ n * n ≤ length (now scratch) ⌝ }
+    requires { ⌜ n ≤ 32 ⌝ }
+    requires { ⌜ length (now counts) ≡ 2 * n ⌝ }
+    ensures { λ r. ⌜ r ≡ length (checkpointsOf (now (scratch .entry)) n (now (counts .entry))) ⌝ }
+{
+    let mut total = 0;
+    let mut i = 0;
+    while i < n {
+        total += count_states(scratch, n, i, u16_at(counts, 2 * i));
+        i += 1;
+    }
+    total
+}

@@ -1,0 +1,80 @@
+// The kept messages: undelivered, or crossing some line.
+use crate::scratch::entry;
+use run_table::numbers::u16_at;
+ghost use mathlib.Core.Path.{_≡_};
+ghost use Prim.Native.Nat.{ℕ, _+_, _*_, _<_, _≤_};
+ghost use lib.ListN.{length};
+ghost use Rattle.retention.specs.Scratch.{crossesLine, isKept, positionsOf};
+ghost use Rattle.run_table.specs.Format.{messageAt, processAt};
+
+// Whether a message crosses some line: sent before the line of its sender, and received after that of
+// its receiver.
+fn crosses_line(
+    scratch: &[u16],
+    n: usize,
+    sender: usize,
+    sent: u16,
+    receiver: usize,
+    received: u16,
+) -> bool
+    requires { ⌜ n * n ≤ length (now scratch) ⌝ }
+    requires { ⌜ sender < n ⌝ }
+    requires { ⌜ receiver < n ⌝ }
+    ensures { λ r. ⌜ r ≡ crossesLine (now (scratch .entry)) n sender sent receiver received ⌝ }
+{
+    let mut k = 0;
+    while k < n {
+        let of_sender = entry(scratch, n, k, sender);
+        let of_receiver = entry(scratch, n, k, receiver);
+        k += 1;
+        if of_sender <= sent {
+            continue;
+        }
+        if received <= of_receiver {
+            continue;
+        }
+        return true;
+    }
+    false
+}
+
+// Whether message k of a part of sends and a part of receipts is kept.
+pub fn is_kept(scratch: &[u16], n: usize, sends: &[u8], receipts: &[u8], k: usize) -> bool
+    requires { ⌜ n * n ≤ length (now scratch) ⌝ }
+    requires { ⌜ 4 * k + 3 < length (now sends) ⌝ }
+    requires { ⌜ 4 * k + 3 < length (now receipts) ⌝ }
+    requires { ⌜ processAt (now sends) k < n ⌝ }
+    requires { ⌜ processAt (now receipts) k < n ⌝ }
+    ensures { λ r. ⌜ r ≡ isKept (now (scratch .entry)) n (messageAt (now (sends .entry)) (now (receipts .entry)) k) ⌝ }
+{
+    let sender = u16_at(sends, 4 * k) as usize;
+    let sent = u16_at(sends, 4 * k + 2);
+    let receiver = u16_at(receipts, 4 * k) as usize;
+    let received = u16_at(receipts, 4 * k + 2);
+    if received == 0 {
+        return true;
+    }
+    crosses_line(scratch, n, sender, sent, receiver, received)
+}
+
+// How many of the m messages are kept.
+pub fn count_kept(scratch: &[u16], n: usize, sends: &[u8], receipts: &[u8], m: usize) -> usize
+    requires { ⌜ n * n ≤ length (now scratch) ⌝ }
+    requires { ⌜ length (now sends) ≡ 4 * m ⌝ }
+    requires { ⌜ length (now receipts) ≡ 4 * m ⌝ }
+    requires { ⌜ ((k : ℕ) → k < m → processAt (now sends) k < n) ⌝ }
+    requires { ⌜ ((k : ℕ) → k < m → processAt (now receipts) k < n) ⌝ }
+    ensures { λ r. ⌜ r ≡ length (positionsOf (now (scratch .entry)) n (now (sends .entry)) (now (receipts .entry)) m) ⌝ }
+{
+    let mut kept = 0;
+    let mut k = 0;
+    while k < m {
+        let keep = is_kept(scratch, n, sends, receipts, k);
+        k += 1;
+        if !keep {
+            continue;
+        }
+        kept += 1;
+    }
+    kept
+}

@@ -1,0 +1,151 @@
+// The numbers of a keep sheet, put into a buffer one after another. Each function answers the next
+// place.
+use crate::checkpoints::next_kept;
+use crate::messages::is_kept;
+use run_table::numbers::put_u16;
+use run_table::numbers::u16_at;
+ghost use mathlib.Core.Bool.{cond, false, true};
+ghost use mathlib.Core.List.{_∷_, [], _++_};
+ghost use mathlib.Core.Path.{_≡_};
+ghost use Prim.Native.Nat.{ℕ, _+_, _*_, _<_, _≤_};
+ghost use lib.ListN.{length};
+ghost use Rattle.retention.specs.Scratch.{columnAt, columnOf, positionsOf, statesOf};
+ghost use Rattle.retention.specs.Writing.{Put};
+ghost use Rattle.run_table.specs.Format.{processAt};
+
+// Puts one number at a place that has room for it.
+pub fn put_number(buffer: &mut [u8], at: usize, value: u16) -> usize
+    requires { ⌜ at + 1 < length (now buffer) ⌝ }
+    ensures { λ r. ⌜ Put (now (buffer .entry)) (now (buffer .exit)) at (value ∷ []) r ⌝ }
+{
+    put_u16(buffer, at, value);
+    at + 2
+}
+
+// Puts a size, by its low 16 bits.
+fn put_size(buffer: &mut [u8], at: usize, size: usize) -> usize
+    requires { ⌜ at + 1 < length (now buffer) ⌝ }
+    ensures { λ r. ⌜ Put (now (buffer .entry)) (now (buffer .exit)) at (size ∷ []) r ⌝ }
+{
+    put_number(buffer, at, (size % 65536) as u16)
+}
+
+// Puts K and Q to the front of a buffer.
+pub fn put_sizes(buffer: &mut [u8], kept: usize, logged: usize) -> usize
+    requires { ⌜ 4 ≤ length (now buffer) ⌝ }
+    ensures { λ r. ⌜ Put (now (buffer .entry)) (now (buffer .exit)) 0 (kept ∷ logged ∷ []) r ⌝ }
+{
+    let at = put_size(buffer, 0, kept);
+    put_size(buffer, at, logged)
+}
+
+// The number of a checkpoint in one array of the sheet: its state, or else its process.
+fn number_of(states: bool, process: u16, state: u16) -> u16
+    ensures { λ r. ⌜ r ≡ cond states state process ⌝ }
+{
+    if states {
+        return state;
+    }
+    process
+}
+
+// Puts one array's numbers of the kept checkpoints of process i.
+fn put_process(
+    buffer: &mut [u8],
+    at: usize,
+    states: bool,
+    scratch: &[u16],
+    n: usize,
+    i: usize,
+    count: u16,
+) -> usize
+    requires { ⌜ n * n ≤ length (now scratch) ⌝ }
+    requires { ⌜ n ≤ 32 ⌝ }
+    requires { ⌜ i < n ⌝ }
+    requires { ⌜ at + 2 * length (columnAt states i (statesOf (now scratch) n i count)) ≤ length (now buffer) ⌝ }
+    ensures { λ r. ⌜ Put (now (buffer .entry)) (now (buffer .exit)) at (columnAt states i (statesOf (now (scratch .entry)) n i count)) r ⌝ }
+{
+    let mut next = at;
+    let mut state = next_kept(scratch, n, i, 0, count);
+    while state < count {
+        next = put_number(buffer, next, number_of(states, i as u16, state));
+        state = next_kept(scratch, n, i, state + 1, count);
+    }
+    next
+}
+
+// Puts one array of the sheet: the states of the kept checkpoints of n processes, or else their
+// processes.
+fn put_column(
+    buffer: &mut [u8],
+    at: usize,
+    states: bool,
+    scratch: &[u16],
+    n: usize,
+    counts: &[u8],
+) -> usize
+    requires { ⌜ n * n ≤ length (now scratch) ⌝ }
+    requires { ⌜ n ≤ 32 ⌝ }
+    requires { ⌜ length (now counts) ≡ 2 * n ⌝ }
+    requires { ⌜ at + 2 * length (columnOf states (now scratch) n (now counts)) ≤ length (now buffer) ⌝ }
+    ensures { λ r. ⌜ Put (now (buffer .entry)) (now (buffer .exit)) at (columnOf states (now (scratch .entry)) n (now (counts .entry))) r ⌝ }
+{
+    let mut next = at;
+    let mut i = 0;
+    while i < n {
+        next = put_process(buffer, next, states, scratch, n, i, u16_at(counts, 2 * i));
+        i += 1;
+    }
+    next
+}
+
+// Puts the two arrays of the kept checkpoints: first the processes, then the states.
+pub fn put_checkpoints(
+    buffer: &mut [u8],
+    at: usize,
+    scratch: &[u16],
+    n: usize,
+    counts: &[u8],
+) -> usize
+    requires { ⌜ n * n ≤ length (now scratch) ⌝ }
+    requires { ⌜ n ≤ 32 ⌝ }
+    requires { ⌜ length (now counts) ≡ 2 * n ⌝ }
+    requires { ⌜ at + 2 * length (columnOf false (now scratch) n (now counts) ++ columnOf true (now scratch) n (now counts)) ≤ length (now buffer) ⌝ }
+    ensures { λ r. ⌜ Put (now (buffer .entry)) (now (buffer .exit)) at (columnOf false (now (scratch .entry)) n (now (counts .entry)) ++ columnOf true (now (scratch .entry)) n (now (counts .entry))) r ⌝ }
+{
+    let next = put_column(buffer, at, false, scratch, n, counts);
+    put_column(buffer, next, true, scratch, n, counts)
+}
+
+// Puts the positions of the kept messages.
+pub fn put_positions(
+    buffer: &mut [u8],
+    at: usize,
+    scratch: &[u16],
+    n: usize,
+    sends: &[u8],
+    receipts: &[u8],
+    m: usize,
+) -> usize
+    requires { ⌜ n * n ≤ length (now scratch) ⌝ }
+    requires { ⌜ m ≤ 4096 ⌝ }
+    requires { ⌜ length (now sends) ≡ 4 * m ⌝ }
+    requires { ⌜ length (now receipts) ≡ 4 * m ⌝ }
+    requires { ⌜ ((k : ℕ) → k < m → processAt (now sends) k < n) ⌝ }
+    requires { ⌜ ((k : ℕ) → k < m → processAt (now receipts) k < n) ⌝ }
+    requires { ⌜ at + 2 * length (positionsOf (now scratch) n (now sends) (now receipts) m) ≤ length (now buffer) ⌝ }
+    ensures { λ r. ⌜ Put (now (buffer .entry)) (now (buffer .exit)) at (positionsOf (now (scratch .entry)) n (now (sends .entry)) (now (receipts .entry)) m) r ⌝ }
+{
+    let mut next = at;
+    let mut k = 0;
+    while k < m {
+        let position = k;
+        let keep = is_kept(scratch, n, sends, receipts, k);
+        k += 1;
+        if !keep {
+            continue;
+        }
+        next = put_number(buffer, next, position as u16);
+    }
+    next
+}
