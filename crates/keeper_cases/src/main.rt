@@ -4,11 +4,16 @@
 // document 01 says of each.
 //     recovery LEN        the recovery line, into a buffer of LEN bytes
 //     hold SET LEN        the line of a set
+//     send FROM TO LEN    the table after a send
+//     save P LEN K ...    the table after a save of P, which receives the messages at positions K
+//     fall LEN            the table after a fall back
+//     use                 puts the last answer at the front of the table; a refusal is no answer
 //     # TEXT              printed as it stands
 // test_kit has the lines that build a table.
 use libc::STDIN_FILENO;
 use test_kit::all_are;
 use test_kit::build;
+use test_kit::copy;
 use test_kit::echo;
 use test_kit::end;
 use test_kit::fill;
@@ -16,6 +21,7 @@ use test_kit::length_of;
 use test_kit::numbers;
 use test_kit::script::line_at;
 use test_kit::script::size;
+use test_kit::script::small;
 use test_kit::script::starts;
 use test_kit::value;
 use test_kit::word;
@@ -42,8 +48,8 @@ fn answer_end(number: u32, written: usize) -> usize
     16 + written
 }
 
-// Prints what a call left in the guarded buffer.
-fn left(number: u32, written: usize, space: &[u8]) {
+// Prints what a call left in the guarded buffer, and says where its answer ends there.
+fn left(number: u32, written: usize, space: &[u8]) -> usize {
     value(number as u64);
     value(written as u64);
     let answer_end = answer_end(number, written);
@@ -55,21 +61,25 @@ fn left(number: u32, written: usize, space: &[u8]) {
             word(b" ok");
         }
     }
+    answer_end
 }
 
-fn recovery(table: &[u8], space: &mut [u8], room: usize) {
+// Each of these makes a call with a room inside the guarded buffer, and says where the answer ends
+// there: at 16, where the room starts, if there is none.
+fn recovery(table: &[u8], space: &mut [u8], room: usize) -> usize {
     fill(space, 165);
     if room < 40000 {
         let end_at = 16 + room;
         if end_at <= space.len() {
             let mut written: usize = 777;
             let number = keeper::keeper_recovery_line(table, &mut space[16..end_at], &mut written);
-            left(number, written, space);
+            return left(number, written, space);
         }
     }
+    16
 }
 
-fn hold(table: &[u8], set: u32, space: &mut [u8], room: usize) {
+fn hold(table: &[u8], set: u32, space: &mut [u8], room: usize) -> usize {
     fill(space, 165);
     if room < 40000 {
         let end_at = 16 + room;
@@ -81,42 +91,172 @@ fn hold(table: &[u8], set: u32, space: &mut [u8], room: usize) {
                 &mut space[16..end_at],
                 &mut written,
             );
-            left(number, written, space);
+            return left(number, written, space);
         }
     }
+    16
 }
 
-// Answers a line.
-fn answer(text: &[u8], at: usize, table: &[u8], space: &mut [u8], code: u16, list: &[u64; 16]) {
+fn send(table: &[u8], from: u16, to: u16, space: &mut [u8], room: usize) -> usize {
+    fill(space, 165);
+    if room < 40000 {
+        let end_at = 16 + room;
+        if end_at <= space.len() {
+            let mut written: usize = 777;
+            let number = keeper::keeper_send(table, from, to, &mut space[16..end_at], &mut written);
+            return left(number, written, space);
+        }
+    }
+    16
+}
+
+fn save(table: &[u8], process: u16, list: &[u16], space: &mut [u8], room: usize) -> usize {
+    fill(space, 165);
+    if room < 40000 {
+        let end_at = 16 + room;
+        if end_at <= space.len() {
+            let mut written: usize = 777;
+            let number = keeper::keeper_save(
+                table,
+                process,
+                list,
+                &mut space[16..end_at],
+                &mut written,
+            );
+            return left(number, written, space);
+        }
+    }
+    16
+}
+
+fn fall(table: &[u8], space: &mut [u8], room: usize) -> usize {
+    fill(space, 165);
+    if room < 40000 {
+        let end_at = 16 + room;
+        if end_at <= space.len() {
+            let mut written: usize = 777;
+            let number = keeper::keeper_fall_back(table, &mut space[16..end_at], &mut written);
+            return left(number, written, space);
+        }
+    }
+    16
+}
+
+// The numbers of a line after its first two, as positions.
+fn positions(list: &[u64; 16]) -> [u16; 16] {
+    let mut positions = [0u16; 16];
+    let mut i = 0;
+    while i < 14 {
+        positions[i] = small(list, i + 2);
+        i += 1;
+    }
+    positions
+}
+
+// How many positions stand on a line of so many numbers.
+fn position_count(count: usize) -> usize
+    ensures { λ r. ⌜ r ≤ 14 ⌝ }
+{
+    if count < 2 {
+        return 0;
+    }
+    if 16 < count {
+        return 14;
+    }
+    count - 2
+}
+
+// Makes the call that a line asks for, and says where its answer ends in the guarded buffer.
+fn call(table: &[u8], space: &mut [u8], code: u16, list: &[u64; 16], count: usize) -> usize {
+    if starts(code, b'r', b'e') {
+        return recovery(table, space, size(list, 0));
+    }
+    if starts(code, b'h', b'o') {
+        let set = (size(list, 0) % 4294967296) as u32;
+        return hold(table, set, space, size(list, 1));
+    }
+    if starts(code, b's', b'e') {
+        return send(table, small(list, 0), small(list, 1), space, size(list, 2));
+    }
+    if starts(code, b's', b'a') {
+        let positions = positions(list);
+        let received = &positions[0..position_count(count)];
+        return save(table, small(list, 0), received, space, size(list, 1));
+    }
+    fall(table, space, size(list, 0))
+}
+
+// Whether a line asks for a call.
+fn asks(code: u16) -> bool {
+    if starts(code, b'r', b'e') {
+        return true;
+    }
+    if starts(code, b'h', b'o') {
+        return true;
+    }
+    if starts(code, b's', b'e') {
+        return true;
+    }
+    if starts(code, b's', b'a') {
+        return true;
+    }
+    starts(code, b'f', b'a')
+}
+
+// Answers a line, and says where its answer ends in the guarded buffer.
+fn answer(
+    text: &[u8],
+    at: usize,
+    table: &[u8],
+    space: &mut [u8],
+    code: u16,
+    list: &[u64; 16],
+    count: usize,
+) -> usize {
     if starts(code, b'#', b' ') {
         echo(text, at);
         end();
-        return;
+        return 16;
     }
-    if starts(code, b'r', b'e') {
+    if asks(code) {
         echo(text, at);
         word(b" ->");
-        recovery(first(table, length_of(table)), space, size(list, 0));
+        let answer_end = call(first(table, length_of(table)), space, code, list, count);
         end();
-        return;
+        return answer_end;
     }
-    if starts(code, b'h', b'o') {
-        echo(text, at);
-        word(b" ->");
-        let set = (size(list, 0) % 4294967296) as u32;
-        hold(first(table, length_of(table)), set, space, size(list, 1));
-        end();
+    16
+}
+
+// Keeps an answer for `use`, and says how long the one kept is.
+fn keep(kept: &mut [u8], len: usize, space: &[u8], answer_end: usize) -> usize {
+    if 16 < answer_end {
+        if answer_end <= space.len() {
+            copy(kept, &space[16..answer_end]);
+            return answer_end - 16;
+        }
+    }
+    len
+}
+
+// Puts the answer that is kept at the front of the table, if a line says so.
+fn use_kept(table: &mut [u8], code: u16, kept: &[u8]) {
+    if starts(code, b'u', b's') {
+        copy(table, kept);
     }
 }
 
-fn run(text: &[u8], table: &mut [u8], space: &mut [u8]) {
+fn run(text: &[u8], table: &mut [u8], space: &mut [u8], kept: &mut [u8]) {
     let mut at = 0;
+    let mut kept_len = 0;
     while at < text.len() {
         let line = line_at(text, at);
         let code = line.code;
         let list = line.numbers;
         build(table, code, &list);
-        answer(text, at, table, space, code, &list);
+        use_kept(table, code, first(kept, kept_len));
+        let answer_end = answer(text, at, table, space, code, &list, line.count);
+        kept_len = keep(kept, kept_len, space, answer_end);
         at = line.next;
     }
 }
@@ -126,5 +266,6 @@ fn main() {
     let len = io::read_full(STDIN_FILENO, &mut text);
     let mut table = [0u8; 33000];
     let mut space = [0u8; 33000];
-    run(&text[..len], &mut table, &mut space);
+    let mut kept = [0u8; 33000];
+    run(&text[..len], &mut table, &mut space, &mut kept);
 }

@@ -116,6 +116,17 @@ pub fn fill(buffer: &mut [u8], value: u8)
     }
 }
 
+// Writes bytes at the front of a buffer.
+pub fn copy(buffer: &mut [u8], bytes: &[u8])
+    ensures { λ _. ⌜ length (now (buffer .exit)) ≡ length (now (buffer .entry)) ⌝ }
+{
+    let mut i = 0;
+    while i < bytes.len() {
+        byte(buffer, i, bytes[i]);
+        i += 1;
+    }
+}
+
 // Whether every byte from one place to another has a value.
 pub fn all_are(buffer: &[u8], from: usize, to: usize, value: u8) -> bool {
     let mut i = from;
