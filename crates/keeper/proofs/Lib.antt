@@ -1,7 +1,9 @@
 -- The laws of the keeper's answers.
 --     AnswerLaws    what a refusal and an answer leave
 --     LineLaws      the answers of the line calls
+--     SheetLaws     the answer of the keep sheet
 --     StepLaws      the checks and the answers of the steps
 pub mod AnswerLaws
 pub mod LineLaws
+pub mod SheetLaws
 pub mod StepLaws

@@ -1,15 +1,17 @@
 -- The answer of each call, from the table's bytes, its other arguments and the length of the answer buffer. Assumes nothing.
 use mathlib.Core.List.{List, [], _∷_, _++_}
 use mathlib.Core.Path.{_≡_}
-use Prim.Native.Nat.{ℕ, _*_}
-use lib.Dec.{leb}
-use lib.ListN.{take}
+use Prim.Native.Nat.{ℕ, zero, suc, _*_}
+use lib.Dec.{leb, ltb}
+use lib.ListN.{length, take, drop}
 use Rattle.consistency.specs.Ceilings.{Holders, ceilingOf, lineOf, recoveryLine}
 use Rattle.consistency.specs.Lines.{Latest, at}
+use Rattle.futures.specs.Sheet.{sheet}
 use Rattle.futures.specs.Steps.{afterCheckpoint, afterRollback, afterSend, checkpointChecks, sendChecks}
 use Rattle.keeper.specs.Answers.{Answer, answer}
 use Rattle.process_set.specs.Sets.{highBit, member}
-use Rattle.run_table.specs.Checks.{Accepted, Check}
+use Rattle.retention.specs.Lines.{holderLines}
+use Rattle.run_table.specs.Checks.{Accepted, Check, firstCaught, tableChecks}
 use Rattle.run_table.specs.Format.{decode, encode}
 use Rattle.run_table.specs.Numbers.{tabulate, u16At, u16s}
 use Rattle.run_table.specs.Table.{Table, countOf, messageCount, processCount}
@@ -27,6 +29,24 @@ lineOfSetAnswer table set room =
 unfoldable pub HoldsLatest : List ℕ → Holders → List ℕ → Type 0
 HoldsLatest table holds buffer =
     Latest (decode table .messages) (at (ceilingOf (decode table) holds)) (at (tabulate (processCount (decode table)) (λ p. u16At buffer (2 * p))))
+
+-- ---- the keep sheet
+-- 15. The scratch is shorter than N × N numbers.
+unfoldable pub scratchChecks : Table → ℕ → List Check
+scratchChecks t numbers = record { caught = ltb numbers (processCount t * processCount t); number = 15 } ∷ []
+
+-- The keep sheet: checks 1 to 9, 15, 16.
+unfoldable pub keepSheetAnswer : List ℕ → ℕ → ℕ → Answer
+keepSheetAnswer table numbers room = answer table (scratchChecks (decode table) numbers) (sheet (decode table)) room
+
+-- The scratch afterwards, by what the checks before 16 refuse: the lines of single holders, and then what was there; or unchanged.
+unfoldable pub linesUnless : ℕ → List ℕ → List ℕ → List ℕ
+linesUnless zero lines scratch = lines ++ drop (length lines) scratch
+linesUnless (suc n) lines scratch = scratch
+
+unfoldable pub scratchAfter : List ℕ → List ℕ → List ℕ
+scratchAfter table scratch =
+    linesUnless (firstCaught (tableChecks table ++ scratchChecks (decode table) (length scratch))) (holderLines (decode table)) scratch
 
 -- ---- the steps
 -- Checks 10 and 11; 14, that M is 4,096 already.

@@ -5,6 +5,10 @@ pub mod refusals;
 
 use refusals::save_refusal;
 use refusals::send_refusal;
+use retention::count_checkpoints;
+use retention::count_messages;
+use retention::fill_lines;
+use retention::put_sheet;
 use run_table::checks::check;
 use run_table::parts::message_count;
 use run_table::parts::process_count;
@@ -17,9 +21,10 @@ ghost use mathlib.Core.Bool.{true};
 ghost use mathlib.Core.Path.{_≡_};
 ghost use Prim.Native.Nat.{ℕ};
 ghost use lib.ListN.{length};
+ghost use Rattle.futures.specs.Demand3.{Demand3};
 ghost use Rattle.futures.specs.Steps.{checkpoint, rollback, send, step};
 ghost use Rattle.keeper.specs.Answers.{Yields};
-ghost use Rattle.keeper.specs.Calls.{HoldsLatest, HoldsTable, fallBackAnswer, lineOfSetAnswer, recoveryLineAnswer, saveAnswer, sendAnswer};
+ghost use Rattle.keeper.specs.Calls.{HoldsLatest, HoldsTable, fallBackAnswer, keepSheetAnswer, lineOfSetAnswer, recoveryLineAnswer, saveAnswer, scratchAfter, sendAnswer};
 ghost use Rattle.process_set.specs.Sets.{member};
 ghost use Rattle.run_table.specs.Checks.{tableRefusal};
 ghost use Rattle.run_table.specs.Format.{decode};
@@ -160,6 +165,41 @@ pub extern "C" fn keeper_fall_back(table: &[u8], answer: &mut [u8], written: &mu
         return 16;
     }
     put_rollback(table, line, m, answer);
+    *written = size;
+    0
+}
+
+// The keep sheet: what must be kept, and nothing more. The scratch takes N × N numbers, the lines of
+// single holders. For an accepted table the sheet lists a checkpoint, or a message, exactly when some
+// future needs it.
+#[no_mangle]
+pub extern "C" fn keeper_keep_sheet(
+    table: &[u8],
+    scratch: &mut [u16],
+    answer: &mut [u8],
+    written: &mut usize,
+) -> u32
+    ensures outcome { λ r. ⌜ Yields (keepSheetAnswer (now (table .entry)) (length (now (scratch .entry))) (length (now (answer .entry)))) r
+        (now (answer .entry)) (now (answer .exit)) (now (written .entry)) (now (written .exit)) ⌝ }
+    ensures lines { λ _. ⌜ now (scratch .exit) ≡ scratchAfter (now (table .entry)) (now (scratch .entry)) ⌝ }
+    ensures demand { λ _. ⌜ (tableRefusal (now (table .entry)) ≡ 0 → Demand3 (decode (now (table .entry)))) ⌝ }
+{
+    let refusal = check(table);
+    if refusal != 0 {
+        return refusal;
+    }
+    let n = process_count(table);
+    if scratch.len() < n * n {
+        return 15;
+    }
+    fill_lines(table, scratch);
+    let kept = count_checkpoints(table, scratch);
+    let logged = count_messages(table, scratch);
+    let size = 4 + 4 * kept + 2 * logged;
+    if answer.len() < size {
+        return 16;
+    }
+    put_sheet(table, scratch, answer);
     *written = size;
     0
 }

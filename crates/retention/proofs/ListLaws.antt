@@ -49,6 +49,13 @@ module _ {A : Type 0} where
   pub rows-room : (f : ℕ → List A) (k n : ℕ) → k < n → length (rows f k) + length (f k) ≤ length (rows f n)
   rows-room f k n l = omega (arith, rows-grow f (k + 1) n (omega arith), ap length (rows-more f k), length-append (rows f k) (f k))
 
+  -- lists of w entries at most
+  pub rows-most : (f : ℕ → List A) (w n : ℕ) → ((k : ℕ) → k < n → length (f k) ≤ w) → length (rows f n) ≤ w * n
+  unfolding rows
+  rows-most f w zero each = omega arith
+  rows-most f w (suc n) each =
+      omega (arith, length-append (rows f n) (f n), rows-most f w n (λ k l. each k (omega arith)), each n (omega arith), mul-suc w n)
+
   -- lists of w entries each
   module _ (f : ℕ → List A) (w : ℕ) (each : (k : ℕ) → length (f k) ≡ w) where
     pub rows-length : (n : ℕ) → length (rows f n) ≡ w * n
