@@ -1,7 +1,6 @@
 -- The answer of the keep sheet.
 --     scratch-kept, scratch-short, scratch-filled    the scratch afterwards, where a check refuses and where none before 16 does
 --     sheet-size                                     the length of the sheet, from the two numbers that were counted
---     demanded                                       demand 3 holds of an accepted table
 -- Assumes nothing.
 use mathlib.Core.List.{List, _++_}
 use mathlib.Core.Path.{_≡_, refl, sym, ap, _∙_}
@@ -9,14 +8,11 @@ use Prim.Native.Nat.{ℕ, zero, suc, _+_, _*_, _≤_, _<_}
 use native.Mathlib.Omega.{arith}
 use borrow.Author.Tests.{le-ltb, lt-ltb}
 use lib.ListN.{length}
-use Rattle.futures.proofs.Demand3.{demand-3}
-use Rattle.futures.specs.Demand3.{Demand3}
 use Rattle.futures.specs.Sheet.{keptCheckpoints, keptMessages, sheet}
 use Rattle.keeper.proofs.AnswerLaws.{put-in-front}
 use Rattle.keeper.specs.Calls.{linesUnless, scratchAfter, scratchChecks}
 use Rattle.retention.proofs.SheetLaws.{sheet-length}
 use Rattle.retention.specs.Lines.{holderLines}
-use Rattle.run_table.proofs.AcceptLaws.{accepted}
 use Rattle.run_table.proofs.CheckLaws.{append-passed, append-stopped, clear, passed, stopped, table-refusals}
 use Rattle.run_table.specs.Checks.{firstCaught, tableChecks, tableRefusal}
 use Rattle.run_table.specs.Format.{decode}
@@ -68,6 +64,3 @@ module _ (table scratch : List ℕ) where
 
 pub sheet-size : (t : Table) (kept logged : ℕ) → kept ≡ length (keptCheckpoints t) → logged ≡ length (keptMessages t) → 4 + 4 * kept + 2 * logged ≡ length (sheet t)
 sheet-size t kept logged a b = omega (arith, sheet-length t)
-
-pub demanded : (table : List ℕ) → tableRefusal table ≡ 0 → Demand3 (decode table)
-demanded table none = demand-3 (decode table) (accepted table none .well-formed)

@@ -1,11 +1,13 @@
 -- The answer of each call, from the table's bytes, its other arguments and the length of the answer buffer. Assumes nothing.
 use mathlib.Core.List.{List, [], _∷_, _++_}
+use mathlib.Core.Logic.{_↔_}
 use mathlib.Core.Path.{_≡_}
-use Prim.Native.Nat.{ℕ, zero, suc, _*_}
+use Prim.Native.Nat.{ℕ, zero, suc, _+_, _*_, _<_}
 use lib.Dec.{leb, ltb}
 use lib.ListN.{length, take, drop}
 use Rattle.consistency.specs.Ceilings.{Holders, ceilingOf, lineOf, recoveryLine}
 use Rattle.consistency.specs.Lines.{Latest, at}
+use Rattle.futures.specs.Futures.{CheckpointNeeded, MessageNeeded}
 use Rattle.futures.specs.Sheet.{sheet}
 use Rattle.futures.specs.Steps.{afterCheckpoint, afterRollback, afterSend, checkpointChecks, sendChecks}
 use Rattle.keeper.specs.Answers.{Answer, answer}
@@ -47,6 +49,21 @@ linesUnless (suc n) lines scratch = scratch
 unfoldable pub scratchAfter : List ℕ → List ℕ → List ℕ
 scratchAfter table scratch =
     linesUnless (firstCaught (tableChecks table ++ scratchChecks (decode table) (length scratch))) (holderLines (decode table)) scratch
+
+-- A sheet in a buffer lists checkpoint c of process i: entry n of its two arrays, for some n below K, is i and c.
+unfoldable pub ListsCheckpoint : List ℕ → ℕ → ℕ → Type 0
+ListsCheckpoint buffer i c =
+    let k = u16At buffer 0 in
+    (n : ℕ) × (n < k) × (u16At buffer (4 + 2 * n) ≡ i) × (u16At buffer (4 + 2 * k + 2 * n) ≡ c)
+
+-- It lists the message at a position: so is entry n of its positions, for some n below Q.
+unfoldable pub ListsMessage : List ℕ → ℕ → Type 0
+ListsMessage buffer position = (n : ℕ) × (n < u16At buffer 2) × (u16At buffer (4 + 4 * u16At buffer 0 + 2 * n) ≡ position)
+
+-- Demand 3, of the bytes in a buffer: they list exactly what some future of the table needs.
+pub record HoldsSheet (t : Table) (buffer : List ℕ) : Type 0 where
+  pub checkpoints : (i c : ℕ) → ListsCheckpoint buffer i c ↔ CheckpointNeeded t i c
+  pub messages : (k : ℕ) → ListsMessage buffer k ↔ MessageNeeded t k
 
 -- ---- the steps
 -- Checks 10 and 11; 14, that M is 4,096 already.

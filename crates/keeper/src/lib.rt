@@ -21,10 +21,9 @@ ghost use mathlib.Core.Bool.{true};
 ghost use mathlib.Core.Path.{_≡_};
 ghost use Prim.Native.Nat.{ℕ};
 ghost use lib.ListN.{length};
-ghost use Rattle.futures.specs.Demand3.{Demand3};
 ghost use Rattle.futures.specs.Steps.{checkpoint, rollback, send, step};
 ghost use Rattle.keeper.specs.Answers.{Yields};
-ghost use Rattle.keeper.specs.Calls.{HoldsLatest, HoldsTable, fallBackAnswer, keepSheetAnswer, lineOfSetAnswer, recoveryLineAnswer, saveAnswer, scratchAfter, sendAnswer};
+ghost use Rattle.keeper.specs.Calls.{HoldsLatest, HoldsSheet, HoldsTable, fallBackAnswer, keepSheetAnswer, lineOfSetAnswer, recoveryLineAnswer, saveAnswer, scratchAfter, sendAnswer};
 ghost use Rattle.process_set.specs.Sets.{member};
 ghost use Rattle.run_table.specs.Checks.{tableRefusal};
 ghost use Rattle.run_table.specs.Format.{decode};
@@ -170,8 +169,8 @@ pub extern "C" fn keeper_fall_back(table: &[u8], answer: &mut [u8], written: &mu
 }
 
 // The keep sheet: what must be kept, and nothing more. The scratch takes N × N numbers, the lines of
-// single holders. For an accepted table the sheet lists a checkpoint, or a message, exactly when some
-// future needs it.
+// single holders. On success the bytes in the buffer list a checkpoint, or a message, exactly when some
+// future of the run needs it.
 #[no_mangle]
 pub extern "C" fn keeper_keep_sheet(
     table: &[u8],
@@ -182,7 +181,7 @@ pub extern "C" fn keeper_keep_sheet(
     ensures outcome { λ r. ⌜ Yields (keepSheetAnswer (now (table .entry)) (length (now (scratch .entry))) (length (now (answer .entry)))) r
         (now (answer .entry)) (now (answer .exit)) (now (written .entry)) (now (written .exit)) ⌝ }
     ensures lines { λ _. ⌜ now (scratch .exit) ≡ scratchAfter (now (table .entry)) (now (scratch .entry)) ⌝ }
-    ensures demand { λ _. ⌜ (tableRefusal (now (table .entry)) ≡ 0 → Demand3 (decode (now (table .entry)))) ⌝ }
+    ensures demand { λ (r : ℕ). ⌜ (r ≡ 0 → HoldsSheet (decode (now (table .entry))) (now (answer .exit))) ⌝ }
 {
     let refusal = check(table);
     if refusal != 0 {

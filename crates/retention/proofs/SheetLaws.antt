@@ -10,6 +10,7 @@ use mathlib.Core.Bool.{Bool, cond, true, false, _&&_, _||_}
 use mathlib.Core.List.{List, [], _∷_, _++_, append-assoc, map, map-map}
 use mathlib.Core.Path.{_≡_, sym, ap, ap₂, _∙_}
 use Prim.Native.Nat.{ℕ, _+_, _-_, _*_, _^_, _<_, _≤_}
+use native.Mathlib.Nat.{mul-le-mul}
 use native.Mathlib.Omega.{arith}
 use borrow.Author.Tests.{lt-ltb}
 use lib.Dec.{eqb, ltb}
@@ -24,13 +25,13 @@ use Rattle.lines.proofs.ArrayLaws.{line-numbers}
 use Rattle.lines.specs.Arrays.{arrayOf}
 use Rattle.process_set.proofs.SetLaws.{member-one}
 use Rattle.process_set.specs.Sets.{member}
-use Rattle.retention.proofs.ListLaws.{map-rows, rows-at, rows-ext, rows-length, rows-most, select-ext, select-small}
+use Rattle.retention.proofs.FewLaws.{checkpoints-few}
+use Rattle.retention.proofs.ListLaws.{map-rows, rows-at, rows-ext, rows-length, select-ext, select-small}
 use Rattle.retention.proofs.ScratchLaws.{cell-below}
 use Rattle.retention.proofs.WritingLaws.{room-checkpoints, room-positions, sheet-put}
 use Rattle.retention.specs.Lines.{holderLines}
 use Rattle.retention.specs.Scratch.{checkpointsAt, checkpointsOf, columnAt, columnOf, crossesLine, entryAt, isKept, positionsOf, shows, statesOf}
 use Rattle.retention.specs.Writing.{Put}
-use Rattle.run_table.proofs.AcceptLaws.{accepted}
 use Rattle.run_table.proofs.NumberLaws.{anyBelow-ext, length-u16s, tabulate-ext}
 use Rattle.run_table.proofs.ReadLaws.{count-is, counts-size, message-good, message-is, messages-few, processes-few, receipts-size, receivers-known, senders-known, sends-size}
 use Rattle.run_table.specs.Checks.{tableRefusal}
@@ -81,26 +82,15 @@ module _ (t : Table) where
         length-map ks (λ (k : Kept). k .state),
       )
 
-module _ (bytes : List ℕ) (none : tableRefusal bytes ≡ 0) where
-  abbrev u : Table
-  u = decode bytes
-
-  abbrev checkpointAt : ℕ → ℕ → Kept
-  checkpointAt i c = record { process = i; state = c }
-
-  abbrev keptAt : ℕ → List Kept
-  keptAt i = map (checkpointAt i) (select (keepsCheckpoint u i) (countOf u i))
-
-  kept-few-at : (i : ℕ) → i < processCount u → length (keptAt i) ≤ 4096
-  kept-few-at i l =
-      omega (arith, length-map (select (keepsCheckpoint u i) (countOf u i)) (checkpointAt i), select-small (keepsCheckpoint u i) (countOf u i), accepted bytes none .limits .counts-limit i l)
-
-  pub kept-few : (length (keptCheckpoints u) ≤ 131072) × (length (keptMessages u) ≤ 4096)
-  unfolding keptCheckpoints keptMessages
-  kept-few = (
-    omega (arith, processes-few bytes none, rows-most keptAt 4096 (processCount u) kept-few-at),
-    omega (arith, messages-few bytes none, select-small (λ k. keepsMessage u (messageOf u k)) (messageCount u)),
-  )
+-- at most N × N checkpoints, and M messages
+pub kept-few : (bytes : List ℕ) → tableRefusal bytes ≡ 0 → (length (keptCheckpoints (decode bytes)) ≤ 1024) × (length (keptMessages (decode bytes)) ≤ 4096)
+unfolding keptMessages
+kept-few bytes none =
+    let t = decode bytes in
+    let few = processes-few bytes none in (
+      omega (arith, checkpoints-few t, mul-le-mul few few),
+      omega (arith, messages-few bytes none, select-small (λ k. keepsMessage t (messageOf t k)) (messageCount t)),
+    )
 
 -- the line of holder k, as the code finds it
 pub holder-numbers : (bytes : List ℕ) (none : tableRefusal bytes ≡ 0) (n k set : ℕ) (line : List ℕ) → n ≡ processCount (decode bytes) → set ≡ 2 ^ k

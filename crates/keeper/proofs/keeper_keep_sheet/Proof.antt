@@ -9,7 +9,8 @@ use denote.Ref.{now}
 use lib.ListN.{length}
 use Rattle.futures.specs.Sheet.{sheet}
 use Rattle.keeper.proofs.AnswerLaws.{all-answered, own-refused, room-refused, table-refused}
-use Rattle.keeper.proofs.SheetLaws.{demanded, long-passed, scratch-filled, scratch-kept, scratch-short, sheet-size, short-caught}
+use Rattle.keeper.proofs.SheetBytes.{sheet-holds}
+use Rattle.keeper.proofs.SheetLaws.{long-passed, scratch-filled, scratch-kept, scratch-short, sheet-size, short-caught}
 use Rattle.keeper.specs.Calls.{keepSheetAnswer, scratchChecks}
 use Rattle.retention.proofs.SheetLaws.{kept-few, lines-stand}
 use Rattle.run_table.proofs.CheckLaws.{areRefusals}
@@ -41,7 +42,7 @@ check-requires c κs = search needs
 
 returns : tie.Need-returns
 unfolding keepSheetAnswer scratchChecks areRefusals
-returns c = (table-refused _ _ _ _ _ _ _ (c .before .check .ensures) (c .if1 .taken), (scratch-kept _ _ _ (c .before .check .ensures) (c .if1 .taken), demanded _))
+returns c = (table-refused _ _ _ _ _ _ _ (c .before .check .ensures) (c .if1 .taken), (scratch-kept _ _ _ (c .before .check .ensures) (c .if1 .taken), (λ e. absurd (c .if1 .taken e))))
 
 process-count-requires : tie.Need-process-count-requires
 process-count-requires c κs = search needs
@@ -54,7 +55,7 @@ unfolding keepSheetAnswer scratchChecks areRefusals
 returns-2 c =
     let none = accepted (c .before .before) in
     let short = short-caught _ (now (c .before .before .before .before .before .before .before .args .scratch)) none _ (c .before .process-count .ensures) (c .if2 .taken) in
-    (own-refused _ _ (sheet (decode (now (c .before .before .before .before .before .before .before .args .table)))) _ none 14 _ _ short, (scratch-short _ _ none _ (c .before .process-count .ensures) (c .if2 .taken), demanded _))
+    (own-refused _ _ (sheet (decode (now (c .before .before .before .before .before .before .before .args .table)))) _ none 14 _ _ short, (scratch-short _ _ none _ (c .before .process-count .ensures) (c .if2 .taken), (λ e. absurd (omega (arith, e)))))
 
 fill-lines-requires : tie.Need-fill-lines-requires
 fill-lines-requires c κs = (accepted (c .before .before .before), long (c .before))
@@ -87,7 +88,7 @@ returns-3 c =
     let read = c .before .before .before .before .before .before .before .before .before .before .process-count .ensures in
     let enough = c .before .before .before .before .before .before .before .before .before .if2 .left in (
       room-refused _ _ (sheet (decode (now (c .before .before .before .before .before .before .before .before .before .before .before .before .before .before .before .before .args .table)))) _ none refl (long-passed _ (now (c .before .before .before .before .before .before .before .before .before .before .before .before .before .before .before .before .args .scratch)) none _ read enough) _ _ (omega (arith, c .if3 .taken, size (c .before))),
-      (scratch-filled _ _ none _ read enough _ (c .before .before .before .before .before .before .before .fill-lines .ensures), demanded _),
+      (scratch-filled _ _ none _ read enough _ (c .before .before .before .before .before .before .before .fill-lines .ensures), (λ e. absurd (omega (arith, e)))),
     )
 
 put-sheet-requires : tie.Need-put-sheet-requires
@@ -107,7 +108,7 @@ returns-4 c =
     let enough = c .before .before .before .before .before .before .before .before .before .before .before .before .before .before .if2 .left in
     let sized = size (c .before .before .before .before .before .before) in (
       all-answered _ _ (sheet (decode (now (c .before .before .before .before .before .before .before .before .before .before .before .before .before .before .before .before .before .before .before .before .before .args .table)))) _ none refl (long-passed _ (now (c .before .before .before .before .before .before .before .before .before .before .before .before .before .before .before .before .before .before .before .before .before .args .scratch)) none _ read enough) _ _ _ _ (omega (arith, c .before .before .before .before .before .if3 .left, sized)) (c .before .before .put-sheet .ensures) sized,
-      (scratch-filled _ _ none _ read enough _ (c .before .before .before .before .before .before .before .before .before .before .before .before .fill-lines .ensures), demanded _),
+      (scratch-filled _ _ none _ read enough _ (c .before .before .before .before .before .before .before .before .before .before .before .before .fill-lines .ensures), (λ _. sheet-holds _ none _ _ (c .before .before .put-sheet .ensures))),
     )
 
 pub keeper-keep-sheet-spec : {M : Type 1} → statement M
