@@ -1,6 +1,7 @@
 // The keeper: every call that a user makes, with a C name and no requires. A call answers 0, or the
 // number of the first check that catches. On success the answer stands at the front of the answer
-// buffer and its length in `written`; on a refusal nothing lent is changed.
+// buffer and its length in `written`; on a refusal nothing lent is changed, but that under 16 the
+// scratch of a keep sheet holds the lines.
 pub mod refusals;
 
 use refusals::save_refusal;

@@ -1,12 +1,14 @@
 // Runs the keeper's calls over the script on standard input and prints each line that asks something,
 // with the number returned, what stands at `written` afterwards (777 before the call), the answer's
-// numbers or a checksum of them, and `ok` where every other byte is as it was. The file stdout has what
-// document 01 says of each.
+// numbers or a checksum of them, and `ok` where every other byte is as it was. For a keep sheet the lines
+// in the scratch follow the answer, also under 16, and `ok` covers every other number around and behind
+// them too. The file stdout has what document 01 says of each.
 //     recovery LEN        the recovery line, into a buffer of LEN bytes
 //     hold SET LEN        the line of a set
 //     send FROM TO LEN    the table after a send
 //     save P LEN K ...    the table after a save of P, which receives the messages at positions K
 //     fall LEN            the table after a fall back
+//     sheet SCRATCH LEN   the keep sheet, with a scratch of SCRATCH numbers, 1,184 at most
 //     use                 puts the last answer at the front of the table; a refusal is no answer
 //     # TEXT              printed as it stands
 // test_kit has the lines that build a table.
@@ -18,14 +20,18 @@ use test_kit::echo;
 use test_kit::end;
 use test_kit::fill;
 use test_kit::length_of;
+use test_kit::number;
 use test_kit::numbers;
+use test_kit::script::code_of;
 use test_kit::script::line_at;
 use test_kit::script::size;
 use test_kit::script::small;
 use test_kit::script::starts;
 use test_kit::value;
 use test_kit::word;
+ghost use mathlib.Core.Path.{_≡_};
 ghost use Prim.Native.Nat.{_≤_};
+ghost use lib.ListN.{length};
 
 // The first bytes of a buffer, or all of a shorter one.
 fn first(buffer: &[u8], len: usize) -> &[u8] {
@@ -49,17 +55,30 @@ fn answer_end(number: u32, written: usize) -> usize
 }
 
 // Prints what a call left in the guarded buffer, and says where its answer ends there.
-fn left(number: u32, written: usize, space: &[u8]) -> usize {
+fn show(number: u32, written: usize, space: &[u8]) -> usize {
     value(number as u64);
     value(written as u64);
     let answer_end = answer_end(number, written);
     if answer_end <= space.len() {
         numbers(&space[16..answer_end]);
     }
+    answer_end
+}
+
+// Whether the guarded buffer is as it was, in front of the answer and behind it.
+fn is_guarded(space: &[u8], answer_end: usize) -> bool {
     if all_are(space, 0, 16, 165) {
-        if all_are(space, answer_end, space.len(), 165) {
-            word(b" ok");
-        }
+        return all_are(space, answer_end, space.len(), 165);
+    }
+    false
+}
+
+// Prints what a call left in the guarded buffer, `ok` if the rest is as it was, and says where its answer
+// ends there.
+fn left(number: u32, written: usize, space: &[u8]) -> usize {
+    let answer_end = show(number, written, space);
+    if is_guarded(space, answer_end) {
+        word(b" ok");
     }
     answer_end
 }
@@ -142,6 +161,138 @@ fn fall(table: &[u8], space: &mut [u8], room: usize) -> usize {
     16
 }
 
+// The number of processes that a table gives: its first number.
+fn process_count(table: &[u8]) -> usize {
+    if table.len() < 2 {
+        return 0;
+    }
+    code_of(table[1], table[0]) as usize
+}
+
+// How many numbers n lines of n numbers are, for 32 processes at most.
+fn square(n: usize) -> usize
+    ensures { λ r. ⌜ r ≤ 1024 ⌝ }
+{
+    if 32 < n {
+        return 0;
+    }
+    n * n
+}
+
+// Where the lines end in the guarded scratch, whose room starts at number 16: at 16 if there are none.
+fn lines_end(number: u32, n: usize) -> usize
+    ensures { λ r. ⌜ 16 ≤ r ⌝ }
+{
+    if number == 0 {
+        return 16 + square(n);
+    }
+    if number == 16 {
+        return 16 + square(n);
+    }
+    16
+}
+
+// Number i of a list, 0 behind its end.
+fn number_at(list: &[u16], i: usize) -> u16 {
+    if i < list.len() {
+        return list[i];
+    }
+    0
+}
+
+// Writes 1,024 numbers of a list as bytes, low byte first.
+fn put_numbers(bytes: &mut [u8], list: &[u16])
+    ensures { λ _. ⌜ length (now (bytes .exit)) ≡ length (now (bytes .entry)) ⌝ }
+{
+    let mut i = 0;
+    while i < 1024 {
+        number(bytes, 2 * i, number_at(list, i));
+        i += 1;
+    }
+}
+
+// Prints the lines, if there are any: their numbers or a checksum of them.
+fn show_lines(lines: &[u16], bytes: &mut [u8]) {
+    if lines.len() == 0 {
+        return;
+    }
+    if lines.len() <= 1024 {
+        put_numbers(bytes, lines);
+        word(b" lines");
+        numbers(first(bytes, 2 * lines.len()));
+    }
+}
+
+// Whether every number of the scratch from one place to another is its guard.
+fn are_guards(scratch: &[u16], from: usize, to: usize) -> bool {
+    let mut i = from;
+    while i < to {
+        if i < scratch.len() {
+            if scratch[i] != 42405 {
+                return false;
+            }
+        }
+        i += 1;
+    }
+    true
+}
+
+// Prints what a call for a keep sheet of n processes left in the guarded buffer and the guarded scratch,
+// `ok` if the rest of both is as it was, and says where its answer ends.
+fn left_sheet(number: u32, written: usize, n: usize, scratch: &[u16], space: &[u8]) -> usize {
+    let answer_end = show(number, written, space);
+    let lines_end = lines_end(number, n);
+    if lines_end <= scratch.len() {
+        let mut bytes = [0u8; 2048];
+        show_lines(&scratch[16..lines_end], &mut bytes);
+    }
+    if is_guarded(space, answer_end) {
+        if are_guards(scratch, 0, 16) {
+            if are_guards(scratch, lines_end, scratch.len()) {
+                word(b" ok");
+            }
+        }
+    }
+    answer_end
+}
+
+// Makes the call for a keep sheet, with a lent part of the guarded scratch and a room inside the guarded
+// buffer, and says where the answer ends there.
+fn sheet_in(
+    table: &[u8],
+    scratch: &mut [u16],
+    lent: usize,
+    space: &mut [u8],
+    room: usize,
+) -> usize {
+    fill(space, 165);
+    if room < 40000 {
+        let end_at = 16 + room;
+        if end_at <= space.len() {
+            if lent <= 1184 {
+                let lent_end = 16 + lent;
+                if lent_end <= scratch.len() {
+                    let mut written: usize = 777;
+                    let number = keeper::keeper_keep_sheet(
+                        table,
+                        &mut scratch[16..lent_end],
+                        &mut space[16..end_at],
+                        &mut written,
+                    );
+                    return left_sheet(number, written, process_count(table), scratch, space);
+                }
+            }
+        }
+    }
+    16
+}
+
+// The same with a new scratch: 16 guards, 1,184 numbers to lend from, 16 guards.
+fn sheet(table: &[u8], lent: usize, space: &mut [u8], room: usize) -> usize {
+    let mut scratch = [42405u16; 1216];
+    sheet_in(table, &mut scratch, lent, space, room)
+}
+
 // The numbers of a line after its first two, as positions.
 fn positions(list: &[u64; 16]) -> [u16; 16] {
     let mut positions = [0u16; 16];
@@ -183,6 +334,9 @@ fn call(table: &[u8], space: &mut [u8], code: u16, list: &[u64; 16], count: usiz
         let received = &positions[0..position_count(count)];
         return save(table, small(list, 0), received, space, size(list, 1));
     }
+    if starts(code, b's', b'h') {
+        return sheet(table, size(list, 0), space, size(list, 1));
+    }
     fall(table, space, size(list, 0))
 }
 
@@ -198,6 +352,9 @@ fn asks(code: u16) -> bool {
         return true;
     }
     if starts(code, b's', b'a') {
+        return true;
+    }
+    if starts(code, b's', b'h') {
         return true;
     }
     starts(code, b'f', b'a')
