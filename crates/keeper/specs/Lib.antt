@@ -1,5 +1,7 @@
 -- What each call of the keeper yields.
 --     Answers    a refusal or an answer, and what they leave in what was lent
 --     Calls      the answer of each call, by document 01
+--     Cases      its marked cases
 pub mod Answers
 pub mod Calls
+pub mod Cases

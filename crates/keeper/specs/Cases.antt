@@ -1,0 +1,99 @@
+-- The marked cases of document 01, as one table. Assumes nothing.
+use mathlib.Core.Bool.{Bool, true, false, _&&_}
+use mathlib.Core.List.{List, [], _∷_, _++_}
+use Prim.Native.Nat.{ℕ}
+use lib.Dec.{eqb}
+use Rattle.keeper.specs.Answers.{Answer, answered, refused, unless}
+use Rattle.keeper.specs.Calls.{fallBackAnswer, keepSheetAnswer, lineOfSetAnswer, recoveryLineAnswer}
+use Rattle.run_table.specs.Checks.{tableRefusal}
+use Rattle.run_table.specs.Numbers.{u16s}
+
+-- ---- the tables, by their numbers: N, M; the counts; the sends; the receipts
+unfoldable pub tableA : List ℕ
+tableA = u16s (2 ∷ 5 ∷ 3 ∷ 3 ∷ 0 ∷ 0 ∷ 1 ∷ 0 ∷ 1 ∷ 1 ∷ 0 ∷ 2 ∷ 1 ∷ 2 ∷ 1 ∷ 2 ∷ 0 ∷ 1 ∷ 0 ∷ 2 ∷ 1 ∷ 2 ∷ 0 ∷ 0 ∷ [])
+
+unfoldable pub tableB : List ℕ
+tableB = u16s (1 ∷ 0 ∷ 1 ∷ [])
+
+unfoldable pub tableC : List ℕ
+tableC = u16s (2 ∷ 0 ∷ 1 ∷ 4 ∷ [])
+
+unfoldable pub tableD : List ℕ
+tableD = u16s (2 ∷ 2 ∷ 2 ∷ 2 ∷ 0 ∷ 1 ∷ 1 ∷ 0 ∷ 1 ∷ 1 ∷ 0 ∷ 1 ∷ [])
+
+-- A, with (1, 2) to (0, 3), and with (1, 3) to (0, 0), as its last message.
+unfoldable pub lateReceipt : List ℕ
+lateReceipt = u16s (2 ∷ 5 ∷ 3 ∷ 3 ∷ 0 ∷ 0 ∷ 1 ∷ 0 ∷ 1 ∷ 1 ∷ 0 ∷ 2 ∷ 1 ∷ 2 ∷ 1 ∷ 2 ∷ 0 ∷ 1 ∷ 0 ∷ 2 ∷ 1 ∷ 2 ∷ 0 ∷ 3 ∷ [])
+
+unfoldable pub lateSend : List ℕ
+lateSend = u16s (2 ∷ 5 ∷ 3 ∷ 3 ∷ 0 ∷ 0 ∷ 1 ∷ 0 ∷ 1 ∷ 1 ∷ 0 ∷ 2 ∷ 1 ∷ 3 ∷ 1 ∷ 2 ∷ 0 ∷ 1 ∷ 0 ∷ 2 ∷ 1 ∷ 2 ∷ 0 ∷ 0 ∷ [])
+
+-- ---- a case: a call on a table, and the answer that the document gives
+pub data Call : Type 0 where
+  checkTable : Call
+  recoveryLine : Call
+  hold : ℕ → Call
+  fallBack : Call
+  keepSheet : Call
+
+pub record Case : Type 0 where
+  pub table : List ℕ
+  pub call : Call
+  pub expected : Answer
+
+-- The answer of a call by the definitions, with a buffer of 1,000 bytes and a scratch of 4 numbers.
+unfoldable pub answerOf : List ℕ → Call → Answer
+answerOf table checkTable = unless (tableRefusal table) []
+answerOf table recoveryLine = recoveryLineAnswer table 1000
+answerOf table (hold set) = lineOfSetAnswer table set 1000
+answerOf table fallBack = fallBackAnswer table 1000
+answerOf table keepSheet = keepSheetAnswer table 4 1000
+
+-- ---- whether a case holds
+unfoldable pub sameBytes : List ℕ → List ℕ → Bool
+sameBytes [] [] = true
+sameBytes [] (y ∷ ys) = false
+sameBytes (x ∷ xs) [] = false
+sameBytes (x ∷ xs) (y ∷ ys) = eqb x y && sameBytes xs ys
+
+unfoldable pub sameAnswer : Answer → Answer → Bool
+sameAnswer (refused n) (refused m) = eqb n m
+sameAnswer (refused n) (answered ys) = false
+sameAnswer (answered xs) (refused m) = false
+sameAnswer (answered xs) (answered ys) = sameBytes xs ys
+
+unfoldable pub allHold : List Case → Bool
+allHold [] = true
+allHold (c ∷ rest) = sameAnswer (answerOf (c .table) (c .call)) (c .expected) && allHold rest
+
+-- ---- the cases
+unfoldable pub markedCases : List Case
+markedCases =
+    -- A1: the two hold lines of A
+    record { table = tableA; call = hold 1; expected = answered (u16s (1 ∷ 1 ∷ [])) }
+    ∷ record { table = tableA; call = hold 2; expected = answered (u16s (3 ∷ 2 ∷ [])) }
+    -- A2: its sheet
+    ∷ record { table = tableA; call = keepSheet; expected = answered (3 ∷ 0 ∷ 2 ∷ 0 ∷ 0 ∷ 0 ∷ 1 ∷ 0 ∷ 1 ∷ 0 ∷ 1 ∷ 0 ∷ 1 ∷ 0 ∷ 2 ∷ 0 ∷ 0 ∷ 0 ∷ 4 ∷ 0 ∷ []) }
+    -- A3: A after a fall back
+    ∷ record { table = tableA; call = fallBack; expected = answered (u16s (2 ∷ 2 ∷ 2 ∷ 2 ∷ 0 ∷ 0 ∷ 1 ∷ 0 ∷ 1 ∷ 0 ∷ 0 ∷ 1 ∷ [])) }
+    -- B: its line, and its state 0
+    ∷ record { table = tableB; call = recoveryLine; expected = answered (u16s (0 ∷ [])) }
+    ∷ record { table = tableB; call = keepSheet; expected = answered (u16s (1 ∷ 0 ∷ 0 ∷ 0 ∷ [])) }
+    -- C: its hold lines and its sheet
+    ∷ record { table = tableC; call = hold 1; expected = answered (u16s (0 ∷ 4 ∷ [])) }
+    ∷ record { table = tableC; call = hold 2; expected = answered (u16s (1 ∷ 3 ∷ [])) }
+    ∷ record { table = tableC; call = keepSheet; expected = answered (u16s (2 ∷ 0 ∷ 0 ∷ 1 ∷ 0 ∷ 3 ∷ [])) }
+    -- D: its line, its hold lines and its sheet
+    ∷ record { table = tableD; call = recoveryLine; expected = answered (u16s (0 ∷ 0 ∷ [])) }
+    ∷ record { table = tableD; call = hold 1; expected = answered (u16s (0 ∷ 0 ∷ [])) }
+    ∷ record { table = tableD; call = hold 2; expected = answered (u16s (2 ∷ 1 ∷ [])) }
+    ∷ record { table = tableD; call = keepSheet; expected = answered (u16s (3 ∷ 0 ∷ 0 ∷ 1 ∷ 1 ∷ 0 ∷ 0 ∷ 1 ∷ [])) }
+    -- E: 3 bytes; N = 33; M = 4,097
+    ∷ record { table = 2 ∷ 0 ∷ 0 ∷ []; call = checkTable; expected = refused 1 }
+    ∷ record { table = u16s (33 ∷ 0 ∷ []); call = checkTable; expected = refused 2 }
+    ∷ record { table = u16s (2 ∷ 4097 ∷ []); call = checkTable; expected = refused 3 }
+    -- F: A with one byte more; with receipt (0, 3) in its last entry; with send (1, 3) there
+    ∷ record { table = tableA ++ (0 ∷ []); call = checkTable; expected = refused 4 }
+    ∷ record { table = lateReceipt; call = checkTable; expected = refused 9 }
+    ∷ record { table = lateSend; call = checkTable; expected = refused 8 }
+    ∷ []
