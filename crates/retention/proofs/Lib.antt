@@ -5,7 +5,7 @@
 --     WritingLaws    numbers put into a buffer
 --     SheetLaws      what the code finds is the keep sheet of the table
 pub mod FewLaws
-mod ListLaws
+pub mod ListLaws
 pub mod ScratchLaws
 pub mod SheetLaws
 mod WritingLaws

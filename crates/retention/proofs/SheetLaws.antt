@@ -112,7 +112,7 @@ module _ (bytes : List ℕ) (none : tableRefusal bytes ≡ 0) (s : List ℕ)
   scratch-room : N t * N t ≤ length s
   scratch-room = omega (arith, ap length stand, lines-length t, length-take (N t * N t) s)
 
-  entry-is : (k i : ℕ) → k < N t → i < N t → entryAt s (N t) k i ≡ at (holderLine t k) i
+  pub entry-is : (k i : ℕ) → k < N t → i < N t → entryAt s (N t) k i ≡ at (holderLine t k) i
   unfolding entryAt holderLines
   entry-is k i l b =
       sym (getD-take (N t * N t) s (N t * k + i) 0 (cell-below (N t) k i l b)) ∙ ap (λ (x : List ℕ). getD x (N t * k + i) 0) stand

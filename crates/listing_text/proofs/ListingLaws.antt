@@ -1,0 +1,283 @@
+-- What the code reads is the listing of the table.
+--     sum-positive, share-fits      the share is a number
+--     sheet-answered                the call for a keep sheet refuses by the table alone, and leaves its answers
+--     Reading, listing-parts        the listing, in the parts that the code puts
+--     refused-text, accepted-text   the listing of bytes, by their refusal
+--     listing-refused, listing-answered, size-inside    the call's answer
+-- Assumes nothing.
+use mathlib.Core.Bool.{Bool, true, false}
+use mathlib.Core.List.{List, [], _∷_, _++_}
+use mathlib.Core.Path.{_≡_, refl, sym, ap, ap₂, _∙_, subst, subst⁻¹}
+use Prim.Native.Nat.{ℕ, zero, suc, _+_, _*_, _/_, _≤_, _<_}
+use native.Mathlib.Nat.{div-le-self, mul-le-mul}
+use native.Mathlib.Omega.{arith}
+use borrow.Author.Tests.{le-ltb, lt-ltb}
+use lib.Dec.{ltb}
+use lib.ListN.{length, take, drop, getD, length-append, length-drop, length-take, take-append-drop}
+use lib.Seq.{getD-drop, take-append-seam}
+use Rattle.consistency.proofs.CeilingLaws.{set-length}
+use Rattle.consistency.specs.Ceilings.{recoveryLine}
+use Rattle.consistency.specs.Lines.{at}
+use Rattle.consistency.specs.Lowering.{sum}
+use Rattle.futures.specs.Sheet.{Kept, holderLine, keptCheckpoints, keptMessages, rows, sheet}
+use Rattle.keeper.proofs.AnswerLaws.{all-answered, put-in-front, table-refused}
+use Rattle.keeper.proofs.SheetBytes.{read-kept, read-logged, read-position, read-process, read-state}
+use Rattle.keeper.proofs.SheetLaws.{long-passed, scratch-filled}
+use Rattle.keeper.specs.Answers.{Yields, bufferAfter, lengthAfter, numberOf, unless}
+use Rattle.keeper.specs.Calls.{keepSheetAnswer, scratchAfter, scratchChecks}
+use Rattle.lines.proofs.ArrayLaws.{array-length, array-numbers}
+use Rattle.lines.specs.Arrays.{arrayOf}
+use Rattle.listing_text.proofs.RowLaws.{line-in}
+use Rattle.listing_text.proofs.TextLaws.{Parts, each-rows, overlay-front}
+use Rattle.listing_text.specs.Listing.{checkpointRow, holdRow, lineRow, listing, listingAnswer, listingOf, listingUnless, messageRow, refusedRow, share, shareRow}
+use Rattle.listing_text.specs.Rows.{Answered, checkpointAt, checkpointRows, holdRows, lineAt, messageRows}
+use Rattle.listing_text.specs.Text.{Laid, each, overlay}
+use Rattle.retention.proofs.ListLaws.{rows-ext}
+use Rattle.retention.proofs.SheetLaws.{entry-is, holder-length, kept-few, lines-length, lines-stand, sheet-length}
+use Rattle.retention.specs.Lines.{holderLines}
+use Rattle.retention.specs.Scratch.{entryAt}
+use Rattle.run_table.proofs.AcceptLaws.{accepted}
+use Rattle.run_table.proofs.CheckLaws.{areRefusals, clear, passed, stopped}
+use Rattle.run_table.proofs.NumberLaws.{tabulate-ext, tabulate-getD}
+use Rattle.run_table.proofs.ReadLaws.{processes-few}
+use Rattle.run_table.specs.Checks.{firstCaught, tableRefusal}
+use Rattle.run_table.specs.Format.{decode}
+use Rattle.run_table.specs.Numbers.{putAt, tabulate, u16At}
+use Rattle.run_table.specs.Table.{Table, countOf, processCount}
+
+-- the first n numbers of a list that has them
+take-tabulate : (n : ℕ) (l : List ℕ) → n ≤ length l → take n l ≡ tabulate n (λ p. getD l p 0)
+unfolding tabulate
+take-tabulate zero l fits = refl
+take-tabulate (suc n) [] fits = absurd (omega (arith, fits))
+take-tabulate (suc n) (x ∷ l) fits = ap (λ (r : List ℕ). x ∷ r) (take-tabulate n l (omega (arith, fits)))
+
+-- ---- the share
+sum-some : (l : List ℕ) (p : ℕ) → getD l p 0 ≤ sum l
+unfolding sum
+sum-some [] p = omega arith
+sum-some (x ∷ l) zero = omega arith
+sum-some (x ∷ l) (suc p) = omega (arith, sum-some l p)
+
+pub sum-positive : (table : List ℕ) → tableRefusal table ≡ 0 → 0 < sum (decode table .counts)
+unfolding countOf
+sum-positive table none =
+    omega (arith, sum-some (decode table .counts) 0, accepted table none .well-formed .some-checkpoint 0 (accepted table none .well-formed .some-process))
+
+pub share-fits : (table : List ℕ) (kept total : ℕ) → tableRefusal table ≡ 0 → kept ≡ length (keptCheckpoints (decode table)) → 100 * kept / total ≤ 102400
+share-fits table kept total none is = omega (arith, div-le-self (100 * kept) total, kept-few table none .0)
+
+-- ---- the call for a keep sheet, with a scratch and a buffer that are always long enough
+module _ (table scratch bytes : List ℕ) (long : 1024 ≤ length scratch) (room : 12292 ≤ length bytes) where
+  abbrev t : Table
+  t = decode table
+
+  lines-room : tableRefusal table ≡ 0 → processCount t * processCount t ≤ length scratch
+  lines-room none = omega (arith, long, mul-le-mul (processes-few table none) (processes-few table none))
+
+  answered-by : (none : tableRefusal table ≡ 0) (written : ℕ)
+      → Yields (keepSheetAnswer table (length scratch) (length bytes)) 0 bytes (putAt bytes 0 (sheet t)) written (length (sheet t))
+  unfolding keepSheetAnswer scratchChecks areRefusals
+  answered-by none written =
+      all-answered table (scratchChecks t (length scratch)) (sheet t) (length bytes) none refl (long-passed table scratch none (processCount t) refl (lines-room none)) bytes (putAt bytes 0 (sheet t)) written (length (sheet t))
+      (omega (arith, room, sheet-length t, kept-few table none .0, kept-few table none .1)) refl refl
+
+  module _ (r : ℕ) (after scratch′ : List ℕ) (written written′ : ℕ) (y : Yields (keepSheetAnswer table (length scratch) (length bytes)) r bytes after written written′)
+      (filled : scratch′ ≡ scratchAfter table scratch) where
+    pub sheet-number : r ≡ tableRefusal table
+    unfolding keepSheetAnswer
+    sheet-number = go (tableRefusal table) refl where
+      go : (k : ℕ) → tableRefusal table ≡ k → r ≡ k
+      go zero e = y .number-is ∙ sym (answered-by e written .number-is)
+      go (suc k) e =
+          y .number-is ∙ sym (table-refused table (scratchChecks t (length scratch)) (sheet t) (length bytes) (suc k) bytes written (sym e) (λ z. omega (arith, z)) .number-is)
+
+    pub sheet-answered : tableRefusal table ≡ 0 → Answered t scratch′ after
+    sheet-answered none = record {
+      lines-are =
+          lines-stand t scratch scratch′ (lines-room none)
+          (filled ∙ sym (scratch-filled table scratch none (processCount t) refl (lines-room none) (putAt scratch 0 (holderLines t)) refl));
+      sheet-is =
+          ap (take (length (sheet t))) (y .buffer-is ∙ sym (answered-by none written .buffer-is) ∙ put-in-front bytes (sheet t))
+          ∙ take-append-seam (sheet t) (drop (length (sheet t)) bytes);
+    }
+
+-- ---- the parts of the listing, from what was read
+pub record Reading (table : List ℕ) (n : ℕ) (line scratch bytes : List ℕ) (k q : ℕ) : Type 0 where
+  pub none : tableRefusal table ≡ 0
+  pub answered : Answered (decode table) scratch bytes
+  pub n-is : n ≡ processCount (decode table)
+  pub line-is : line ≡ arrayOf (recoveryLine (decode table))
+  pub k-is : k ≡ u16At bytes 0
+  pub q-is : q ≡ u16At bytes 2
+
+module _ (table : List ℕ) (none : tableRefusal table ≡ 0) where
+  abbrev t₂ : Table
+  t₂ = decode table
+
+  recovery-read : (n : ℕ) (line : List ℕ) → n ≡ processCount t₂ → line ≡ arrayOf (recoveryLine t₂) → (n ≤ length line) × (take n line ≡ recoveryLine t₂)
+  unfolding recoveryLine
+  recovery-read n line read-n is =
+      let few : processCount t₂ ≤ 32 = processes-few table none in
+      let size : length (recoveryLine t₂) ≡ processCount t₂ = set-length t₂ (λ p. true) in
+      let fits : n ≤ length line = omega (arith, ap length is, array-length (recoveryLine t₂)) in
+      (fits, take-tabulate n line fits ∙ array-numbers (recoveryLine t₂) line n is (omega arith) (omega arith))
+
+  module _ (scratch bytes : List ℕ) (h : Answered t₂ scratch bytes) where
+    -- the lines of single holders
+    lines-fit : processCount t₂ * processCount t₂ ≤ length scratch
+    lines-fit = omega (arith, ap length (h .lines-are), lines-length t₂, length-take (processCount t₂ * processCount t₂) scratch)
+
+    line-read : (k : ℕ) → k < processCount t₂ → lineAt scratch (processCount t₂) k ≡ holderLine t₂ k
+    unfolding lineAt entryAt
+    line-read k l =
+        let n₀ : ℕ = processCount t₂ in
+        let inside : n₀ ≤ length (drop (n₀ * k) scratch) = omega (arith, lines-fit, line-in n₀ k l, length-drop (n₀ * k) scratch) in
+        take-tabulate n₀ (drop (n₀ * k) scratch) inside
+        ∙ tabulate-ext n₀ _ _ (λ i b. getD-drop (n₀ * k) scratch i 0 ∙ entry-is table none scratch (h .lines-are) k i l b)
+        ∙ ap (λ (m : ℕ). tabulate m (λ i. getD (holderLine t₂ k) i 0)) (sym (holder-length t₂ k)) ∙ tabulate-getD (holderLine t₂ k) 0
+
+    holds-read : (n : ℕ) → n ≡ processCount t₂ → holdRows scratch n ≡ rows (λ k. holdRow k (holderLine t₂ k)) (processCount t₂)
+    unfolding holdRows
+    holds-read n read-n = rw read-n (rows-ext _ _ (processCount t₂) (λ k l. ap (holdRow k) (line-read k l)))
+
+    -- the sheet
+    put : bytes ≡ putAt bytes 0 (sheet t₂)
+    put =
+        sym (take-append-drop (length (sheet t₂)) bytes) ∙ ap (λ (x : List ℕ). x ++ drop (length (sheet t₂)) bytes) (h .sheet-is) ∙ sym (put-in-front bytes (sheet t₂))
+
+    kept-read : u16At bytes 0 ≡ length (keptCheckpoints t₂)
+    kept-read = read-kept table none bytes bytes put
+
+    logged-read : u16At bytes 2 ≡ length (keptMessages t₂)
+    logged-read = read-logged table none bytes bytes put
+
+    sheet-room : 4 + 4 * length (keptCheckpoints t₂) + 2 * length (keptMessages t₂) ≤ length bytes
+    sheet-room = omega (arith, sheet-length t₂, ap length (h .sheet-is), length-take (length (sheet t₂)) bytes)
+
+    no-checkpoint : Kept
+    no-checkpoint = record { process = 0; state = 0 }
+
+    checkpoints-read : (k : ℕ) → k ≡ u16At bytes 0 → checkpointRows bytes k ≡ each checkpointRow (keptCheckpoints t₂)
+    unfolding checkpointRows checkpointAt
+    checkpoints-read k is =
+        ap (rows (λ e. checkpointRow (checkpointAt bytes k e))) (is ∙ kept-read)
+        ∙ rows-ext _ _ (length (keptCheckpoints t₂))
+        (λ e l.
+        ap₂ (λ (p c : ℕ). checkpointRow (record { process = p; state = c })) (read-process table none bytes bytes put e no-checkpoint l)
+        (ap (λ (x : ℕ). u16At bytes (4 + 2 * x + 2 * e)) is ∙ read-state table none bytes bytes put e no-checkpoint l))
+        ∙ sym (each-rows checkpointRow no-checkpoint (keptCheckpoints t₂))
+
+    messages-read : (k q : ℕ) → k ≡ u16At bytes 0 → q ≡ u16At bytes 2 → messageRows bytes k q ≡ each messageRow (keptMessages t₂)
+    unfolding messageRows
+    messages-read k q is is₂ =
+        ap (rows (λ e. messageRow (u16At bytes (4 + 4 * k + 2 * e)))) (is₂ ∙ logged-read)
+        ∙ rows-ext _ _ (length (keptMessages t₂))
+        (λ e l. ap messageRow (ap (λ (x : ℕ). u16At bytes (4 + 4 * x + 2 * e)) is ∙ read-position table none bytes bytes put e 0 l))
+        ∙ sym (each-rows messageRow 0 (keptMessages t₂))
+
+module _ {table : List ℕ} {n : ℕ} {line scratch bytes : List ℕ} {k q : ℕ} (r : Reading table n line scratch bytes k q) where
+  abbrev t₃ : Table
+  t₃ = decode table
+
+  -- what the rows need of the buffers
+  pub line-room : n ≤ length line
+  line-room = recovery-read table (r .none) n line (r .n-is) (r .line-is) .0
+
+  pub line-taken : n ≡ length (take n line)
+  line-taken = omega (arith, line-room, length-take n line)
+
+  pub holds-needs : (n ≤ 32) × (n * n ≤ length scratch)
+  holds-needs = (omega (arith, r .n-is, processes-few table (r .none)), rw (r .n-is) (lines-fit table (r .none) scratch bytes (r .answered)))
+
+  pub kept-is : k ≡ length (keptCheckpoints t₃)
+  kept-is = r .k-is ∙ kept-read table (r .none) scratch bytes (r .answered)
+
+  pub sheet-needs : 4 + 4 * k + 2 * q ≤ length bytes
+  sheet-needs =
+      omega (arith, kept-is, r .q-is, logged-read table (r .none) scratch bytes (r .answered), sheet-room table (r .none) scratch bytes (r .answered))
+
+  -- the listing, in the parts that the code puts
+  pub listing-parts : (s : ℕ) → s ≡ share t₃
+      → Parts (listing t₃) (lineRow (take n line)) (holdRows scratch n ++ (checkpointRows bytes k ++ (messageRows bytes k q ++ shareRow s)))
+  unfolding listing
+  listing-parts s is =
+      let a : take n line ≡ recoveryLine t₃ = recovery-read table (r .none) n line (r .n-is) (r .line-is) .1 in
+      let b = holds-read table (r .none) scratch bytes (r .answered) n (r .n-is) in
+      let c = checkpoints-read table (r .none) scratch bytes (r .answered) k (r .k-is) in
+      let d = messages-read table (r .none) scratch bytes (r .answered) k q (r .k-is) (r .q-is) in
+      record { is = rw (a, b, c, d, is) }
+
+-- the first two numbers of a sheet stand in its bytes
+pub sheet-long : (t : Table) (scratch bytes : List ℕ) → Answered t scratch bytes → 4 ≤ length bytes
+sheet-long t scratch bytes h = omega (arith, sheet-length t, ap length (h .sheet-is), length-take (length (sheet t)) bytes)
+
+-- ---- the listing of bytes, by their refusal
+pub refused-text : (table : List ℕ) (r : ℕ) → r ≡ tableRefusal table → (r ≡ 0 → ⊥) → refusedRow r ≡ listingOf table
+unfolding listingOf listingUnless
+refused-text table zero e nonzero = absurd (nonzero refl)
+refused-text table (suc n) e nonzero = ap (λ (r : ℕ). listingUnless r (listing (decode table))) e
+
+pub accepted-text : (table : List ℕ) → tableRefusal table ≡ 0 → listing (decode table) ≡ listingOf table
+unfolding listingOf listingUnless
+accepted-text table none = rw none
+
+-- ---- the call's answer, once the text was measured by an empty buffer
+module _ (table buffer last : List ℕ) (size written : ℕ) (measured : Laid [] last 0 (listingOf table) size) where
+  unchanged : last ++ buffer ≡ buffer
+  unfolding overlay
+  unchanged = ap (λ (l : List ℕ). l ++ buffer) (measured .contents)
+
+  abbrev refusal : ℕ → ℕ
+  refusal room = firstCaught (record { caught = ltb room (length (listingOf table)); number = 16 } ∷ [])
+
+  pub listing-longer : length (last ++ buffer) < size → length buffer < length (listingOf table)
+  listing-longer short = omega (arith, short, ap length unchanged, measured .place)
+
+  pub listing-refused : length (last ++ buffer) < size → Yields (listingAnswer table (length buffer)) 16 buffer (last ++ buffer) written written
+  unfolding listingAnswer unless numberOf bufferAfter lengthAfter
+  listing-refused short =
+      let caught : refusal (length buffer) ≡ 16 = stopped _ _ (lt-ltb (length buffer) (length (listingOf table)) (listing-longer short)) in
+      rw (unchanged, caught) (record { number-is = refl; buffer-is = refl; length-is = refl })
+
+  pub listing-answered : size ≤ length (last ++ buffer) → (after : List ℕ) (end : ℕ) → Laid (last ++ buffer) after 0 (listingOf table) end
+      → Yields (listingAnswer table (length buffer)) 0 buffer after written size
+  unfolding listingAnswer unless numberOf bufferAfter lengthAfter
+  listing-answered enough after end laid =
+      let fits : length (listingOf table) ≤ length buffer = omega (arith, enough, ap length unchanged, measured .place) in
+      let passes : refusal (length buffer) ≡ 0 = passed _ _ _ (le-ltb (length buffer) (length (listingOf table)) fits) clear in
+      rw passes (record {
+        number-is = refl;
+        buffer-is = laid .contents ∙ ap (λ (b : List ℕ). overlay b 0 (listingOf table)) unchanged ∙ overlay-front buffer (listingOf table) fits;
+        length-is = omega (arith, measured .place);
+      })
+
+-- an answer ends within the buffer
+answer-inside : (table buffer buffer′ : List ℕ) (written written′ : ℕ) → Yields (listingAnswer table (length buffer)) 0 buffer buffer′ written written′
+    → written′ ≤ length buffer′
+unfolding listingAnswer unless numberOf bufferAfter lengthAfter
+answer-inside table buffer buffer′ written written′ y = go (ltb (length buffer) (length (listingOf table))) refl where
+  text : List ℕ
+  text = listingOf table
+
+  refusal : ℕ
+  refusal = firstCaught (record { caught = ltb (length buffer) (length text); number = 16 } ∷ [])
+
+  go : (b : Bool) → ltb (length buffer) (length text) ≡ b → written′ ≤ length buffer′
+  go true e =
+      let caught : refusal ≡ 16 = stopped _ _ e in
+      absurd (omega (arith, (rw caught at (y .number-is))))
+  go false e =
+      let passes : refusal ≡ 0 = passed _ _ _ e clear in
+      omega (arith, (rw passes at (y .length-is)), ap length (rw passes at (y .buffer-is)), length-append text (drop (length text) buffer))
+
+-- in a buffer that is always long enough
+module _ (table : List ℕ) {buffer buffer′ : List ℕ} {r written written′ : ℕ} (y : Yields (listingAnswer table (length buffer)) r buffer buffer′ written written′)
+    (done : 80000 ≤ length buffer → r ≡ 0) (long : 80000 ≤ length buffer) where
+  pub size-inside : written′ ≤ length buffer′
+  size-inside =
+      answer-inside table buffer buffer′ written written′
+      (subst (λ (n : ℕ). Yields (listingAnswer table (length buffer)) n buffer buffer′ written written′) (done long) y)
+
+  pub size-taken : written′ ≡ length (take written′ buffer′)
+  size-taken = omega (arith, size-inside, length-take written′ buffer′)

@@ -1,0 +1,67 @@
+-- The rows of a listing, as the code reads them off a scratch and a sheet.
+--     checkpoint-read        the row that comes next
+--     line-in, line-part     a line inside the scratch
+--     Summed, summed-..      the loop over the counts
+-- Assumes nothing.
+use mathlib.Core.List.{List, [], _∷_, _++_}
+use mathlib.Core.Path.{_≡_, refl, sym, ap, ap₂, _∙_, subst}
+use Prim.Native.Nat.{ℕ, zero, suc, _+_, _*_, _-_, _≤_, _<_}
+use native.Mathlib.Nat.{le-antisymm}
+use native.Mathlib.Omega.{arith}
+use lib.ListN.{length, take, drop, getD}
+use Rattle.consistency.specs.Lowering.{sum}
+use Rattle.futures.specs.Sheet.{Kept}
+use Rattle.listing_text.specs.Listing.{checkpointRow, holdRow, messageRow}
+use Rattle.listing_text.specs.Rows.{checkpointAt, lineAt}
+use Rattle.retention.proofs.ScratchLaws.{cell-below}
+use Rattle.run_table.proofs.AcceptLaws.{accepted}
+use Rattle.run_table.proofs.NumberLaws.{tabulate-getD, tabulate-more}
+use Rattle.run_table.proofs.ReadLaws.{processes-few}
+use Rattle.run_table.specs.Checks.{tableRefusal}
+use Rattle.run_table.specs.Format.{decode}
+use Rattle.run_table.specs.Numbers.{tabulate, u16At}
+use Rattle.run_table.specs.Table.{Table, countOf, processCount}
+
+pub checkpoint-read : (sheet : List ℕ) (k e process state : ℕ) → process ≡ u16At sheet (4 + 2 * e) → state ≡ u16At sheet (4 + 2 * k + 2 * e)
+    → checkpointRow (record { process = process; state = state }) ≡ checkpointRow (checkpointAt sheet k e)
+unfolding checkpointAt
+checkpoint-read sheet k e process state p s = ap₂ (λ (a b : ℕ). checkpointRow (record { process = a; state = b })) p s
+
+-- line k of n ends within n lines
+pub line-in : (n k : ℕ) → k < n → n * k + n ≤ n * n
+line-in n k l = omega (arith, cell-below n k (n - 1) l (omega arith))
+
+pub line-part : (scratch : List ℕ) (n k : ℕ) → take (n * k + n - n * k) (drop (n * k) scratch) ≡ lineAt scratch n k
+unfolding lineAt
+line-part scratch n k =
+    let size : n * k + n - n * k ≡ n = omega arith in
+    rw size
+
+-- ---- the loop over the counts
+sum-append : (xs : List ℕ) (n : ℕ) → sum (xs ++ (n ∷ [])) ≡ sum xs + n
+unfolding sum
+sum-append [] n = omega arith
+sum-append (x ∷ xs) n = omega (arith, sum-append xs n)
+
+pub record Summed (t : Table) (total p : ℕ) : Type 0 where
+  pub within : p ≤ processCount t
+  pub small : total ≤ 65536 * p
+  pub number : total ≡ sum (tabulate p (countOf t))
+
+module _ (t : Table) where
+  pub summed-none : Summed t 0 0
+  unfolding sum tabulate
+  summed-none = record { within = omega arith; small = omega arith; number = refl }
+
+  module _ (total p : ℕ) (h : Summed t total p) where
+    pub summed-more : p < processCount t → (count : ℕ) → count ≡ countOf t p → count < 65536 → Summed t (total + count) (p + 1)
+    summed-more l count is fits = record {
+      within = omega arith;
+      small = omega (arith, h .small);
+      number = omega (arith, h .number, ap sum (tabulate-more p (countOf t)), sum-append (tabulate p (countOf t)) (countOf t p));
+    }
+
+    pub summed-all : processCount t ≤ p → total ≡ sum (t .counts)
+    unfolding processCount countOf
+    summed-all l =
+        h .number ∙ ap (λ (n : ℕ). sum (tabulate n (countOf t))) (le-antisymm (h .within) l) ∙ ap sum (tabulate-getD (t .counts) 0)

@@ -1,0 +1,61 @@
+-- The listing (document 01, "The listing program"). Assumes nothing.
+use mathlib.Core.List.{List, [], _∷_, _++_}
+use Prim.Native.Nat.{ℕ, zero, suc, _+_, _*_, _/_}
+use lib.Dec.{ltb}
+use lib.ListN.{length}
+use Rattle.consistency.specs.Ceilings.{recoveryLine}
+use Rattle.consistency.specs.Lowering.{sum}
+use Rattle.futures.specs.Sheet.{Kept, holderLine, keptCheckpoints, keptMessages, rows}
+use Rattle.keeper.specs.Answers.{Answer, unless}
+use Rattle.listing_text.specs.Text.{each, row}
+use Rattle.run_table.specs.Checks.{firstCaught, tableRefusal}
+use Rattle.run_table.specs.Format.{decode}
+use Rattle.run_table.specs.Table.{Table, processCount}
+
+-- `line` and a line.
+unfoldable pub lineRow : List ℕ → List ℕ
+lineRow line = row (108 ∷ 105 ∷ 110 ∷ 101 ∷ []) line
+
+-- `hold`, a process and its line.
+unfoldable pub holdRow : ℕ → List ℕ → List ℕ
+holdRow process line = row (104 ∷ 111 ∷ 108 ∷ 100 ∷ []) (process ∷ line)
+
+-- `checkpoint`, process, state.
+unfoldable pub checkpointRow : Kept → List ℕ
+checkpointRow k = row (99 ∷ 104 ∷ 101 ∷ 99 ∷ 107 ∷ 112 ∷ 111 ∷ 105 ∷ 110 ∷ 116 ∷ []) (k .process ∷ k .state ∷ [])
+
+-- `message`, position.
+unfoldable pub messageRow : ℕ → List ℕ
+messageRow position = row (109 ∷ 101 ∷ 115 ∷ 115 ∷ 97 ∷ 103 ∷ 101 ∷ []) (position ∷ [])
+
+-- `share` and a percentage.
+unfoldable pub shareRow : ℕ → List ℕ
+shareRow percent = row (115 ∷ 104 ∷ 97 ∷ 114 ∷ 101 ∷ []) (percent ∷ [])
+
+-- `refused` and the number of a check.
+unfoldable pub refusedRow : ℕ → List ℕ
+refusedRow number = row (114 ∷ 101 ∷ 102 ∷ 117 ∷ 115 ∷ 101 ∷ 100 ∷ []) (number ∷ [])
+
+-- 100 × K divided by the sum of counts, rounded down.
+unfoldable pub share : Table → ℕ
+share t = 100 * length (keptCheckpoints t) / sum (t .counts)
+
+-- The listing of a table: the recovery line, the lines of single holders, what is kept, and the share.
+unfoldable pub listing : Table → List ℕ
+listing t =
+    lineRow (recoveryLine t)
+    ++ (rows (λ k. holdRow k (holderLine t k)) (processCount t)
+    ++ (each checkpointRow (keptCheckpoints t) ++ (each messageRow (keptMessages t) ++ shareRow (share t))))
+
+-- A refusal of 0 is none; any other is all that is listed.
+unfoldable pub listingUnless : ℕ → List ℕ → List ℕ
+listingUnless zero text = text
+listingUnless (suc n) text = refusedRow (suc n)
+
+-- The listing of bytes, a table or not.
+unfoldable pub listingOf : List ℕ → List ℕ
+listingOf table = listingUnless (tableRefusal table) (listing (decode table))
+
+-- The call's answer: it is refused by 16 where the buffer is shorter than the listing, and by nothing else.
+unfoldable pub listingAnswer : List ℕ → ℕ → Answer
+listingAnswer table room = unless (firstCaught (record { caught = ltb room (length (listingOf table)); number = 16 } ∷ [])) (listingOf table)

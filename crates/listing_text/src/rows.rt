@@ -1,0 +1,105 @@
+// The rows of a listing, from what the calls left in a scratch and in the bytes of a sheet.
+use crate::text::put_byte;
+use crate::text::put_field;
+use crate::text::put_fields;
+use crate::text::put_word;
+use run_table::numbers::u16_at;
+ghost use mathlib.Core.List.{_∷_, []};
+ghost use Prim.Native.Nat.{_+_, _*_, _≤_, _<_};
+ghost use lib.ListN.{length};
+ghost use Rattle.listing_text.specs.Listing.{checkpointRow, holdRow, lineRow};
+ghost use Rattle.listing_text.specs.Rows.{checkpointRows, holdRows, messageRows};
+ghost use Rattle.listing_text.specs.Text.{Laid, each, field, row};
+
+// Puts a row of one number.
+pub fn put_row(text: &mut [u8], at: usize, word: &[u8], n: u32) -> usize
+    requires { ⌜ at + length (row (now word) (n ∷ [])) < 4294967296 ⌝ }
+    ensures { λ r. ⌜ Laid (now (text .entry)) (now (text .exit)) at (row (now (word .entry)) (n ∷ [])) r ⌝ }
+{
+    let after_word = put_word(text, at, word);
+    let after_field = put_field(text, after_word, n);
+    put_byte(text, after_field, b'\n')
+}
+
+// Puts the row of the recovery line.
+pub fn put_line(text: &mut [u8], at: usize, line: &[u16]) -> usize
+    requires { ⌜ at + length (lineRow (now line)) < 4294967296 ⌝ }
+    ensures { λ r. ⌜ Laid (now (text .entry)) (now (text .exit)) at (lineRow (now (line .entry))) r ⌝ }
+{
+    let after_word = put_word(text, at, b"line");
+    let after_fields = put_fields(text, after_word, line);
+    put_byte(text, after_fields, b'\n')
+}
+
+// Puts the row of a process that holds.
+fn put_hold(text: &mut [u8], at: usize, process: u32, line: &[u16]) -> usize
+    requires { ⌜ at + length (holdRow process (now line)) < 4294967296 ⌝ }
+    ensures { λ r. ⌜ Laid (now (text .entry)) (now (text .exit)) at (holdRow process (now (line .entry))) r ⌝ }
+{
+    let after_word = put_word(text, at, b"hold");
+    let after_process = put_field(text, after_word, process);
+    let after_line = put_fields(text, after_process, line);
+    put_byte(text, after_line, b'\n')
+}
+
+// Puts the rows of n processes that hold, from a scratch that begins with n lines of n numbers each.
+pub fn put_holds(text: &mut [u8], at: usize, scratch: &[u16], n: usize) -> usize
+    requires { ⌜ n ≤ 32 ⌝ }
+    requires { ⌜ n * n ≤ length (now scratch) ⌝ }
+    requires { ⌜ at + length (holdRows (now scratch) n) < 4294967296 ⌝ }
+    ensures { λ r. ⌜ Laid (now (text .entry)) (now (text .exit)) at (holdRows (now (scratch .entry)) n) r ⌝ }
+{
+    let mut next = at;
+    let mut k = 0;
+    while k < n {
+        let start = n * k;
+        let end = start + n;
+        next = put_hold(text, next, k as u32, &scratch[start..end]);
+        k += 1;
+    }
+    next
+}
+
+// Puts the row of a kept checkpoint.
+fn put_checkpoint(text: &mut [u8], at: usize, process: u16, state: u16) -> usize
+    requires { ⌜ at + length (checkpointRow (record { process = process; state = state })) < 4294967296 ⌝ }
+    ensures { λ r. ⌜ Laid (now (text .entry)) (now (text .exit)) at (checkpointRow (record { process = process; state = state })) r ⌝ }
+{
+    let after_word = put_word(text, at, b"checkpoint");
+    let after_process = put_field(text, after_word, process as u32);
+    let after_state = put_field(text, after_process, state as u32);
+    put_byte(text, after_state, b'\n')
+}
+
+// Puts the rows of the kept checkpoints, from a sheet of k of them.
+pub fn put_checkpoints(text: &mut [u8], at: usize, sheet: &[u8], k: usize) -> usize
+    requires { ⌜ 4 + 4 * k ≤ length (now sheet) ⌝ }
+    requires { ⌜ at + length (checkpointRows (now sheet) k) < 4294967296 ⌝ }
+    ensures { λ r. ⌜ Laid (now (text .entry)) (now (text .exit)) at (checkpointRows (now (sheet .entry)) k) r ⌝ }
+{
+    let mut next = at;
+    let mut e = 0;
+    while e < k {
+        let process = u16_at(sheet, 4 + 2 * e);
+        let state = u16_at(sheet, 4 + 2 * k + 2 * e);
+        next = put_checkpoint(text, next, process, state);
+        e += 1;
+    }
+    next
+}
+
+// Puts the rows of the kept messages, from a sheet of k checkpoints and q messages.
+pub fn put_messages(text: &mut [u8], at: usize, sheet: &[u8], k: usize, q: usize) -> usize
+    requires { ⌜ 4 + 4 * k + 2 * q ≤ length (now sheet) ⌝ }
+    requires { ⌜ at + length (messageRows (now sheet) k q) < 4294967296 ⌝ }
+    ensures { λ r. ⌜ Laid (now (text .entry)) (now (text .exit)) at (messageRows (now (sheet .entry)) k q) r ⌝ }
+{
+    let mut next = at;
+    let mut e = 0;
+    while e < q {
+        let position = u16_at(sheet, 4 + 4 * k + 2 * e);
+        next = put_row(text, next, b"message", position as u32);
+        e += 1;
+    }
+    next
+}
