@@ -4,7 +4,7 @@
 -- Assumes nothing.
 use mathlib.Core.Bool.{Bool, true, false, cond}
 use mathlib.Core.List.{List, [], _∷_, _++_}
-use mathlib.Core.Path.{_≡_, refl, sym, ap, ap₂, _∙_, subst, subst⁻¹}
+use mathlib.Core.Path.{_≡_, refl, sym, ap, ap₂, _∙_, subst}
 use Prim.Native.Nat.{ℕ, zero, suc, _+_, _*_, _≤_, _<_}
 use native.Mathlib.Decide.{ℕ-discrete}
 use native.Mathlib.Nat.{le-refl}
@@ -17,16 +17,13 @@ use lib.Seq.{ext-getD, getD-set-other, getD-set-same}
 use Rattle.futures.proofs.StepLaws.{checkpoint-messages, checkpoint-processes, receivedAt-listed, receivedAt-receiver, receivedAt-sender, receivedAt-sent, receivedAt-unlisted}
 use Rattle.futures.specs.Steps.{afterCheckpoint, receivedAt}
 use Rattle.run_table.proofs.CodingLaws.{entries-append, entries-tabulate, even-number, odd-number}
-use Rattle.run_table.proofs.FormatLaws.{decode-messages}
-use Rattle.run_table.proofs.NumberLaws.{getD-tabulate, length-tabulate, length-u16s, tabulate-append, tabulate-more, u16s-append}
+use Rattle.run_table.proofs.NumberLaws.{getD-tabulate, length-tabulate, tabulate-more}
 use Rattle.run_table.proofs.ReadLaws.{count-is, message-is}
-use Rattle.run_table.proofs.WriteLaws.{front-first, front-next, numbers-size}
 use Rattle.run_table.specs.Checks.{tableRefusal}
-use Rattle.run_table.specs.Format.{checkpointAt, countAt, countsPart, decode, encode, entriesOf, messageAt, processAt, receiptsOf, receiptsPart, sendsOf, sendsPart}
-use Rattle.run_table.specs.Numbers.{any, putAt, tabulate, u16At, u16Bytes, u16s}
-use Rattle.run_table.specs.Table.{Message, Table, countOf, messageCount, messageOf, processCount}
-use Rattle.steps.proofs.PutLaws.{bytes-in-groups}
-use Rattle.steps.proofs.SavingLaws.{bytes-length}
+use Rattle.run_table.specs.Format.{checkpointAt, countsPart, decode, encode, entriesOf, messageAt, processAt, receiptsOf, receiptsPart, sendsOf, sendsPart}
+use Rattle.run_table.specs.Numbers.{any, putAt, tabulate, u16At, u16s}
+use Rattle.run_table.specs.Table.{Message, Table, countOf, messageCount, processCount}
+use Rattle.steps.proofs.PutLaws.{head-put, table-put}
 use Rattle.steps.specs.Saving.{newReceipt, raisedCount, receiptNumbers}
 
 module _ (bytes : List ℕ) (none : tableRefusal bytes ≡ 0) (i : ℕ) (list : List ℕ) where
@@ -44,7 +41,7 @@ module _ (bytes : List ℕ) (none : tableRefusal bytes ≡ 0) (i : ℕ) (list : 
       ∙ sym (rw (eq-eqb p i e) (ap (λ (x : ℕ). x + 1) (count-is bytes none p l ∙ ap (countOf t) e)))
   count-at p l (no e) = getD-set-other (t .counts) i p (countOf t i + 1) 0 e ∙ sym (rw (ne-eqb p i e) (count-is bytes none p l))
 
-  pub counts-raised : (n : ℕ) → n ≡ processCount t → tabulate n (raisedCount (countsPart bytes) i) ≡ after .counts
+  counts-raised : (n : ℕ) → n ≡ processCount t → tabulate n (raisedCount (countsPart bytes) i) ≡ after .counts
   unfolding afterCheckpoint processCount
   counts-raised n e =
       sym (ext-getD 0 (set (t .counts) i (countOf t i + 1)) (tabulate n (raisedCount (countsPart bytes) i))
@@ -62,7 +59,7 @@ module _ (bytes : List ℕ) (none : tableRefusal bytes ≡ 0) (i : ℕ) (list : 
   unfolding messageAt checkpointAt
   sent-read k l = receivedAt-sent t i list k ∙ ap (λ (m : Message). m .sent) (sym (message-is bytes none k l))
 
-  pub sends-kept : (m : ℕ) → m ≡ messageCount t → tabulate (2 * m) (λ e. u16At (sendsPart bytes) (2 * e)) ≡ sendsOf (after .messages)
+  sends-kept : (m : ℕ) → m ≡ messageCount t → tabulate (2 * m) (λ e. u16At (sendsPart bytes) (2 * e)) ≡ sendsOf (after .messages)
   unfolding afterCheckpoint
   sends-kept m e =
       sym (entries-tabulate (λ x. x .sender) (λ x. x .sent) (messageCount t) (receivedAt t i list) (λ j. u16At (sendsPart bytes) (2 * j))
@@ -91,7 +88,7 @@ module _ (bytes : List ℕ) (none : tableRefusal bytes ≡ 0) (i : ℕ) (list : 
       ∙ sym (entries-append (λ x. x .receiver) (λ x. x .received) (tabulate k (receivedAt t i list)) (receivedAt t i list k ∷ []))
       ∙ ap receiptsOf (sym (tabulate-more k (receivedAt t i list)) ∙ ap (λ (j : ℕ). tabulate j (receivedAt t i list)) (add-one k))
 
-  pub receipts-new : (m : ℕ) → m ≡ messageCount t → receiptNumbers m (receiptsPart bytes) list (countOf t i) ≡ receiptsOf (after .messages)
+  receipts-new : (m : ℕ) → m ≡ messageCount t → receiptNumbers m (receiptsPart bytes) list (countOf t i) ≡ receiptsOf (after .messages)
   unfolding afterCheckpoint
   receipts-new m e = ap (λ (x : ℕ). receiptNumbers x (receiptsPart bytes) list (countOf t i)) e ∙ receipts-upto (messageCount t) (le-refl (messageCount t))
 
@@ -105,21 +102,11 @@ module _ (bytes : List ℕ) (none : tableRefusal bytes ≡ 0) (i : ℕ) (list : 
     abbrev array : List ℕ
     array = tabulate (2 * m) (λ k. u16At sends (2 * k))
 
-    groups : ((u16s (n ∷ m ∷ []) ++ u16s head) ++ u16s array) ++ u16s (receiptNumbers m receipts list number) ≡ encode after
-    unfolding u16s u16Bytes
-    groups =
-        ap (λ (l : List ℕ). (l ++ u16s array) ++ u16s (receiptNumbers m receipts list number)) (sym (u16s-append (n ∷ m ∷ []) head))
-        ∙ ap₂ (λ (s r : List ℕ). (u16s (n ∷ m ∷ head) ++ u16s s) ++ u16s r)
-        (ap (λ (p : List ℕ). tabulate (2 * m) (λ k. u16At p (2 * k))) is-s ∙ sends-kept m read-m)
-        (ap₂ (λ (p : List ℕ) (x : ℕ). receiptNumbers m p list x) is-r is-number ∙ receipts-new m read-m)
-        ∙ bytes-in-groups after n m (read-n ∙ sym (checkpoint-processes t i list)) (read-m ∙ sym (checkpoint-messages t i list))
-        (ap (λ (p : List ℕ). tabulate n (raisedCount p i)) is-c ∙ counts-raised n read-n)
-
     pub checkpoint-put : b₁ ≡ putAt b₀ 0 (u16s (n ∷ m ∷ [])) → b₂ ≡ putAt b₁ 4 (u16s head) → b₃ ≡ putAt b₂ (4 + 2 * n) (u16s array)
         → b₄ ≡ putAt b₃ (4 + 2 * n + 4 * m) (u16s (receiptNumbers m receipts list number)) → b₄ ≡ putAt b₀ 0 (encode after)
     checkpoint-put w₁ w₂ w₃ w₄ =
-        let f₁ = front-first b₀ b₁ (u16s (n ∷ m ∷ [])) 4 w₁ (length-u16s (n ∷ m ∷ [])) in
-        let f₂ = front-next f₁ b₂ (u16s head) (4 + 2 * n) w₂ (omega (arith, numbers-size n (raisedCount counts i))) (omega arith) in
-        let f₃ = front-next f₂ b₃ (u16s array) (4 + 2 * n + 4 * m) w₃ (omega (arith, numbers-size (2 * m) (λ k. u16At sends (2 * k)))) (omega arith) in
-        let f₄ = front-next f₃ b₄ (u16s (receiptNumbers m receipts list number)) (4 + 2 * n + 4 * m + 4 * m) w₄ (omega (arith, bytes-length receipts list number m)) (omega arith) in
-        f₄ .put ∙ ap (putAt b₀ 0) groups
+        table-put after n m head array _ (read-n ∙ sym (checkpoint-processes t i list)) (read-m ∙ sym (checkpoint-messages t i list))
+        (ap (λ (p : List ℕ). tabulate n (raisedCount p i)) is-c ∙ counts-raised n read-n)
+        (ap (λ (p : List ℕ). tabulate (2 * m) (λ k. u16At p (2 * k))) is-s ∙ sends-kept m read-m)
+        (ap₂ (λ (p : List ℕ) (x : ℕ). receiptNumbers m p list x) is-r is-number ∙ receipts-new m read-m) b₀ b₂ b₃ b₄ room
+        (head-put n m (raisedCount counts i) b₀ b₁ b₂ (omega arith) w₁ w₂) w₃ w₄

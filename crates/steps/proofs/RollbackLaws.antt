@@ -7,7 +7,6 @@
 --     line-small, counts-left                 the counts that it writes
 --     found-staying, found-going              what its test says of a message
 --     sent-test, receipt-undone, receipt-kept     an entry beside the line
---     table-put                               the parts of a table, put one after another
 -- Assumes nothing.
 use mathlib.Core.Bool.{Bool, true, false, cond, not}
 use mathlib.Core.List.{List, [], _∷_, _++_, append-nil}
@@ -31,12 +30,10 @@ use Rattle.run_table.proofs.CodingLaws.{entries-append}
 use Rattle.run_table.proofs.FormatLaws.{length-entries}
 use Rattle.run_table.proofs.NumberLaws.{length-putAt, length-u16s, putAt-more, putAt-none, tabulate-ext, tabulate-getD, u16s-append}
 use Rattle.run_table.proofs.ReadLaws.{message-is, processes-few, receipts-size, receivers-known, senders-known, sends-size}
-use Rattle.run_table.proofs.WriteLaws.{front-first, front-next}
 use Rattle.run_table.specs.Checks.{tableRefusal}
-use Rattle.run_table.specs.Format.{checkpointAt, decode, encode, entriesOf, messageAt, processAt, receiptsOf, receiptsPart, sendsOf, sendsPart}
+use Rattle.run_table.specs.Format.{checkpointAt, decode, entriesOf, messageAt, processAt, receiptsPart, sendsPart}
 use Rattle.run_table.specs.Numbers.{putAt, tabulate, u16At, u16Bytes, u16s}
 use Rattle.run_table.specs.Table.{Message, Table, countOf, messageCount, messageOf, noMessage, processCount}
-use Rattle.steps.proofs.PutLaws.{bytes-in-groups}
 use Rattle.steps.specs.Rollback.{receiptLeft, sentBefore}
 
 -- ---- what remains of the first k messages
@@ -249,19 +246,3 @@ module _ (line part : List ℕ) (k process checkpoint : ℕ) (read-p : process �
 
   pub receipt-kept : checkpoint ≤ getD line process 0 → checkpoint ≡ receiptLeft line part k
   receipt-kept h = sym (ap (λ (b : Bool). cond b 0 checkpoint) (le-ltb (getD line process 0) checkpoint h)) ∙ receipt-test
-
--- ---- N and M, the counts, the sends and the receipts of a table, put one after another
-module _ (t : Table) (n m : ℕ) (counts : List ℕ) (read-n : n ≡ processCount t) (read-m : m ≡ messageCount t) (read-c : counts ≡ t .counts)
-    (b₀ b₁ b₂ b₃ b₄ : List ℕ) (fits : 4 + 2 * n + 8 * m ≤ length b₀) where
-  pub table-put : b₁ ≡ putAt b₀ 0 (u16s (n ∷ m ∷ [])) → b₂ ≡ putAt b₁ 4 (u16s counts)
-      → b₃ ≡ putAt b₂ (4 + 2 * n) (u16s (sendsOf (t .messages))) → b₄ ≡ putAt b₃ (4 + 2 * n + 4 * m) (u16s (receiptsOf (t .messages)))
-      → b₄ ≡ putAt b₀ 0 (encode t)
-  unfolding processCount messageCount
-  table-put w₁ w₂ w₃ w₄ =
-      let f₁ = front-first b₀ b₁ (u16s (n ∷ m ∷ [])) 4 w₁ (length-u16s (n ∷ m ∷ [])) in
-      let f₂ = front-next f₁ b₂ (u16s counts) (4 + 2 * n) w₂ (omega (arith, length-u16s counts, ap length read-c, read-n)) (omega arith) in
-      let f₃ = front-next f₂ b₃ (u16s (sendsOf (t .messages))) (4 + 2 * n + 4 * m) w₃ (omega (arith, entries-size (λ x. x .sender) (λ x. x .sent) (t .messages), read-m)) (omega arith) in
-      let f₄ = front-next f₃ b₄ (u16s (receiptsOf (t .messages))) (4 + 2 * n + 4 * m + 4 * m) w₄ (omega (arith, entries-size (λ x. x .receiver) (λ x. x .received) (t .messages), read-m)) (omega arith) in
-      f₄ .put
-      ∙ ap (λ (l : List ℕ). putAt b₀ 0 ((l ++ u16s (sendsOf (t .messages))) ++ u16s (receiptsOf (t .messages)))) (sym (u16s-append (n ∷ m ∷ []) counts))
-      ∙ ap (putAt b₀ 0) (bytes-in-groups t n m read-n read-m read-c)

@@ -5,23 +5,23 @@
 --     Merging, merge-begins, merge-listed, merge-unlisted      a loop over the messages and the list at once
 --     Received, received-none, received-more, received-all     the receipts that it writes
 -- Assumes nothing.
-use mathlib.Core.Bool.{Bool, true, false, cond, not, _&&_, _||_, or-true, true≢false, false≢true}
+use mathlib.Core.Bool.{Bool, true, false, _&&_, true≢false}
 use mathlib.Core.List.{List, [], _∷_, _++_}
-use mathlib.Core.Path.{_≡_, refl, sym, ap, ap₂, _∙_, subst, subst⁻¹}
+use mathlib.Core.Path.{_≡_, refl, sym, ap, ap₂, _∙_, subst}
 use Prim.Native.Nat.{ℕ, zero, suc, _+_, _-_, _*_, _≤_, _<_, zero-le, suc-le-suc}
 use native.Mathlib.Decide.{decLt, ℕ-discrete}
 use native.Mathlib.Nat.{le-antisymm, le-refl}
 use native.Mathlib.Numerals.{add-one}
 use native.Mathlib.Omega.{arith}
-use borrow.Author.Tests.{eq-eqb, eqb-true, le-leb, le-ltb, lt-leb, lt-ltb, ltb-false, ltb-true, ne-eqb}
-use lib.Dec.{eqb, leb, ltb}
+use borrow.Author.Tests.{eq-eqb, eqb-true, lt-leb, lt-ltb, ltb-true, ne-eqb}
+use lib.Dec.{eqb, ltb}
 use lib.ListN.{length, getD, length-append}
 use Rattle.futures.proofs.StepLaws.{Waiting, good-position, rising, waiting-position}
-use Rattle.futures.specs.Steps.{badPosition, follows, notRising, waitsFor}
+use Rattle.futures.specs.Steps.{badPosition, follows, notRising}
 use Rattle.run_table.proofs.NumberLaws.{and-left, and-right, any-none, any-some, length-putAt, length-u16s, putAt-more, putAt-none, u16s-append}
 use Rattle.run_table.proofs.ReadLaws.{message-is}
 use Rattle.run_table.specs.Checks.{tableRefusal}
-use Rattle.run_table.specs.Format.{checkpointAt, decode, messageAt, processAt, receiptsPart, sendsPart}
+use Rattle.run_table.specs.Format.{checkpointAt, decode, messageAt, processAt, receiptsPart}
 use Rattle.run_table.specs.Numbers.{any, putAt, u16At, u16s}
 use Rattle.run_table.specs.Table.{Message, Table, messageCount, messageOf}
 use Rattle.steps.specs.Saving.{newReceipt, receiptNumbers}
@@ -165,7 +165,7 @@ module _ (receipts list : List ℕ) (number : ℕ) where
   numbers-length (suc k) =
       omega (arith, length-append (receiptNumbers k receipts list number) (processAt receipts k ∷ newReceipt receipts list number k ∷ []), numbers-length k)
 
-  pub bytes-length : (k : ℕ) → length (u16s (receiptNumbers k receipts list number)) ≡ 4 * k
+  bytes-length : (k : ℕ) → length (u16s (receiptNumbers k receipts list number)) ≡ 4 * k
   bytes-length k = omega (arith, length-u16s (receiptNumbers k receipts list number), numbers-length k)
 
   next-numbers : (k : ℕ) → receiptNumbers k receipts list number ++ (processAt receipts k ∷ newReceipt receipts list number k ∷ [])

@@ -5,7 +5,7 @@ use native.Mathlib.Omega.{arith}
 use mathlib.Core.Path.{refl, ap}
 use lib.ListN.{length}
 use Rattle.run_table.proofs.ReadLaws.{counts-size, processes-few}
-use Rattle.steps.proofs.PutLaws.{head-put}
+use Rattle.steps.proofs.PutLaws.{copied-head}
 use Rattle.steps.proofs.copying.put_head.Statement.{statement}
 use Rattle.steps.proofs.copying.put_head.Tie as tie
 
@@ -31,7 +31,7 @@ same-length : tie.Need-same-length
 same-length c = search needs
 
 returns : tie.Need-returns
-returns c = head-put _ _ _ (c .before .before .before .before .before .before .before .before .before .process-count .ensures) refl _ _ _ _ _ (c .before .before .before .before .counts .ensures) (omega (arith, c .before .before .before .before .before .before .before .before .before .before .before .before .pre .1 .1, c .before .before .before .before .before .before .before .before .before .process-count .ensures)) (c .before .before .before .before .before .before .before .put-pair .ensures) (c .before .before .copy-numbers .ensures)
+returns c = copied-head _ _ _ (c .before .before .before .before .before .before .before .before .before .process-count .ensures) refl _ _ _ _ _ (c .before .before .before .before .counts .ensures) (omega (arith, c .before .before .before .before .before .before .before .before .before .before .before .before .pre .1 .1, c .before .before .before .before .before .before .before .before .before .process-count .ensures)) (c .before .before .before .before .before .before .before .put-pair .ensures) (c .before .before .copy-numbers .ensures)
 
 pub put-head-spec : {M : Type 1} → statement M
 put-head-spec =

@@ -2,12 +2,13 @@
 -- Assumes nothing.
 use borrow.Author.Needs.{needs}
 use native.Mathlib.Omega.{arith}
-use mathlib.Core.Path.{sym, _∙_}
+use mathlib.Core.Path.{refl, sym, _∙_}
 use denote.Ref.{now}
 use Rattle.futures.proofs.StepLaws.{rollback-fewer, rollback-processes}
 use Rattle.run_table.proofs.ReadLaws.{messages-few, processes-few}
 use Rattle.run_table.specs.Format.{decode}
-use Rattle.steps.proofs.RollbackLaws.{counts-left, line-small, table-put}
+use Rattle.steps.proofs.PutLaws.{head-put, table-put}
+use Rattle.steps.proofs.RollbackLaws.{counts-left, line-small}
 use Rattle.steps.proofs.rollback.put_rollback.Statement.{statement}
 use Rattle.steps.proofs.rollback.put_rollback.Tie as tie
 
@@ -63,8 +64,10 @@ returns : tie.Need-returns
 returns c =
     let start = c .before .before .before .before .before .before .before .before .before .before .before .before .before .before .before .before .before .before .before in
     let n = c .before .before .before .before .before .before .before .before .before .before .before .before .before .before .before .before .process-count .ensures in
-    table-put _ _ _ _ (n ∙ sym (rollback-processes (decode (now (start .args .table))))) (start .pre .1 .1 .0) (counts-left _ (start .pre .0) _ (start .pre .1 .0) _ n) _ _ _ _ _ (omega arith)
-    (c .before .before .before .before .before .before .before .before .before .before .before .before .before .before .put-pair .ensures) (c .before .before .before .before .before .before .before .before .before .before .put-counts .ensures) (c .before .before .before .before .before .before .put-sends .ensures) (c .before .before .put-receipts .ensures)
+    let counts = counts-left _ (start .pre .0) _ (start .pre .1 .0) _ n in
+    table-put _ _ _ _ _ _ (n ∙ sym (rollback-processes (decode (now (start .args .table))))) (start .pre .1 .1 .0) counts refl refl _ _ _ _ (omega arith)
+    (head-put _ _ _ _ _ _ (omega arith) (c .before .before .before .before .before .before .before .before .before .before .before .before .before .before .put-pair .ensures) (c .before .before .before .before .before .before .before .before .before .before .put-counts .ensures))
+    (c .before .before .before .before .before .before .put-sends .ensures) (c .before .before .put-receipts .ensures)
 
 pub put-rollback-spec : {M : Type 1} → statement M
 put-rollback-spec =
