@@ -7,13 +7,14 @@
 -- Assumes nothing.
 use mathlib.Core.Bool.{Bool, true, false, _||_}
 use mathlib.Core.List.{List, [], _∷_, _++_}
-use mathlib.Core.Path.{_≡_, refl, sym, ap, _∙_, subst, subst⁻¹}
+use mathlib.Core.Path.{_≡_, refl, sym, ap, _∙_, subst⁻¹}
 use Prim.Native.Nat.{ℕ, zero, suc, _+_, _*_, _≤_, _<_}
 use native.Mathlib.Omega.{arith}
 use borrow.Author.Tests.{eq-eqb, le-leb, leb-false, lt-leb, ne-eqb}
 use lib.Dec.{leb}
 use lib.ListN.{length, take, drop}
-use Rattle.futures.proofs.StepLaws.{checkpoint-limits, checkpoint-messages, checkpoint-processes, checkpoint-well-formed, rollback-limits, rollback-processes, rollback-well-formed, send-free, send-limits, send-messages, send-processes, send-well-formed, step-taken}
+use lib.Seq.{take-at}
+use Rattle.futures.proofs.StepLaws.{checkpoint-limits, checkpoint-messages, checkpoint-processes, checkpoint-well-formed, rollback-limits, rollback-processes, rollback-well-formed, send-limits, send-messages, send-processes, send-well-formed, step-taken}
 use Rattle.futures.specs.Steps.{afterCheckpoint, afterRollback, afterSend, badPosition, checkpoint, checkpointChecks, notRising, rollback, send, sendChecks, step}
 use Rattle.keeper.proofs.AnswerLaws.{put-in-front}
 use Rattle.keeper.specs.Calls.{HoldsTable, saveCallChecks, sendCallChecks}
@@ -144,10 +145,6 @@ module _ (t : Table) (n m : ℕ) (read-n : n ≡ processCount t) where
   rollback-size e = table-size (afterRollback t) (rollback-processes t) e
 
 -- ---- the answer as a table
-take-front : (xs ys : List ℕ) → take (length xs) (xs ++ ys) ≡ xs
-take-front [] ys = refl
-take-front (x ∷ rest) ys = ap (λ (l : List ℕ). x ∷ l) (take-front rest ys)
-
 module _ (t u : Table) (buffer buffer′ : List ℕ) (size : ℕ) where
   holds : WellFormed t → Limits t → t ≡ u → buffer′ ≡ putAt buffer 0 (encode t) → size ≡ length (encode t) → HoldsTable u buffer′ size
   holds w l same put e = record {
@@ -157,8 +154,7 @@ module _ (t u : Table) (buffer buffer′ : List ℕ) (size : ℕ) where
     where
       front : take size buffer′ ≡ encode t
       front =
-          ap (λ (k : ℕ). take k buffer′) e ∙ ap (take (length (encode t))) (put ∙ put-in-front buffer (encode t))
-          ∙ take-front (encode t) (drop (length (encode t)) buffer)
+          ap (take size) (put ∙ put-in-front buffer (encode t)) ∙ take-at (encode t) (drop (length (encode t)) buffer) size (sym e)
 
 module _ (table : List ℕ) (none : tableRefusal table ≡ 0) (buffer buffer′ : List ℕ) (size : ℕ) where
   abbrev here : Table
