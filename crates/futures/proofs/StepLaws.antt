@@ -37,7 +37,7 @@ use Rattle.consistency.proofs.LineLaws.{latest-same}
 use Rattle.consistency.specs.Ceilings.{ceilingOf, lineOf, recoveryLine}
 use Rattle.consistency.specs.Lines.{AtOrBelow, Latest, Orphan, at}
 use Rattle.futures.specs.Steps.{Step, afterCheckpoint, afterRollback, afterSend, badPosition, checkpoint, checkpointChecks, follows, notRising, putBack, receivedAt, remaining, rollback, send, sendChecks, stays, step, unlessCaught, waitsFor}
-use Rattle.run_table.proofs.CheckLaws.{clear, passed}
+use Rattle.run_table.proofs.CheckLaws.{clear, cleared, passed}
 use Rattle.run_table.proofs.FormatLaws.{count-beyond, message-beyond}
 use Rattle.run_table.proofs.NumberLaws.{and-left, and-right, any-none, getD-tabulate, length-tabulate, or-false-left, or-false-right}
 use Rattle.run_table.specs.Checks.{Check, GoodMessage, Limits, WellFormed, firstCaught}
@@ -51,18 +51,6 @@ withReceipt m n = record { sender = m .sender; sent = m .sent; receiver = m .rec
 -- The message that a send adds.
 abbrev pub newMessage : Table → ℕ → ℕ → Message
 newMessage t j i = record { sender = j; sent = countOf t j - 1; receiver = i; received = 0 }
-
--- two checks that refuse nothing catch nothing
-neither-catches : (a b : Bool) (n m : ℕ) → 0 < n → 0 < m
-    → firstCaught (record { caught = a; number = n } ∷ record { caught = b; number = m } ∷ []) ≡ 0 → (a ≡ false) × (b ≡ false)
-unfolding firstCaught
-neither-catches true b n m hn hm e =
-    let z : n ≡ 0 = e in
-    absurd (omega arith)
-neither-catches false true n m hn hm e =
-    let z : m ≡ 0 = e in
-    absurd (omega arith)
-neither-catches false false n m hn hm e = (refl, refl)
 
 -- ---- send
 module _ (t : Table) (j i : ℕ) where
@@ -100,8 +88,9 @@ module _ (t : Table) (j i : ℕ) where
   unfolding sendChecks
   send-free quiet =
       let n = processCount t in
-      let free = neither-catches (leb n j || leb n i) (eqb j i) 10 11 (omega arith) (omega arith) quiet in
-      (leb-false n j (or-false-left (leb n j) (leb n i) (free .0)), leb-false n i (or-false-right (leb n j) (leb n i) (free .0)), eqb-false j i (free .1))
+      let known = cleared _ _ (omega arith) quiet in
+      let two = cleared _ _ (omega arith) (known .1) in
+      (leb-false n j (or-false-left (leb n j) (leb n i) (known .0)), leb-false n i (or-false-right (leb n j) (leb n i) (known .0)), eqb-false j i (two .0))
 
   pub send-quiet : j < processCount t → i < processCount t → (j ≡ i → ⊥) → firstCaught (sendChecks t j i) ≡ 0
   unfolding sendChecks
@@ -224,7 +213,9 @@ module _ (t : Table) (i : ℕ) (list : List ℕ) where
   module _ (quiet : firstCaught (checkpointChecks t i list) ≡ 0) where
     free : (leb (processCount t) i ≡ false) × ((any (badPosition t i) list || notRising list) ≡ false)
     unfolding checkpointChecks
-    free = neither-catches (leb (processCount t) i) (any (badPosition t i) list || notRising list) 10 13 (omega arith) (omega arith) quiet
+    free =
+        let known = cleared _ _ (omega arith) quiet in
+        (known .0, cleared _ _ (omega arith) (known .1) .0)
 
     pub checkpoint-known : i < processCount t
     checkpoint-known = leb-false (processCount t) i (free .0)
@@ -233,8 +224,8 @@ module _ (t : Table) (i : ℕ) (list : List ℕ) where
     checkpoint-waiting k listed =
         good-position t i k (listed-fails (badPosition t i) list (or-false-left (any (badPosition t i) list) (notRising list) (free .1)) k listed)
 
-    pub checkpoint-rising : (a b : ℕ) → a < b → b < length list → getD list a 0 < getD list b 0
-    checkpoint-rising = rising list (or-false-right (any (badPosition t i) list) (notRising list) (free .1))
+    pub checkpoint-rising : notRising list ≡ false
+    checkpoint-rising = or-false-right (any (badPosition t i) list) (notRising list) (free .1)
 
   pub checkpoint-quiet : i < processCount t → ((a : ℕ) → a < length list → Waiting t i (getD list a 0)) → notRising list ≡ false
       → firstCaught (checkpointChecks t i list) ≡ 0

@@ -1,14 +1,14 @@
 -- The checks and the answers of the steps.
 --     from-unknown .. send-answers        the checks of a send, one after another
 --     process-unknown .. save-answers     the checks of a checkpoint
---     send-passed, save-passed, save-rising    what holds where none of them catches
+--     send-passed, save-passed            what holds where none of them catches
 --     send-size, save-size, rollback-size the length of the answer
 --     send-holds, save-holds, rollback-holds    the answer is an accepted table, the step's
 -- Assumes nothing.
-use mathlib.Core.Bool.{Bool, true, false, _||_}
-use mathlib.Core.List.{List, [], _∷_, _++_}
+use mathlib.Core.Bool.{true, false, _||_}
+use mathlib.Core.List.{List}
 use mathlib.Core.Path.{_≡_, refl, sym, ap, _∙_, subst⁻¹}
-use Prim.Native.Nat.{ℕ, zero, suc, _+_, _*_, _≤_, _<_}
+use Prim.Native.Nat.{ℕ, _+_, _*_, _≤_, _<_}
 use native.Mathlib.Omega.{arith}
 use borrow.Author.Tests.{eq-eqb, le-leb, leb-false, lt-leb, ne-eqb}
 use lib.Dec.{leb}
@@ -19,10 +19,9 @@ use Rattle.futures.specs.Steps.{afterCheckpoint, afterRollback, afterSend, badP
 use Rattle.keeper.proofs.AnswerLaws.{put-in-front}
 use Rattle.keeper.specs.Calls.{HoldsTable, saveCallChecks, sendCallChecks}
 use Rattle.run_table.proofs.AcceptLaws.{accepted, accepted-encode, reread}
-use Rattle.run_table.proofs.CheckLaws.{append-passed, append-stopped, areRefusals, clear, passed, stopped}
+use Rattle.run_table.proofs.CheckLaws.{clear, cleared, passed, stopped}
 use Rattle.run_table.proofs.FormatLaws.{encode-length}
-use Rattle.run_table.proofs.NumberLaws.{or-false-right}
-use Rattle.run_table.specs.Checks.{Accepted, Check, Limits, WellFormed, firstCaught, tableRefusal}
+use Rattle.run_table.specs.Checks.{Accepted, Limits, WellFormed, firstCaught, tableRefusal}
 use Rattle.run_table.specs.Format.{decode, encode, tableLength}
 use Rattle.run_table.specs.Numbers.{any, putAt}
 use Rattle.run_table.specs.Table.{Table, countOf, messageCount, processCount}
@@ -87,46 +86,22 @@ module _ (t : Table) (i : ℕ) (list : List ℕ) (n : ℕ) (read-n : n ≡ proce
         save-answers h = sym (passed _ _ 0 known-process (passed _ _ 0 free (passed _ _ 0 (lt-leb 4096 (countOf t i) (omega arith)) clear)))
 
 -- ---- where nothing catches
--- neither part of a list of checks catches, where the whole does not
-both-clear : (xs ys : List Check) → areRefusals xs ≡ true → firstCaught (xs ++ ys) ≡ 0 → (firstCaught xs ≡ 0) × (firstCaught ys ≡ 0)
-both-clear xs ys ok e = go (firstCaught xs) refl
-  where
-    go : (n : ℕ) → firstCaught xs ≡ n → (firstCaught xs ≡ 0) × (firstCaught ys ≡ 0)
-    go zero z = (z, sym (append-passed xs ys ok z) ∙ e)
-    go (suc n) z = absurd (omega (arith, append-stopped xs ys n z, e))
+pub send-passed : (t : Table) (j i : ℕ) → firstCaught (sendCallChecks t j i) ≡ 0 → (firstCaught (sendChecks t j i) ≡ 0) × (messageCount t < 4096)
+unfolding sendCallChecks sendChecks
+send-passed t j i none =
+    let known = cleared _ _ (omega arith) none in
+    let two = cleared _ _ (omega arith) (known .1) in
+    let free = cleared _ _ (omega arith) (two .1) in
+    (passed _ _ 0 (known .0) (passed _ _ 0 (two .0) clear), leb-false 4096 (messageCount t) (free .0))
 
--- one check, of a number, that catches nothing
-one-clear : (b : Bool) (n : ℕ) → 0 < n → firstCaught (record { caught = b; number = n } ∷ []) ≡ 0 → b ≡ false
-one-clear true n positive e = absurd (omega (arith, stopped (record { caught = true; number = n }) [] refl, e))
-one-clear false n positive e = refl
-
-module _ (t : Table) (j i : ℕ) (none : firstCaught (sendCallChecks t j i) ≡ 0) where
-  clear-send : (firstCaught (sendChecks t j i) ≡ 0) × (firstCaught (record { caught = leb 4096 (messageCount t); number = 14 } ∷ []) ≡ 0)
-  unfolding sendCallChecks sendChecks areRefusals
-  clear-send = both-clear (sendChecks t j i) _ refl none
-
-  pub send-passed : (firstCaught (sendChecks t j i) ≡ 0) × (messageCount t < 4096)
-  send-passed = (clear-send .0, leb-false 4096 (messageCount t) (one-clear _ 14 (omega arith) (clear-send .1)))
-
-module _ (t : Table) (i : ℕ) (list : List ℕ) (none : firstCaught (saveCallChecks t i list) ≡ 0) where
-  clear-save : (firstCaught (checkpointChecks t i list) ≡ 0) × (firstCaught (record { caught = leb 4096 (countOf t i); number = 14 } ∷ []) ≡ 0)
-  unfolding saveCallChecks checkpointChecks areRefusals
-  clear-save = both-clear (checkpointChecks t i list) _ refl none
-
-  pub save-passed : (firstCaught (checkpointChecks t i list) ≡ 0) × (countOf t i < 4096)
-  save-passed = (clear-save .0, leb-false 4096 (countOf t i) (one-clear _ 14 (omega arith) (clear-save .1)))
-
-  abbrev known-too : Check
-  known-too = record { caught = leb (processCount t) i; number = 10 }
-
-  abbrev listed-too : Check
-  listed-too = record { caught = any (badPosition t i) list || notRising list; number = 13 }
-
-  pub save-rising : notRising list ≡ false
-  unfolding checkpointChecks areRefusals
-  save-rising =
-      let both = both-clear (known-too ∷ []) (listed-too ∷ []) refl (clear-save .0) in
-      or-false-right (any (badPosition t i) list) (notRising list) (one-clear _ 13 (omega arith) (both .1))
+pub save-passed : (t : Table) (i : ℕ) (list : List ℕ) → firstCaught (saveCallChecks t i list) ≡ 0
+    → (firstCaught (checkpointChecks t i list) ≡ 0) × (countOf t i < 4096)
+unfolding saveCallChecks checkpointChecks
+save-passed t i list none =
+    let known = cleared _ _ (omega arith) none in
+    let listed = cleared _ _ (omega arith) (known .1) in
+    let free = cleared _ _ (omega arith) (listed .1) in
+    (passed _ _ 0 (known .0) (passed _ _ 0 (listed .0) clear), leb-false 4096 (countOf t i) (free .0))
 
 -- ---- the length of the answer, from what was read
 module _ (t : Table) (n m : ℕ) (read-n : n ≡ processCount t) where

@@ -4,40 +4,23 @@
 --     accepted-encode, reread        such a table, written, is accepted and is read as it was
 --     rewritten                      an accepted table's bytes, read and written again
 -- Assumes nothing.
-use mathlib.Core.Bool.{Bool, true, false, cond, not, _||_, false≢true}
-use mathlib.Core.List.{List, [], _∷_}
-use mathlib.Core.Path.{_≡_, refl, sym, ap, _∙_, subst, subst⁻¹}
-use Prim.Native.Nat.{ℕ, suc, _+_, _*_, _<_, _≤_}
+use mathlib.Core.Bool.{Bool, false}
+use mathlib.Core.List.{List}
+use mathlib.Core.Path.{_≡_, refl, _∙_, subst⁻¹}
+use Prim.Native.Nat.{ℕ, _<_, _≤_}
 use native.Mathlib.Omega.{arith}
-use borrow.Author.Tests.{eqb-false, eqb-true, leb-false, ltb-false, lt-ltb, le-ltb, lt-leb, eq-eqb, ne-eqb, not-false}
+use borrow.Author.Tests.{eqb-false, eqb-true, leb-false, ltb-false, lt-leb, ne-eqb, not-false}
 use lib.Dec.{eqb, leb, ltb}
-use lib.ListN.{length, getD}
-use Rattle.run_table.proofs.CheckLaws.{clear, few-messages, not-short, passed, process-count as checked-processes, right-length}
+use lib.ListN.{length}
+use Rattle.run_table.proofs.CheckLaws.{clear, cleared, few-messages, not-short, passed, process-count as checked-processes, right-length}
 use Rattle.run_table.proofs.CodingLaws.{AreBytes, Fits16, decode-encode, encode-decode}
 use Rattle.run_table.proofs.FormatLaws.{decode-messages, decode-processes, encode-length}
 use Rattle.run_table.proofs.NumberLaws.{any-none, none-of, or-false-left, or-false-right}
 use Rattle.run_table.proofs.ScanLaws.{inside}
-use Rattle.run_table.specs.Checks.{Accepted, Check, GoodMessage, Limits, WellFormed, badCount, badLength, badProcessCount, badReceipt, badSend, firstCaught, outside, tableChecks, tableRefusal, toItself, tooManyMessages, tooShort, unknownProcess}
+use Rattle.run_table.specs.Checks.{Accepted, GoodMessage, Limits, WellFormed, badCount, badLength, badProcessCount, badReceipt, badSend, outside, tableChecks, tableRefusal, toItself, tooManyMessages, unknownProcess}
 use Rattle.run_table.specs.Format.{decode, encode, messagesIn, processesIn, tableLength}
 use Rattle.run_table.specs.Numbers.{any}
 use Rattle.run_table.specs.Table.{Message, Table, countOf, messageCount, messageOf, noMessage, processCount}
-
--- a list that refuses with nothing: its first check catches nothing, and neither does the rest
-quiet-first : (c : Check) (rest : List Check) → 0 < c .number → firstCaught (c ∷ rest) ≡ 0 → c .caught ≡ false
-unfolding firstCaught
-quiet-first c rest p e = go (c .caught) e
-  where
-    go : (b : Bool) → cond b (c .number) (firstCaught rest) ≡ 0 → b ≡ false
-    go true e = absurd (omega arith)
-    go false e = refl
-
-quiet-rest : (c : Check) (rest : List Check) → 0 < c .number → firstCaught (c ∷ rest) ≡ 0 → firstCaught rest ≡ 0
-unfolding firstCaught
-quiet-rest c rest p e = go (c .caught) e
-  where
-    go : (b : Bool) → cond b (c .number) (firstCaught rest) ≡ 0 → firstCaught rest ≡ 0
-    go true e = absurd (omega arith)
-    go false e = e
 
 -- a number that is not outside its limit
 within-positive : (limit n : ℕ) → outside limit n ≡ false → 0 < n
@@ -127,18 +110,17 @@ module _ (bytes : List ℕ) where
 
   pub accepted : tableRefusal bytes ≡ 0 → Accepted bytes
   unfolding tableRefusal tableChecks
-  accepted r1 =
-      let r2 = quiet-rest _ _ (omega arith) r1 in
-      let r3 = quiet-rest _ _ (omega arith) r2 in
-      let r4 = quiet-rest _ _ (omega arith) r3 in
-      let r5 = quiet-rest _ _ (omega arith) r4 in
-      let r6 = quiet-rest _ _ (omega arith) r5 in
-      let r7 = quiet-rest _ _ (omega arith) r6 in
-      let r8 = quiet-rest _ _ (omega arith) r7 in
-      let r9 = quiet-rest _ _ (omega arith) r8 in
-      facts
-      (quiet-first _ _ (omega arith) r2) (quiet-first _ _ (omega arith) r3) (quiet-first _ _ (omega arith) r4) (quiet-first _ _ (omega arith) r5)
-      (quiet-first _ _ (omega arith) r6) (quiet-first _ _ (omega arith) r7) (quiet-first _ _ (omega arith) r8) (quiet-first _ _ (omega arith) r9)
+  accepted none =
+      let q1 = cleared _ _ (omega arith) none in
+      let q2 = cleared _ _ (omega arith) (q1 .1) in
+      let q3 = cleared _ _ (omega arith) (q2 .1) in
+      let q4 = cleared _ _ (omega arith) (q3 .1) in
+      let q5 = cleared _ _ (omega arith) (q4 .1) in
+      let q6 = cleared _ _ (omega arith) (q5 .1) in
+      let q7 = cleared _ _ (omega arith) (q6 .1) in
+      let q8 = cleared _ _ (omega arith) (q7 .1) in
+      let q9 = cleared _ _ (omega arith) (q8 .1) in
+      facts (q2 .0) (q3 .0) (q4 .0) (q5 .0) (q6 .0) (q7 .0) (q8 .0) (q9 .0)
 
   -- ---- the other way
   no-message : (test : Message → Bool) → ((k : ℕ) → k < messageCount t → test (messageOf t k) ≡ false) → any test (t .messages) ≡ false

@@ -1,9 +1,10 @@
 -- Laws of the checks.
 --     passed, stopped, clear      the first check of a list that catches
+--     cleared                     none of a list catches
 --     append-stopped, append-passed    further checks behind a list
 --     parts-refusal               checks 5 to 9 on the parts of a table are the document's, on the decoded table
 -- Assumes nothing.
-use mathlib.Core.Bool.{Bool, true, false, cond, not, _&&_, _||_, false≢true}
+use mathlib.Core.Bool.{Bool, true, false, cond, not, _&&_, _||_}
 use mathlib.Core.List.{List, [], _∷_, _++_}
 use mathlib.Core.Path.{_≡_, refl, sym, ap, _∙_}
 use Prim.Native.Nat.{ℕ, suc, _+_, _-_, _*_, _<_, _≤_}
@@ -32,6 +33,15 @@ pub clear : firstCaught [] ≡ 0
 unfolding firstCaught
 clear = refl
 
+-- where a list of refusals catches nothing, neither its first check does nor the rest
+pub cleared : (c : Check) (rest : List Check) → 0 < c .number → firstCaught (c ∷ rest) ≡ 0 → (c .caught ≡ false) × (firstCaught rest ≡ 0)
+unfolding firstCaught
+cleared c rest positive e = go (c .caught) e
+  where
+    go : (b : Bool) → cond b (c .number) (firstCaught rest) ≡ 0 → (b ≡ false) × (firstCaught rest ≡ 0)
+    go true e = absurd (omega arith)
+    go false e = (refl, e)
+
 -- further checks behind a list: they matter where the list catches nothing, if each of its numbers is a refusal's
 pub append-stopped : (xs ys : List Check) (n : ℕ) → firstCaught xs ≡ suc n → firstCaught (xs ++ ys) ≡ suc n
 unfolding firstCaught
@@ -48,20 +58,11 @@ areRefusals [] = true
 areRefusals (c ∷ rest) = ltb 0 (c .number) && areRefusals rest
 
 pub append-passed : (xs ys : List Check) → areRefusals xs ≡ true → firstCaught xs ≡ 0 → firstCaught (xs ++ ys) ≡ firstCaught ys
-unfolding firstCaught areRefusals
+unfolding areRefusals
 append-passed [] ys p e = refl
 append-passed (c ∷ rest) ys p e =
-    go (c .caught) e (append-passed rest ys (and-right (ltb 0 (c .number)) (areRefusals rest) p))
-  where
-    positive : 0 < c .number
-    positive = ltb-true 0 (c .number) (and-left (ltb 0 (c .number)) (areRefusals rest) p)
-
-    go : (b : Bool) → cond b (c .number) (firstCaught rest) ≡ 0 → (firstCaught rest ≡ 0 → firstCaught (rest ++ ys) ≡ firstCaught ys)
-        → cond b (c .number) (firstCaught (rest ++ ys)) ≡ firstCaught ys
-    go true e later =
-        let z : c .number ≡ 0 = e in
-        absurd (omega (arith, positive))
-    go false e later = later e
+    let none = cleared c rest (ltb-true 0 (c .number) (and-left (ltb 0 (c .number)) (areRefusals rest) p)) e in
+    passed c (rest ++ ys) _ (none .0) (append-passed rest ys (and-right (ltb 0 (c .number)) (areRefusals rest) p) (none .1))
 
 pub table-refusals : (bytes : List ℕ) → areRefusals (tableChecks bytes) ≡ true
 unfolding areRefusals tableChecks

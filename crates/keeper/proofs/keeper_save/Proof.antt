@@ -7,9 +7,9 @@ use Prim.Native.Nat.{_+_, _*_}
 use denote.Ref.{now}
 use lib.ListN.{length}
 use Rattle.futures.specs.Steps.{afterCheckpoint, checkpointChecks}
-use Rattle.futures.proofs.StepLaws.{checkpoint-known}
+use Rattle.futures.proofs.StepLaws.{checkpoint-known, checkpoint-rising}
 use Rattle.keeper.proofs.AnswerLaws.{all-answered, own-caught, room-refused, table-refused}
-use Rattle.keeper.proofs.StepLaws.{save-holds, save-passed, save-rising, save-size}
+use Rattle.keeper.proofs.StepLaws.{save-holds, save-passed, save-size}
 use Rattle.keeper.specs.Calls.{saveAnswer, saveCallChecks}
 use Rattle.run_table.proofs.CheckLaws.{areRefusals}
 use Rattle.run_table.proofs.ReadLaws.{messages-few, processes-few}
@@ -68,7 +68,11 @@ returns-3 c =
     (room-refused _ _ _ _ (accepted (c .before .before .before .before .before)) refl (quiet (c .before .before .before)) _ _ (omega (arith, c .if3 .taken, size (c .before))), (λ e. absurd (omega (arith, e))))
 
 put-checkpoint-requires : tie.Need-put-checkpoint-requires
-put-checkpoint-requires c κs = (accepted (c .before .before .before .before .before .before), (checkpoint-known _ _ _ (save-passed _ _ _ (quiet (c .before .before .before .before)) .0), (save-rising _ _ _ (quiet (c .before .before .before .before)), omega (arith, c .before .if3 .left, c .before .before .before .process-count .ensures, c .before .before .message-count .ensures))))
+put-checkpoint-requires c κs =
+    let passed = save-passed _ _ _ (quiet (c .before .before .before .before)) .0 in (
+      accepted (c .before .before .before .before .before .before),
+      (checkpoint-known _ _ _ passed, (checkpoint-rising _ _ _ passed, omega (arith, c .before .if3 .left, c .before .before .before .process-count .ensures, c .before .before .message-count .ensures))),
+    )
 
 same-length : tie.Need-same-length
 same-length c = search needs
