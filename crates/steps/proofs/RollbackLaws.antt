@@ -231,18 +231,18 @@ module _ (bytes : List ℕ) (none : tableRefusal bytes ≡ 0) where
           go true = refl
           go false = refl
 
--- ---- the two numbers of an entry, beside the line
-module _ (line part : List ℕ) (k process checkpoint : ℕ) (read-p : process ≡ u16At part (4 * k)) (read-c : checkpoint ≡ u16At part (4 * k + 2)) where
-  pub sent-test : ltb checkpoint (getD line process 0) ≡ sentBefore line part k
-  unfolding processAt checkpointAt sentBefore
-  sent-test = ap₂ (λ (p c : ℕ). ltb c (getD line p 0)) read-p read-c
+-- ---- the checkpoint of an entry, beside the line's number at its process
+module _ (line part : List ℕ) (k height checkpoint : ℕ) (read-h : height ≡ getD line (processAt part k) 0) (read-c : checkpoint ≡ u16At part (4 * k + 2)) where
+  pub sent-test : ltb checkpoint height ≡ sentBefore line part k
+  unfolding checkpointAt sentBefore
+  sent-test = ap₂ ltb read-c read-h
 
-  receipt-test : cond (ltb (getD line process 0) checkpoint) 0 checkpoint ≡ receiptLeft line part k
-  unfolding processAt checkpointAt receiptLeft
-  receipt-test = ap₂ (λ (p c : ℕ). cond (ltb (getD line p 0) c) 0 c) read-p read-c
+  receipt-test : cond (ltb height checkpoint) 0 checkpoint ≡ receiptLeft line part k
+  unfolding checkpointAt receiptLeft
+  receipt-test = ap₂ (λ (h c : ℕ). cond (ltb h c) 0 c) read-h read-c
 
-  pub receipt-undone : getD line process 0 < checkpoint → _≡_ {A = ℕ} 0 (receiptLeft line part k)
-  receipt-undone h = sym (ap (λ (b : Bool). cond b 0 checkpoint) (lt-ltb (getD line process 0) checkpoint h)) ∙ receipt-test
+  pub receipt-undone : height < checkpoint → _≡_ {A = ℕ} 0 (receiptLeft line part k)
+  receipt-undone h = sym (ap (λ (b : Bool). cond b 0 checkpoint) (lt-ltb height checkpoint h)) ∙ receipt-test
 
-  pub receipt-kept : checkpoint ≤ getD line process 0 → checkpoint ≡ receiptLeft line part k
-  receipt-kept h = sym (ap (λ (b : Bool). cond b 0 checkpoint) (le-ltb (getD line process 0) checkpoint h)) ∙ receipt-test
+  pub receipt-kept : checkpoint ≤ height → checkpoint ≡ receiptLeft line part k
+  receipt-kept h = sym (ap (λ (b : Bool). cond b 0 checkpoint) (le-ltb height checkpoint h)) ∙ receipt-test

@@ -24,15 +24,24 @@ pub fn recovery_line(table: &[u8]) -> [u16; 32]
     line_of_set(table, 4294967295)
 }
 
+// The line's number at the process of entry k of a part of sends or of receipts.
+fn height_at(part: &[u8], line: [u16; 32], k: usize) -> u16
+    requires { ⌜ 4 * k + 3 < length (now part) ⌝ }
+    requires { ⌜ processAt (now part) k < 32 ⌝ }
+    ensures { λ r. ⌜ r ≡ getD line (processAt (now (part .entry)) k) 0 ⌝ }
+{
+    let process = u16_at(part, 4 * k) as usize;
+    line[process]
+}
+
 // Whether the message of entry k of a part of sends stays: it was sent before the line.
 fn stays(sends: &[u8], line: [u16; 32], k: usize) -> bool
     requires { ⌜ 4 * k + 3 < length (now sends) ⌝ }
     requires { ⌜ processAt (now sends) k < 32 ⌝ }
     ensures { λ r. ⌜ r ≡ sentBefore line (now (sends .entry)) k ⌝ }
 {
-    let sender = u16_at(sends, 4 * k) as usize;
     let sent = u16_at(sends, 4 * k + 2);
-    let height = line[sender];
+    let height = height_at(sends, line, k);
     sent < height
 }
 
@@ -42,9 +51,8 @@ fn receipt_left(receipts: &[u8], line: [u16; 32], k: usize) -> u16
     requires { ⌜ processAt (now receipts) k < 32 ⌝ }
     ensures { λ r. ⌜ r ≡ receiptLeft line (now (receipts .entry)) k ⌝ }
 {
-    let receiver = u16_at(receipts, 4 * k) as usize;
     let received = u16_at(receipts, 4 * k + 2);
-    let height = line[receiver];
+    let height = height_at(receipts, line, k);
     if height < received {
         return 0;
     }
