@@ -13,6 +13,7 @@
 //     # TEXT              printed as it stands
 // test_kit has the lines that build a table.
 use libc::STDIN_FILENO;
+use run_table::numbers::u16_or_zero;
 use test_kit::all_are;
 use test_kit::build;
 use test_kit::copy;
@@ -22,7 +23,6 @@ use test_kit::fill;
 use test_kit::length_of;
 use test_kit::number;
 use test_kit::numbers;
-use test_kit::script::code_of;
 use test_kit::script::line_at;
 use test_kit::script::size;
 use test_kit::script::small;
@@ -163,10 +163,7 @@ fn fall(table: &[u8], space: &mut [u8], room: usize) -> usize {
 
 // The number of processes that a table gives: its first number.
 fn process_count(table: &[u8]) -> usize {
-    if table.len() < 2 {
-        return 0;
-    }
-    code_of(table[1], table[0]) as usize
+    u16_or_zero(table, 0) as usize
 }
 
 // How many numbers n lines of n numbers are, for 32 processes at most.

@@ -8,27 +8,32 @@ use script::line_end;
 use script::size;
 use script::small;
 use script::starts;
+ghost use mathlib.Core.Bool.{cond};
 ghost use mathlib.Core.Path.{_≡_};
-ghost use Prim.Native.Nat.{_<_};
-ghost use lib.ListN.{length};
+ghost use Prim.Native.Nat.{_+_, _-_, _*_, _<_};
+ghost use lib.ListN.{getD, length, set};
+ghost use Rattle.run_table.specs.Format.{messagesIn, processesIn, tableLength};
+ghost use Rattle.test_kit.specs.Buffers.{AllAre, Filled, withNumber};
 
 // Writes a byte.
 pub fn byte(buffer: &mut [u8], at: usize, value: u8)
-    ensures { λ _. ⌜ length (now (buffer .exit)) ≡ length (now (buffer .entry)) ⌝ }
+    ensures { λ _. ⌜ now (buffer .exit) ≡ set (now (buffer .entry)) at value ⌝ }
 {
-    if at < buffer.len() {
-        buffer[at] = value;
+    if buffer.len() <= at {
+        return;
     }
+    buffer[at] = value;
 }
 
 // Writes a 16-bit number, low byte first.
 pub fn number(buffer: &mut [u8], at: usize, value: u16)
-    ensures { λ _. ⌜ length (now (buffer .exit)) ≡ length (now (buffer .entry)) ⌝ }
+    ensures { λ _. ⌜ now (buffer .exit) ≡ withNumber (now (buffer .entry)) at value ⌝ }
 {
-    if at < 1000000 {
-        byte(buffer, at, (value % 256) as u8);
-        byte(buffer, at + 1, (value / 256 % 256) as u8);
+    byte(buffer, at, (value % 256) as u8);
+    if buffer.len() <= at {
+        return;
     }
+    byte(buffer, at + 1, (value / 256 % 256) as u8);
 }
 
 // Writes N and M, and the counts, all alike. The messages are left as they are.
@@ -46,7 +51,7 @@ pub fn sizes(buffer: &mut [u8], n: u16, m: u16, count: u16)
 
 // Writes the count of one process.
 pub fn count(buffer: &mut [u8], p: u16, value: u16)
-    ensures { λ _. ⌜ length (now (buffer .exit)) ≡ length (now (buffer .entry)) ⌝ }
+    ensures { λ _. ⌜ now (buffer .exit) ≡ withNumber (now (buffer .entry)) (4 + 2 * p) value ⌝ }
 {
     number(buffer, 4 + 2 * (p as usize), value);
 }
@@ -76,7 +81,9 @@ pub fn messages(buffer: &mut [u8], m: u16, j: u16, y: u16, i: u16, r: u16)
 }
 
 // The length that the sizes of a table give.
-pub fn length_of(buffer: &[u8]) -> usize {
+pub fn length_of(buffer: &[u8]) -> usize
+    ensures { λ r. ⌜ r ≡ tableLength (processesIn (now (buffer .entry))) (messagesIn (now (buffer .entry))) ⌝ }
+{
     4 + 2 * (u16_or_zero(buffer, 0) as usize) + 8 * (u16_or_zero(buffer, 2) as usize)
 }
 
@@ -98,6 +105,7 @@ pub fn domino(buffer: &mut [u8], m: u16, backward: bool)
 // Where message k of a domino stands.
 fn domino_place(m: u16, k: u16, backward: bool) -> u16
     requires { ⌜ k < m ⌝ }
+    ensures { λ r. ⌜ r ≡ cond backward (m - 1 - k) k ⌝ }
 {
     if backward {
         return m - 1 - k;
@@ -107,7 +115,7 @@ fn domino_place(m: u16, k: u16, backward: bool) -> u16
 
 // Fills a buffer with one byte.
 pub fn fill(buffer: &mut [u8], value: u8)
-    ensures { λ _. ⌜ length (now (buffer .exit)) ≡ length (now (buffer .entry)) ⌝ }
+    ensures { λ _. ⌜ Filled (λ _. value) (length (now (buffer .entry))) (now (buffer .entry)) (now (buffer .exit)) ⌝ }
 {
     let mut i = 0;
     while i < buffer.len() {
@@ -118,7 +126,7 @@ pub fn fill(buffer: &mut [u8], value: u8)
 
 // Writes bytes at the front of a buffer.
 pub fn copy(buffer: &mut [u8], bytes: &[u8])
-    ensures { λ _. ⌜ length (now (buffer .exit)) ≡ length (now (buffer .entry)) ⌝ }
+    ensures { λ _. ⌜ Filled (λ i. getD (now (bytes .entry)) i 0) (length (now (bytes .entry))) (now (buffer .entry)) (now (buffer .exit)) ⌝ }
 {
     let mut i = 0;
     while i < bytes.len() {
@@ -128,13 +136,16 @@ pub fn copy(buffer: &mut [u8], bytes: &[u8])
 }
 
 // Whether every byte from one place to another has a value.
-pub fn all_are(buffer: &[u8], from: usize, to: usize, value: u8) -> bool {
+pub fn all_are(buffer: &[u8], from: usize, to: usize, value: u8) -> bool
+    ensures { λ r. ⌜ AllAre (now (buffer .entry)) from to value r ⌝ }
+{
     let mut i = from;
     while i < to {
-        if i < buffer.len() {
-            if buffer[i] != value {
-                return false;
-            }
+        if buffer.len() <= i {
+            return true;
+        }
+        if buffer[i] != value {
+            return false;
         }
         i += 1;
     }

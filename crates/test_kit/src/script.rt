@@ -1,7 +1,11 @@
 // A test script: lines of a word and decimal numbers, as "message 0 1 2 3 4". A word is known by its
 // first two letters.
-ghost use Prim.Native.Nat.{_+_, _<_, _≤_};
-ghost use lib.ListN.{length};
+use run_table::numbers::u16_or_zero;
+ghost use mathlib.Core.Path.{_≡_};
+ghost use Prim.Native.Nat.{_+_, _*_, _%_, _<_, _≤_};
+ghost use lib.Dec.{eqb};
+ghost use lib.ListN.{getD, length};
+ghost use Rattle.run_table.specs.Numbers.{u16At};
 
 // A line: its word, its numbers, how many they are, and where the next line starts.
 pub struct Line {
@@ -11,20 +15,11 @@ pub struct Line {
     pub next: usize,
 }
 
-// The code of a word's first two letters.
-pub fn code_of(first: u8, second: u8) -> u16 {
-    256 * (first as u16) + (second as u16)
-}
-
-// The code of the word that starts at a place of the text.
-pub fn code_at(text: &[u8], at: usize) -> u16 {
-    if text.len() <= at {
-        return 0;
-    }
-    if text.len() - at == 1 {
-        return code_of(text[at], 0);
-    }
-    code_of(text[at], text[at + 1])
+// The code of a word's first two letters: the 16-bit number that they are.
+fn code_of(first: u8, second: u8) -> u16
+    ensures { λ r. ⌜ r ≡ first + 256 * second ⌝ }
+{
+    (first as u16) + 256 * (second as u16)
 }
 
 // Where the line that starts at a place ends: at its line feed, or at the end of the text.
@@ -80,7 +75,7 @@ fn digits_value(text: &[u8], from: usize, to: usize) -> u64
 // The line that starts at a place of the text.
 pub fn line_at(text: &[u8], at: usize) -> Line
     requires { ⌜ at < length (now text) ⌝ }
-    ensures { λ r. ⌜ (at < r .next) × (r .next ≤ length (now (text .entry)) + 1) × (r .count ≤ 16) ⌝ }
+    ensures { λ r. ⌜ (at < r .next) × (r .next ≤ length (now (text .entry)) + 1) × (r .count ≤ 16) × (r .code ≡ u16At (now (text .entry)) at) ⌝ }
 {
     let end = line_end(text, at);
     let mut numbers = [0u64; 16];
@@ -99,7 +94,7 @@ pub fn line_at(text: &[u8], at: usize) -> Line
         i = stop;
     }
     Line {
-        code: code_at(text, at),
+        code: u16_or_zero(text, at),
         numbers,
         count,
         next: end + 1,
@@ -107,22 +102,24 @@ pub fn line_at(text: &[u8], at: usize) -> Line
 }
 
 // Number i of a line, as 16 bits.
-pub fn small(numbers: &[u64; 16], i: usize) -> u16 {
-    if i < 16 {
-        return (numbers[i] % 65536) as u16;
-    }
-    0
+pub fn small(numbers: &[u64; 16], i: usize) -> u16
+    requires { ⌜ i < 16 ⌝ }
+    ensures { λ r. ⌜ r ≡ getD (now (numbers .entry)) i 0 % 65536 ⌝ }
+{
+    (numbers[i] % 65536) as u16
 }
 
 // Number i of a line, as a size.
-pub fn size(numbers: &[u64; 16], i: usize) -> usize {
-    if i < 16 {
-        return numbers[i] as usize;
-    }
-    0
+pub fn size(numbers: &[u64; 16], i: usize) -> usize
+    requires { ⌜ i < 16 ⌝ }
+    ensures { λ r. ⌜ r ≡ getD (now (numbers .entry)) i 0 ⌝ }
+{
+    numbers[i] as usize
 }
 
 // Whether a word's code is that of two letters.
-pub fn starts(code: u16, first: u8, second: u8) -> bool {
+pub fn starts(code: u16, first: u8, second: u8) -> bool
+    ensures { λ r. ⌜ r ≡ eqb code (first + 256 * second) ⌝ }
+{
     code == code_of(first, second)
 }

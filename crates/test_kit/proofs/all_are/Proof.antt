@@ -1,36 +1,40 @@
--- `all_are` reads within the buffer.
+-- `all_are` meets its contract: the loop leaves at the first other value, and at the end of the buffer.
 -- Assumes nothing.
-use borrow.Author.Needs.{needs}
+use native.Mathlib.Omega.{arith}
 use Prim.Native.Nat.{_-_}
+use Rattle.test_kit.proofs.BufferLaws.{Tested, tested-all, tested-another, tested-more, tested-none}
 use Rattle.test_kit.proofs.all_are.Statement.{statement}
 use Rattle.test_kit.proofs.all_are.Tie as tie
 
 abbrev Inv-loop : tie.InvT-loop
-Inv-loop buffer from to value i₀ i = Unit {0}
+Inv-loop buffer from to value i₀ i = Tested buffer from value i
 
 abbrev μ-loop : tie.MeasureT-loop
 μ-loop buffer from to value i₀ i = to - i
 
 loop-holds : tie.Need-loop-holds Inv-loop μ-loop
-loop-holds c = search needs
-
-shared-slice-read-if2 : tie.Need-shared-slice-read-if2 Inv-loop μ-loop
-shared-slice-read-if2 c = search needs
+loop-holds c = tested-none _ _ _
 
 returns : tie.Need-returns Inv-loop μ-loop
-returns c = search needs
+returns c = tested-all _ _ _ _ (c .before .before .loop .inv) _ (λ k a b. omega (arith, c .if1 .taken))
 
-add-i : tie.Need-add-i Inv-loop μ-loop
-add-i c = search needs
-
-loop-less : tie.Need-loop-less Inv-loop μ-loop
-loop-less c = search needs
-
-loop-again : tie.Need-loop-again Inv-loop μ-loop
-loop-again c = search needs
+shared-slice-read-if2 : tie.Need-shared-slice-read-if2 Inv-loop μ-loop
+shared-slice-read-if2 c = omega arith
 
 returns-2 : tie.Need-returns-2 Inv-loop μ-loop
-returns-2 c = search needs
+returns-2 c = tested-another _ _ _ _ (c .before .before .before .before .loop .inv) _ (c .before .before .before .loop-test .taken) (c .before .before .if1 .left) (c .if2 .taken)
+
+add-i : tie.Need-add-i Inv-loop μ-loop
+add-i c = omega arith
+
+loop-less : tie.Need-loop-less Inv-loop μ-loop
+loop-less c = omega arith
+
+loop-again : tie.Need-loop-again Inv-loop μ-loop
+loop-again c = tested-more _ _ _ _ (c .before .before .before .before .loop .inv) (c .if2 .left)
+
+returns-3 : tie.Need-returns-3 Inv-loop μ-loop
+returns-3 c = tested-all _ _ _ _ (c .before .loop .inv) _ (λ k a b. omega (arith, c .loop-test .left))
 
 pub all-are-spec : {M : Type 1} → statement M
 all-are-spec =
@@ -39,9 +43,10 @@ all-are-spec =
     Inv-loop
     μ-loop
     loop-holds
-    shared-slice-read-if2
     returns
+    shared-slice-read-if2
+    returns-2
     add-i
     loop-less
     loop-again
-    returns-2)
+    returns-3)

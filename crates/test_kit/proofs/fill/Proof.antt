@@ -1,38 +1,40 @@
--- `fill` keeps the length.
+-- `fill` meets its contract: the loop writes one byte after another.
 -- Assumes nothing.
-use borrow.Author.Needs.{needs}
-use mathlib.Core.Path.{_≡_}
-use Prim.Native.Nat.{_-_, _≤_, _<_}
+use mathlib.Core.Path.{refl}
+use Prim.Native.Nat.{_-_, _≤_}
+use native.Mathlib.Omega.{arith}
 use lib.ListN.{length}
+use Rattle.test_kit.proofs.BufferLaws.{filled-all, filled-more, filled-none}
+use Rattle.test_kit.specs.Buffers.{Filled}
 use Rattle.test_kit.proofs.fill.Statement.{statement}
 use Rattle.test_kit.proofs.fill.Tie as tie
 
 abbrev Inv-loop : tie.InvT-loop
-Inv-loop buffer₀ value i₀ buffer i = length buffer ≡ length buffer₀
+Inv-loop buffer₀ value i₀ buffer i = (i ≤ length buffer₀) × Filled (λ _. value) i buffer₀ buffer
 
 abbrev μ-loop : tie.MeasureT-loop
 μ-loop buffer₀ value i₀ buffer i = length buffer₀ - i
 
 loop-holds : tie.Need-loop-holds Inv-loop μ-loop
-loop-holds c = search needs
+loop-holds c = (omega arith, filled-none _ _)
 
 slice-write-buffer : tie.Need-slice-write-buffer Inv-loop μ-loop
-slice-write-buffer c = search needs
+slice-write-buffer c = omega arith
 
 add-i : tie.Need-add-i Inv-loop μ-loop
-add-i c = search needs
+add-i c = omega arith
 
 loop-less : tie.Need-loop-less Inv-loop μ-loop
-loop-less c = search needs
+loop-less c = omega arith
 
 loop-again : tie.Need-loop-again Inv-loop μ-loop
-loop-again c = search needs
+loop-again c = (omega arith, filled-more _ _ _ _ (c .before .loop .inv .1) _ _ refl refl)
 
 same-length : tie.Need-same-length Inv-loop μ-loop
-same-length c = search needs
+same-length c = c .before .loop .inv .1 .same-length
 
 returns : tie.Need-returns Inv-loop μ-loop
-returns c = search needs
+returns c = filled-all _ _ _ _ (c .before .loop .inv .1) _ (c .before .loop .inv .0) (omega arith)
 
 pub fill-spec : {M : Type 1} → statement M
 fill-spec =

@@ -1,7 +1,7 @@
 -- `numbers` goes on two bytes at a time.
 -- Assumes nothing.
 use borrow.Author.Needs.{needs}
-use Prim.Native.Nat.{_+_, _-_, _≤_, _<_}
+use Prim.Native.Nat.{_+_, _-_, _≤_}
 use lib.ListN.{length}
 use Rattle.test_kit.proofs.numbers.Statement.{statement}
 use Rattle.test_kit.proofs.numbers.Tie as tie

@@ -1,8 +1,7 @@
 -- `script::digits_end` stays within the line.
 -- Assumes nothing.
 use borrow.Author.Needs.{needs}
-use Prim.Native.Nat.{_-_, _≤_, _<_}
-use lib.ListN.{length}
+use Prim.Native.Nat.{_-_, _≤_}
 use Rattle.test_kit.proofs.script.digits_end.Statement.{statement}
 use Rattle.test_kit.proofs.script.digits_end.Tie as tie
 

@@ -1,8 +1,7 @@
 -- `script::digits_value` stays below a quintillion: a tenth of that takes one digit more, and no other number does.
 -- Assumes nothing.
 use borrow.Author.Needs.{needs}
-use Prim.Native.Nat.{_-_, _≤_, _<_}
-use lib.ListN.{length}
+use Prim.Native.Nat.{_-_, _<_}
 use Rattle.test_kit.proofs.script.digits_value.Statement.{statement}
 use Rattle.test_kit.proofs.script.digits_value.Tie as tie
 

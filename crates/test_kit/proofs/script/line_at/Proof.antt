@@ -2,7 +2,7 @@
 -- Assumes nothing.
 use borrow.Author.Needs.{needs}
 use mathlib.Core.Path.{_≡_}
-use Prim.Native.Nat.{_-_, _≤_, _<_}
+use Prim.Native.Nat.{_-_, _≤_}
 use lib.ListN.{length}
 use Rattle.test_kit.proofs.script.line_at.Statement.{statement}
 use Rattle.test_kit.proofs.script.line_at.Tie as tie
@@ -55,8 +55,8 @@ loop-less-3 c = search needs
 loop-again-3 : tie.Need-loop-again-3 Inv-loop μ-loop
 loop-again-3 c = search needs
 
-code-at-requires : tie.Need-code-at-requires Inv-loop μ-loop
-code-at-requires c κs = search needs
+u16-or-zero-requires : tie.Need-u16-or-zero-requires Inv-loop μ-loop
+u16-or-zero-requires c κs = search needs
 
 add-t15 : tie.Need-add-t15 Inv-loop μ-loop
 add-t15 c = search needs
@@ -84,6 +84,6 @@ line-at-spec =
     loop-again-2
     loop-less-3
     loop-again-3
-    code-at-requires
+    u16-or-zero-requires
     add-t15
     returns)

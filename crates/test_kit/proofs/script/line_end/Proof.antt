@@ -1,7 +1,7 @@
 -- `script::line_end` stays within the text.
 -- Assumes nothing.
 use borrow.Author.Needs.{needs}
-use Prim.Native.Nat.{_-_, _≤_, _<_}
+use Prim.Native.Nat.{_-_, _≤_}
 use lib.ListN.{length}
 use Rattle.test_kit.proofs.script.line_end.Statement.{statement}
 use Rattle.test_kit.proofs.script.line_end.Tie as tie

@@ -1,0 +1,70 @@
+-- What is written to a buffer, and what a test says of one.
+--     number-out, number-in               a number beyond the end, and one that begins before it
+--     filled-none, filled-more, filled-all    a loop that fills a buffer from the front
+--     Tested, tested-none .. tested-another   a loop that tests its bytes
+-- Assumes nothing.
+use mathlib.Core.Bool.{true, false, false≢true}
+use mathlib.Core.List.{List}
+use mathlib.Core.Path.{_≡_, refl, sym, ap, _∙_, subst, subst⁻¹}
+use Prim.Native.Nat.{ℕ, _+_, _/_, _%_, _≤_, _<_}
+use native.Mathlib.Decide.{ℕ-discrete}
+use native.Mathlib.Nat.{le-antisymm, not-suc-le-zero}
+use native.Mathlib.Omega.{arith}
+use lib.ListN.{length, getD, set, length-set}
+use lib.Seq.{getD-set-other, getD-set-same, set-out}
+use Rattle.test_kit.specs.Buffers.{AllAre, Filled, withNumber}
+
+-- ---- a number
+module _ (before after : List ℕ) (at value : ℕ) (low : after ≡ set before at (value % 256)) where
+  pub number-out : length after ≤ at → after ≡ withNumber before at value
+  unfolding withNumber
+  number-out h = sym (set-out after (at + 1) (value / 256 % 256) (omega arith)) ∙ ap (λ (b : List ℕ). set b (at + 1) (value / 256 % 256)) low
+
+  pub number-in : (later : List ℕ) → later ≡ set after (at + 1) (value / 256 % 256) → later ≡ withNumber before at value
+  unfolding withNumber
+  number-in later high = high ∙ ap (λ (b : List ℕ). set b (at + 1) (value / 256 % 256)) low
+
+-- ---- a loop that fills a buffer from the front
+pub filled-none : (f : ℕ → ℕ) (before : List ℕ) → Filled f 0 before before
+filled-none f before = record { same-length = refl; front = λ i l. absurd (not-suc-le-zero l); rest = λ i l. refl }
+
+module _ (f : ℕ → ℕ) (k : ℕ) (before after : List ℕ) (w : Filled f k before after) where
+  pub filled-more : (v : ℕ) (later : List ℕ) → v ≡ f k → later ≡ set after k v → Filled f (k + 1) before later
+  filled-more v later e put = rw put record {
+    same-length = length-set after k v ∙ w .same-length;
+    front = λ i l inside. by-place i l inside (ℕ-discrete i k);
+    rest = λ i l. getD-set-other after k i v 0 (λ same. omega arith) ∙ w .rest i (omega arith);
+  }
+    where
+      by-place : (i : ℕ) → i < k + 1 → i < length before → Dec (i ≡ k) → getD (set after k v) i 0 ≡ f i
+      by-place i l inside (yes same) =
+          subst⁻¹ (λ (x : ℕ). getD (set after k v) x 0 ≡ f x) same (getD-set-same after k v 0 (omega (arith, w .same-length)) ∙ e)
+      by-place i l inside (no other) = getD-set-other after k i v 0 other ∙ w .front i (omega arith) inside
+
+  pub filled-all : (n : ℕ) → k ≤ n → n ≤ k → Filled f n before after
+  filled-all n a b = subst (λ (j : ℕ). Filled f j before after) (le-antisymm a b) w
+
+-- ---- a loop that tests bytes
+-- Each byte from a place to the loop's has the value.
+pub record Tested (buffer : List ℕ) (from value i : ℕ) : Type 0 where
+  pub past : from ≤ i
+  pub same : (k : ℕ) → from ≤ k → k < i → k < length buffer → getD buffer k 0 ≡ value
+
+pub tested-none : (buffer : List ℕ) (from value : ℕ) → Tested buffer from value from
+tested-none buffer from value = record { past = omega arith; same = λ k a b l. absurd (omega arith) }
+
+module _ (buffer : List ℕ) (from value i : ℕ) (t : Tested buffer from value i) where
+  pub tested-more : getD buffer i 0 ≡ value → Tested buffer from value (i + 1)
+  tested-more e = record { past = omega (arith, t .past); same = λ k a b l. by-place k a b l (ℕ-discrete k i) }
+    where
+      by-place : (k : ℕ) → from ≤ k → k < i + 1 → k < length buffer → Dec (k ≡ i) → getD buffer k 0 ≡ value
+      by-place k a b l (yes here) = ap (λ (x : ℕ). getD buffer x 0) here ∙ e
+      by-place k a b l (no other) = t .same k a (omega arith) l
+
+  -- the loop has passed every byte
+  pub tested-all : (to : ℕ) → ((k : ℕ) → k < to → k < length buffer → k < i) → AllAre buffer from to value true
+  tested-all to passed = record { all = λ _ k a b l. t .same k a (passed k b l) l; another = λ e. absurd (false≢true (sym e)) }
+
+  -- it has found another value
+  pub tested-another : (to : ℕ) → i < to → i < length buffer → (getD buffer i 0 ≡ value → ⊥) → AllAre buffer from to value false
+  tested-another to b l other = record { all = λ e. absurd (false≢true e); another = λ _. (i, t .past, b, l, other) }
