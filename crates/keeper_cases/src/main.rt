@@ -13,6 +13,7 @@
 //     # TEXT              printed as it stands
 // test_kit has the lines that build a table.
 use libc::STDIN_FILENO;
+use run_table::numbers::put_u16;
 use run_table::numbers::u16_or_zero;
 use test_kit::all_are;
 use test_kit::build;
@@ -21,7 +22,6 @@ use test_kit::echo;
 use test_kit::end;
 use test_kit::fill;
 use test_kit::length_of;
-use test_kit::number;
 use test_kit::numbers;
 use test_kit::script::line_at;
 use test_kit::script::size;
@@ -30,8 +30,10 @@ use test_kit::script::starts;
 use test_kit::value;
 use test_kit::word;
 ghost use mathlib.Core.Path.{_≡_};
-ghost use Prim.Native.Nat.{_≤_};
+ghost use Prim.Native.Nat.{_*_, _≤_};
 ghost use lib.ListN.{length};
+ghost use Rattle.keeper_cases.specs.Places.{Guarded, answerEnd, lineNumbers, linesEnd, positionCount};
+ghost use Rattle.run_table.specs.Numbers.{putAt, u16s};
 
 // The first bytes of a buffer, or all of a shorter one.
 fn first(buffer: &[u8], len: usize) -> &[u8] {
@@ -43,7 +45,7 @@ fn first(buffer: &[u8], len: usize) -> &[u8] {
 
 // Where the answer ends in the guarded buffer, whose room starts at byte 16.
 fn answer_end(number: u32, written: usize) -> usize
-    ensures { λ r. ⌜ 16 ≤ r ⌝ }
+    ensures { λ r. ⌜ (16 ≤ r) × (r ≡ answerEnd number written) ⌝ }
 {
     if number != 0 {
         return 16;
@@ -65,10 +67,12 @@ fn show(number: u32, written: usize, space: &[u8]) -> usize {
     answer_end
 }
 
-// Whether the guarded buffer is as it was, in front of the answer and behind it.
-fn is_guarded(space: &[u8], answer_end: usize) -> bool {
-    if all_are(space, 0, 16, 165) {
-        return all_are(space, answer_end, space.len(), 165);
+// Whether a guarded buffer is as it was, in front of what a call wrote and behind it.
+fn is_guarded(buffer: &[u8], from: usize, to: usize) -> bool
+    ensures { λ r. ⌜ Guarded (now (buffer .entry)) from to r ⌝ }
+{
+    if all_are(buffer, 0, from, 165) {
+        return all_are(buffer, to, buffer.len(), 165);
     }
     false
 }
@@ -77,7 +81,7 @@ fn is_guarded(space: &[u8], answer_end: usize) -> bool {
 // ends there.
 fn left(number: u32, written: usize, space: &[u8]) -> usize {
     let answer_end = show(number, written, space);
-    if is_guarded(space, answer_end) {
+    if is_guarded(space, 16, answer_end) {
         word(b" ok");
     }
     answer_end
@@ -161,14 +165,9 @@ fn fall(table: &[u8], space: &mut [u8], room: usize) -> usize {
     16
 }
 
-// The number of processes that a table gives: its first number.
-fn process_count(table: &[u8]) -> usize {
-    u16_or_zero(table, 0) as usize
-}
-
 // How many numbers n lines of n numbers are, for 32 processes at most.
 fn square(n: usize) -> usize
-    ensures { λ r. ⌜ r ≤ 1024 ⌝ }
+    ensures { λ r. ⌜ (r ≤ 1024) × (r ≡ lineNumbers n) ⌝ }
 {
     if 32 < n {
         return 0;
@@ -178,7 +177,7 @@ fn square(n: usize) -> usize
 
 // Where the lines end in the guarded scratch, whose room starts at number 16: at 16 if there are none.
 fn lines_end(number: u32, n: usize) -> usize
-    ensures { λ r. ⌜ 16 ≤ r ⌝ }
+    ensures { λ r. ⌜ (16 ≤ r) × (r ≤ 1040) × (r ≡ linesEnd number n) ⌝ }
 {
     if number == 0 {
         return 16 + square(n);
@@ -189,65 +188,40 @@ fn lines_end(number: u32, n: usize) -> usize
     16
 }
 
-// Number i of a list, 0 behind its end.
-fn number_at(list: &[u16], i: usize) -> u16 {
-    if i < list.len() {
-        return list[i];
-    }
-    0
-}
-
-// Writes 1,024 numbers of a list as bytes, low byte first.
+// Writes the numbers of a list to the front of some bytes that have room for them, low byte first.
 fn put_numbers(bytes: &mut [u8], list: &[u16])
-    ensures { λ _. ⌜ length (now (bytes .exit)) ≡ length (now (bytes .entry)) ⌝ }
+    requires { ⌜ 2 * length (now list) ≤ length (now bytes) ⌝ }
+    ensures { λ _. ⌜ now (bytes .exit) ≡ putAt (now (bytes .entry)) 0 (u16s (now (list .entry))) ⌝ }
 {
     let mut i = 0;
-    while i < 1024 {
-        number(bytes, 2 * i, number_at(list, i));
+    while i < list.len() {
+        put_u16(bytes, 2 * i, list[i]);
         i += 1;
     }
 }
 
 // Prints the lines, if there are any: their numbers or a checksum of them.
-fn show_lines(lines: &[u16], bytes: &mut [u8]) {
+fn show_lines(lines: &[u8]) {
     if lines.len() == 0 {
         return;
     }
-    if lines.len() <= 1024 {
-        put_numbers(bytes, lines);
-        word(b" lines");
-        numbers(first(bytes, 2 * lines.len()));
-    }
-}
-
-// Whether every number of the scratch from one place to another is its guard.
-fn are_guards(scratch: &[u16], from: usize, to: usize) -> bool {
-    let mut i = from;
-    while i < to {
-        if i < scratch.len() {
-            if scratch[i] != 42405 {
-                return false;
-            }
-        }
-        i += 1;
-    }
-    true
+    word(b" lines");
+    numbers(lines);
 }
 
 // Prints what a call for a keep sheet of n processes left in the guarded buffer and the guarded scratch,
 // `ok` if the rest of both is as it was, and says where its answer ends.
-fn left_sheet(number: u32, written: usize, n: usize, scratch: &[u16], space: &[u8]) -> usize {
+fn left_sheet(number: u32, written: usize, n: usize, scratch: &[u16], space: &[u8]) -> usize
+    requires { ⌜ length (now scratch) ≡ 1216 ⌝ }
+{
     let answer_end = show(number, written, space);
-    let lines_end = lines_end(number, n);
-    if lines_end <= scratch.len() {
-        let mut bytes = [0u8; 2048];
-        show_lines(&scratch[16..lines_end], &mut bytes);
-    }
-    if is_guarded(space, answer_end) {
-        if are_guards(scratch, 0, 16) {
-            if are_guards(scratch, lines_end, scratch.len()) {
-                word(b" ok");
-            }
+    let lines_end = 2 * lines_end(number, n);
+    let mut bytes = [0u8; 2432];
+    put_numbers(&mut bytes, scratch);
+    show_lines(&bytes[32..lines_end]);
+    if is_guarded(space, 16, answer_end) {
+        if is_guarded(&bytes, 32, lines_end) {
+            word(b" ok");
         }
     }
     answer_end
@@ -255,36 +229,36 @@ fn left_sheet(number: u32, written: usize, n: usize, scratch: &[u16], space: &[u
 
 // Makes the call for a keep sheet, with a lent part of the guarded scratch and a room inside the guarded
 // buffer, and says where the answer ends there.
-fn sheet_in(
-    table: &[u8],
-    scratch: &mut [u16],
-    lent: usize,
-    space: &mut [u8],
-    room: usize,
-) -> usize {
+fn sheet_in(table: &[u8], scratch: &mut [u16], lent: usize, space: &mut [u8], room: usize) -> usize
+    requires { ⌜ length (now scratch) ≡ 1216 ⌝ }
+{
     fill(space, 165);
     if room < 40000 {
         let end_at = 16 + room;
         if end_at <= space.len() {
             if lent <= 1184 {
                 let lent_end = 16 + lent;
-                if lent_end <= scratch.len() {
-                    let mut written: usize = 777;
-                    let number = keeper::keeper_keep_sheet(
-                        table,
-                        &mut scratch[16..lent_end],
-                        &mut space[16..end_at],
-                        &mut written,
-                    );
-                    return left_sheet(number, written, process_count(table), scratch, space);
-                }
+                let mut written: usize = 777;
+                let number = keeper::keeper_keep_sheet(
+                    table,
+                    &mut scratch[16..lent_end],
+                    &mut space[16..end_at],
+                    &mut written,
+                );
+                return left_sheet(
+                    number,
+                    written,
+                    u16_or_zero(table, 0) as usize,
+                    scratch,
+                    space,
+                );
             }
         }
     }
     16
 }
 
-// The same with a new scratch: 16 guards, 1,184 numbers to lend from, 16 guards.
+// The same with a new scratch: 16 guards, 1,184 numbers to lend from, 16 guards. A guard is two bytes 165.
 fn sheet(table: &[u8], lent: usize, space: &mut [u8], room: usize) -> usize {
     let mut scratch = [42405u16; 1216];
     sheet_in(table, &mut scratch, lent, space, room)
@@ -303,7 +277,7 @@ fn positions(list: &[u64; 16]) -> [u16; 16] {
 
 // How many positions stand on a line of so many numbers.
 fn position_count(count: usize) -> usize
-    ensures { λ r. ⌜ r ≤ 14 ⌝ }
+    ensures { λ r. ⌜ (r ≤ 14) × (r ≡ positionCount count) ⌝ }
 {
     if count < 2 {
         return 0;

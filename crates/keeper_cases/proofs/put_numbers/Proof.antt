@@ -1,44 +1,55 @@
--- `put_numbers` keeps the length.
+-- `put_numbers` meets its contract: the loop writes one number after another.
 -- Assumes nothing.
-use borrow.Author.Needs.{needs}
-use mathlib.Core.Path.{_≡_}
-use Prim.Native.Nat.{_-_}
-use lib.ListN.{length}
+use native.Mathlib.Omega.{arith}
+use mathlib.Core.List.{List}
+use mathlib.Core.Path.{refl, ap, _∙_}
+use Prim.Native.Nat.{ℕ, _-_}
+use denote.Ref.{now}
+use lib.ListN.{getD, length}
+use Rattle.run_table.proofs.NumberLaws.{tabulate-getD}
+use Rattle.run_table.proofs.WriteLaws.{Written, written-none, written-more, written-all}
+use Rattle.run_table.specs.Numbers.{putAt, u16s}
 use Rattle.keeper_cases.proofs.put_numbers.Statement.{statement}
 use Rattle.keeper_cases.proofs.put_numbers.Tie as tie
 
 abbrev Inv-loop : tie.InvT-loop
-Inv-loop bytes₀ list i₀ bytes i = length bytes ≡ length bytes₀
+Inv-loop bytes₀ list i₀ bytes i = Written (λ k. getD list k 0) (length list) 0 bytes₀ bytes i
 
 abbrev μ-loop : tie.MeasureT-loop
-μ-loop bytes₀ list i₀ bytes i = 1024 - i
+μ-loop bytes₀ list i₀ bytes i = length list - i
 
 loop-holds : tie.Need-loop-holds Inv-loop μ-loop
-loop-holds c = search needs
+loop-holds c = written-none _ _ _ _ (omega arith)
 
-mul-number : tie.Need-mul-number Inv-loop μ-loop
-mul-number c = search needs
+mul-put-u16 : tie.Need-mul-put-u16 Inv-loop μ-loop
+mul-put-u16 c = omega arith
 
-number-at-requires : tie.Need-number-at-requires Inv-loop μ-loop
-number-at-requires c κs = search needs
+mul-put-u16-2 : tie.Need-mul-put-u16-2 Inv-loop μ-loop
+mul-put-u16-2 c = omega arith
 
-number-requires : tie.Need-number-requires Inv-loop μ-loop
-number-requires c κs = search needs
+shared-slice-read-put-u16 : tie.Need-shared-slice-read-put-u16 Inv-loop μ-loop
+shared-slice-read-put-u16 c = omega arith
+
+put-u16-requires : tie.Need-put-u16-requires Inv-loop μ-loop
+put-u16-requires c κs = omega arith
 
 add-i : tie.Need-add-i Inv-loop μ-loop
-add-i c = search needs
+add-i c = omega arith
 
 loop-less : tie.Need-loop-less Inv-loop μ-loop
-loop-less c = search needs
+loop-less c = omega arith
 
 loop-again : tie.Need-loop-again Inv-loop μ-loop
-loop-again c = search needs
+loop-again c = written-more _ _ _ _ _ _ (c .before .before .before .before .before .before .loop .inv) (c .before .before .before .before .before .loop-test .taken) _ _ _ refl (omega arith) (c .before .before .put-u16 .ensures)
 
 same-length : tie.Need-same-length Inv-loop μ-loop
-same-length c = search needs
+same-length c = c .before .loop .inv .same-length
 
 returns : tie.Need-returns Inv-loop μ-loop
-returns c = search needs
+returns c =
+    let args = c .before .before .before .before .args in
+    written-all _ _ _ _ _ _ (c .before .loop .inv) (c .loop-test .left)
+    ∙ ap (λ (l : List ℕ). putAt (now (args .bytes)) 0 (u16s l)) (tabulate-getD (now (args .list)) 0)
 
 pub put-numbers-spec : {M : Type 1} → statement M
 put-numbers-spec =
@@ -47,9 +58,10 @@ put-numbers-spec =
     Inv-loop
     μ-loop
     loop-holds
-    mul-number
-    number-at-requires
-    number-requires
+    mul-put-u16
+    mul-put-u16-2
+    shared-slice-read-put-u16
+    put-u16-requires
     add-i
     loop-less
     loop-again
