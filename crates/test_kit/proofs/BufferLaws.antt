@@ -1,18 +1,24 @@
 -- What is written to a buffer, and what a test says of one.
 --     number-out, number-in               a number beyond the end, and one that begins before it
+--     sizes-put, message-put, domino-put  the tables that are built
 --     filled-none, filled-more, filled-all    a loop that fills a buffer from the front
+--     each-more, each-all                 a loop of changes
 --     Tested, tested-none .. tested-another   a loop that tests its bytes
 -- Assumes nothing.
-use mathlib.Core.Bool.{true, false, false≢true}
+use mathlib.Core.Bool.{Bool, true, false, false≢true}
 use mathlib.Core.List.{List}
 use mathlib.Core.Path.{_≡_, refl, sym, ap, _∙_, subst, subst⁻¹}
-use Prim.Native.Nat.{ℕ, _+_, _/_, _%_, _≤_, _<_}
+use Prim.Native.Nat.{ℕ, _+_, _*_, _/_, _%_, _≤_, _<_}
 use native.Mathlib.Decide.{ℕ-discrete}
 use native.Mathlib.Nat.{le-antisymm, not-suc-le-zero}
+use native.Mathlib.Numerals.{add-one}
 use native.Mathlib.Omega.{arith}
 use lib.ListN.{length, getD, set, length-set}
 use lib.Seq.{getD-set-other, getD-set-same, set-out}
+use Rattle.run_table.specs.Format.{messagesIn, processesIn}
+use Rattle.run_table.specs.Numbers.{u16At}
 use Rattle.test_kit.specs.Buffers.{AllAre, Filled, withNumber}
+use Rattle.test_kit.specs.Tables.{dominoMessage, each, withDomino, withMessage, withSizes}
 
 -- ---- a number
 module _ (before after : List ℕ) (at value : ℕ) (low : after ≡ set before at (value % 256)) where
@@ -23,6 +29,24 @@ module _ (before after : List ℕ) (at value : ℕ) (low : after ≡ set before 
   pub number-in : (later : List ℕ) → later ≡ set after (at + 1) (value / 256 % 256) → later ≡ withNumber before at value
   unfolding withNumber
   number-in later high = high ∙ ap (λ (b : List ℕ). set b (at + 1) (value / 256 % 256)) low
+
+-- ---- the sizes and the counts; a message; a domino
+pub sizes-put : (b₀ b₁ b₂ b₃ : List ℕ) (n m count : ℕ) → b₁ ≡ withNumber b₀ 0 n → b₂ ≡ withNumber b₁ 2 m
+    → b₃ ≡ each n (λ p b. withNumber b (4 + 2 * p) count) b₂ → b₃ ≡ withSizes b₀ n m count
+unfolding withSizes
+sizes-put b₀ b₁ b₂ b₃ n m count w₁ w₂ w₃ =
+    w₃ ∙ ap (each n (λ p b. withNumber b (4 + 2 * p) count)) (w₂ ∙ ap (λ (b : List ℕ). withNumber b 2 m) w₁)
+
+module _ (b₀ b₁ b₂ b₃ b₄ : List ℕ) (n m k j y i r : ℕ) (read-n : n ≡ u16At b₀ 0) (read-m : m ≡ u16At b₀ 2) where
+  pub message-put : b₁ ≡ withNumber b₀ (4 + 2 * n + 4 * k) j → b₂ ≡ withNumber b₁ (4 + 2 * n + 4 * k + 2) y
+      → b₃ ≡ withNumber b₂ (4 + 2 * n + 4 * m + 4 * k) i → b₄ ≡ withNumber b₃ (4 + 2 * n + 4 * m + 4 * k + 2) r → b₄ ≡ withMessage b₀ k j y i r
+  unfolding withMessage processesIn messagesIn
+  message-put w₁ w₂ w₃ w₄ = rw (← read-n, ← read-m) (simp (w₃, w₂, w₁) at w₄)
+
+pub domino-put : (b₀ b₁ b₂ b₃ : List ℕ) (m : ℕ) (backward : Bool) → b₁ ≡ withSizes b₀ 2 m (m / 2 + 1) → b₂ ≡ withNumber b₁ 6 (m / 2)
+    → b₃ ≡ each m (dominoMessage m backward) b₂ → b₃ ≡ withDomino b₀ m backward
+unfolding withDomino
+domino-put b₀ b₁ b₂ b₃ m backward w₁ w₂ w₃ = w₃ ∙ ap (each m (dominoMessage m backward)) (w₂ ∙ ap (λ (b : List ℕ). withNumber b 6 (m / 2)) w₁)
 
 -- ---- a loop that fills a buffer from the front
 pub filled-none : (f : ℕ → ℕ) (before : List ℕ) → Filled f 0 before before
@@ -43,6 +67,15 @@ module _ (f : ℕ → ℕ) (k : ℕ) (before after : List ℕ) (w : Filled f k b
 
   pub filled-all : (n : ℕ) → k ≤ n → n ≤ k → Filled f n before after
   filled-all n a b = subst (λ (j : ℕ). Filled f j before after) (le-antisymm a b) w
+
+-- ---- a loop of changes
+module _ (change : ℕ → List ℕ → List ℕ) (before after : List ℕ) (k : ℕ) (done : after ≡ each k change before) where
+  pub each-more : (later : List ℕ) → later ≡ change k after → later ≡ each (k + 1) change before
+  unfolding each
+  each-more later next = next ∙ ap (change k) done ∙ ap (λ (j : ℕ). each j change before) (sym (add-one k))
+
+  pub each-all : (n : ℕ) → k ≤ n → n ≤ k → after ≡ each n change before
+  each-all n a b = done ∙ ap (λ (j : ℕ). each j change before) (le-antisymm a b)
 
 -- ---- a loop that tests bytes
 -- Each byte from a place to the loop's has the value.

@@ -8,12 +8,12 @@ use script::line_end;
 use script::size;
 use script::small;
 use script::starts;
-ghost use mathlib.Core.Bool.{cond};
 ghost use mathlib.Core.Path.{_≡_};
 ghost use Prim.Native.Nat.{_+_, _-_, _*_, _<_};
 ghost use lib.ListN.{getD, length, set};
 ghost use Rattle.run_table.specs.Format.{messagesIn, processesIn, tableLength};
 ghost use Rattle.test_kit.specs.Buffers.{AllAre, Filled, withNumber};
+ghost use Rattle.test_kit.specs.Tables.{dominoPlace, each, withDomino, withMessage, withSizes};
 
 // Writes a byte.
 pub fn byte(buffer: &mut [u8], at: usize, value: u8)
@@ -38,7 +38,7 @@ pub fn number(buffer: &mut [u8], at: usize, value: u16)
 
 // Writes N and M, and the counts, all alike. The messages are left as they are.
 pub fn sizes(buffer: &mut [u8], n: u16, m: u16, count: u16)
-    ensures { λ _. ⌜ length (now (buffer .exit)) ≡ length (now (buffer .entry)) ⌝ }
+    ensures { λ _. ⌜ now (buffer .exit) ≡ withSizes (now (buffer .entry)) n m count ⌝ }
 {
     number(buffer, 0, n);
     number(buffer, 2, m);
@@ -58,7 +58,7 @@ pub fn count(buffer: &mut [u8], p: u16, value: u16)
 
 // Writes message k: from checkpoint y of j to checkpoint r of i.
 pub fn message(buffer: &mut [u8], k: u16, j: u16, y: u16, i: u16, r: u16)
-    ensures { λ _. ⌜ length (now (buffer .exit)) ≡ length (now (buffer .entry)) ⌝ }
+    ensures { λ _. ⌜ now (buffer .exit) ≡ withMessage (now (buffer .entry)) k j y i r ⌝ }
 {
     let sends_at = 4 + 2 * (u16_or_zero(buffer, 0) as usize);
     let receipts_at = sends_at + 4 * (u16_or_zero(buffer, 2) as usize);
@@ -71,7 +71,7 @@ pub fn message(buffer: &mut [u8], k: u16, j: u16, y: u16, i: u16, r: u16)
 
 // Writes every message alike.
 pub fn messages(buffer: &mut [u8], m: u16, j: u16, y: u16, i: u16, r: u16)
-    ensures { λ _. ⌜ length (now (buffer .exit)) ≡ length (now (buffer .entry)) ⌝ }
+    ensures { λ _. ⌜ now (buffer .exit) ≡ each m (λ k b. withMessage b k j y i r) (now (buffer .entry)) ⌝ }
 {
     let mut k: u16 = 0;
     while k < m {
@@ -90,7 +90,7 @@ pub fn length_of(buffer: &[u8]) -> usize
 // Writes a domino of two processes and m messages: each one, once its receiver is put back, makes the
 // one before it an orphan. In the order of sending, or in the other one.
 pub fn domino(buffer: &mut [u8], m: u16, backward: bool)
-    ensures { λ _. ⌜ length (now (buffer .exit)) ≡ length (now (buffer .entry)) ⌝ }
+    ensures { λ _. ⌜ now (buffer .exit) ≡ withDomino (now (buffer .entry)) m backward ⌝ }
 {
     sizes(buffer, 2, m, m / 2 + 1);
     count(buffer, 1, m / 2);
@@ -105,7 +105,7 @@ pub fn domino(buffer: &mut [u8], m: u16, backward: bool)
 // Where message k of a domino stands.
 fn domino_place(m: u16, k: u16, backward: bool) -> u16
     requires { ⌜ k < m ⌝ }
-    ensures { λ r. ⌜ r ≡ cond backward (m - 1 - k) k ⌝ }
+    ensures { λ r. ⌜ r ≡ dominoPlace m k backward ⌝ }
 {
     if backward {
         return m - 1 - k;

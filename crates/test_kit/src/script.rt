@@ -15,13 +15,6 @@ pub struct Line {
     pub next: usize,
 }
 
-// The code of a word's first two letters: the 16-bit number that they are.
-fn code_of(first: u8, second: u8) -> u16
-    ensures { λ r. ⌜ r ≡ first + 256 * second ⌝ }
-{
-    (first as u16) + 256 * (second as u16)
-}
-
 // Where the line that starts at a place ends: at its line feed, or at the end of the text.
 pub fn line_end(text: &[u8], at: usize) -> usize
     requires { ⌜ at ≤ length (now text) ⌝ }
@@ -117,9 +110,9 @@ pub fn size(numbers: &[u64; 16], i: usize) -> usize
     numbers[i] as usize
 }
 
-// Whether a word's code is that of two letters.
+// Whether a word's code is that of two letters: the 16-bit number that they are.
 pub fn starts(code: u16, first: u8, second: u8) -> bool
     ensures { λ r. ⌜ r ≡ eqb code (first + 256 * second) ⌝ }
 {
-    code == code_of(first, second)
+    code == (first as u16) + 256 * (second as u16)
 }

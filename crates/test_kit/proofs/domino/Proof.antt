@@ -1,14 +1,17 @@
--- `domino` keeps the length: so does each of its writes.
+-- `domino` meets its contract: the loop writes one message after another.
 -- Assumes nothing.
 use borrow.Author.Needs.{needs}
-use mathlib.Core.Path.{_≡_}
+use mathlib.Core.Path.{_≡_, refl}
 use Prim.Native.Nat.{_-_, _≤_}
+use native.Mathlib.Omega.{arith}
 use lib.ListN.{length}
+use Rattle.test_kit.proofs.BufferLaws.{domino-put, each-all, each-more}
+use Rattle.test_kit.specs.Tables.{dominoMessage, each}
 use Rattle.test_kit.proofs.domino.Statement.{statement}
 use Rattle.test_kit.proofs.domino.Tie as tie
 
 abbrev Inv-loop : tie.InvT-loop
-Inv-loop buffer₀ m backward k₀ buffer k = (k ≤ m) × (length buffer ≡ length buffer₀)
+Inv-loop buffer₀ m backward k₀ buffer k = (k ≤ m) × (length buffer ≡ length buffer₀) × (buffer ≡ each k (dominoMessage m backward) buffer₀)
 
 abbrev μ-loop : tie.MeasureT-loop
 μ-loop buffer₀ m backward k₀ buffer k = m - k
@@ -23,7 +26,8 @@ count-requires : tie.Need-count-requires Inv-loop μ-loop
 count-requires c κs = search needs
 
 loop-holds : tie.Need-loop-holds Inv-loop μ-loop
-loop-holds c = search needs
+unfolding each
+loop-holds c = (omega arith, refl, refl)
 
 domino-place-requires : tie.Need-domino-place-requires Inv-loop μ-loop
 domino-place-requires c κs = search needs
@@ -44,13 +48,17 @@ loop-less : tie.Need-loop-less Inv-loop μ-loop
 loop-less c = search needs
 
 loop-again : tie.Need-loop-again Inv-loop μ-loop
-loop-again c = search needs
+loop-again c =
+    let put = rw (c .before .before .before .before .domino-place .ensures) at (c .before .before .message .ensures) in
+    (omega arith, omega arith, each-more _ _ _ _ (c .before .before .before .before .before .before .loop .inv .2) _ put)
 
 same-length : tie.Need-same-length Inv-loop μ-loop
 same-length c = search needs
 
 returns : tie.Need-returns Inv-loop μ-loop
-returns c = search needs
+returns c =
+    domino-put _ _ _ _ _ _ (c .before .before .before .before .before .before .before .before .sizes .ensures) (c .before .before .before .before .count .ensures)
+    (each-all _ _ _ _ (c .before .loop .inv .2) _ (c .before .loop .inv .0) (c .loop-test .left))
 
 pub domino-spec : {M : Type 1} → statement M
 domino-spec =

@@ -1,20 +1,24 @@
--- `test_kit::messages` keeps the length: so does each of its writes.
+-- `messages` meets its contract: the loop writes one message after another.
 -- Assumes nothing.
 use borrow.Author.Needs.{needs}
-use mathlib.Core.Path.{_≡_}
+use mathlib.Core.Path.{_≡_, refl}
 use Prim.Native.Nat.{_-_, _≤_}
+use native.Mathlib.Omega.{arith}
 use lib.ListN.{length}
+use Rattle.test_kit.proofs.BufferLaws.{each-all, each-more}
+use Rattle.test_kit.specs.Tables.{each, withMessage}
 use Rattle.test_kit.proofs.messages.Statement.{statement}
 use Rattle.test_kit.proofs.messages.Tie as tie
 
 abbrev Inv-loop : tie.InvT-loop
-Inv-loop buffer₀ m j y i r k₀ buffer k = (k ≤ m) × (length buffer ≡ length buffer₀)
+Inv-loop buffer₀ m j y i r k₀ buffer k = (k ≤ m) × (length buffer ≡ length buffer₀) × (buffer ≡ each k (λ k b. withMessage b k j y i r) buffer₀)
 
 abbrev μ-loop : tie.MeasureT-loop
 μ-loop buffer₀ m j y i r k₀ buffer k = m - k
 
 loop-holds : tie.Need-loop-holds Inv-loop μ-loop
-loop-holds c = search needs
+unfolding each
+loop-holds c = (omega arith, refl, refl)
 
 message-requires : tie.Need-message-requires Inv-loop μ-loop
 message-requires c κs = search needs
@@ -26,13 +30,13 @@ loop-less : tie.Need-loop-less Inv-loop μ-loop
 loop-less c = search needs
 
 loop-again : tie.Need-loop-again Inv-loop μ-loop
-loop-again c = search needs
+loop-again c = (omega arith, omega arith, each-more _ _ _ _ (c .before .before .before .before .before .loop .inv .2) _ (c .before .before .message .ensures))
 
 same-length : tie.Need-same-length Inv-loop μ-loop
-same-length c = search needs
+same-length c = c .before .loop .inv .1
 
 returns : tie.Need-returns Inv-loop μ-loop
-returns c = search needs
+returns c = each-all _ _ _ _ (c .before .loop .inv .2) _ (c .before .loop .inv .0) (c .loop-test .left)
 
 pub messages-spec : {M : Type 1} → statement M
 messages-spec =

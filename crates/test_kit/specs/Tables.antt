@@ -1,0 +1,34 @@
+-- The tables that the test programs build, write after write. Assumes nothing.
+use mathlib.Core.Bool.{Bool, cond}
+use mathlib.Core.List.{List}
+use Prim.Native.Nat.{ℕ, zero, suc, _+_, _-_, _*_, _/_, _%_}
+use Rattle.run_table.specs.Format.{messagesIn, processesIn}
+use Rattle.test_kit.specs.Buffers.{withNumber}
+
+-- n changes of a buffer, from change 0 on.
+unfoldable pub each : ℕ → (ℕ → List ℕ → List ℕ) → List ℕ → List ℕ
+each zero change buffer = buffer
+each (suc k) change buffer = change k (each k change buffer)
+
+-- The sizes, and the counts, all alike.
+unfoldable pub withSizes : List ℕ → ℕ → ℕ → ℕ → List ℕ
+withSizes buffer n m count = each n (λ p b. withNumber b (4 + 2 * p) count) (withNumber (withNumber buffer 0 n) 2 m)
+
+-- Message k of the table in the buffer: from checkpoint y of j to checkpoint r of i.
+unfoldable pub withMessage : List ℕ → ℕ → ℕ → ℕ → ℕ → ℕ → List ℕ
+withMessage buffer k j y i r =
+    let sends = 4 + 2 * processesIn buffer in
+    let receipts = sends + 4 * messagesIn buffer in
+    withNumber (withNumber (withNumber (withNumber buffer (sends + 4 * k) j) (sends + 4 * k + 2) y) (receipts + 4 * k) i) (receipts + 4 * k + 2) r
+
+-- Where message k of a domino of m messages stands.
+abbrev pub dominoPlace : ℕ → ℕ → Bool → ℕ
+dominoPlace m k backward = cond backward (m - 1 - k) k
+
+-- Its message k.
+abbrev pub dominoMessage : ℕ → Bool → ℕ → List ℕ → List ℕ
+dominoMessage m backward k buffer = withMessage buffer (dominoPlace m k backward) (k % 2) (k / 2) (1 - k % 2) ((k + 1) / 2)
+
+-- The domino.
+unfoldable pub withDomino : List ℕ → ℕ → Bool → List ℕ
+withDomino buffer m backward = each m (dominoMessage m backward) (withNumber (withSizes buffer 2 m (m / 2 + 1)) 6 (m / 2))
