@@ -5,11 +5,11 @@
 --     column-length, column-more        the numbers of one array of the sheet
 --     laying-.., passing-.., row-..     the loops over states, messages and processes
 --     room-checkpoints .. sheet-put     the whole sheet, part by part
---     put-low                           a number put by its low 16 bits
+--     put-low                           numbers put by their low 16 bits
 -- Assumes nothing.
 use mathlib.Core.Bool.{Bool, cond, true, false}
 use mathlib.Core.List.{List, [], _∷_, _++_, map}
-use mathlib.Core.Path.{_≡_, sym, ap, ap₂, _∙_, subst}
+use mathlib.Core.Path.{_≡_, refl, sym, ap, ap₂, _∙_, subst}
 use Prim.Native.Nat.{ℕ, _+_, _*_, _/_, _%_, _≤_, _<_}
 use native.Mathlib.Nat.{le-antisymm, mul-add-div, mul-add-mod-self-left}
 use native.Mathlib.Omega.{arith}
@@ -198,9 +198,13 @@ low-bits n =
     let high : n / 256 % 256 ≡ r / 256 % 256 = ap (λ (x : ℕ). x % 256) quotient ∙ mul-add-mod-self-left 256 (n / 65536) (r / 256) in
     cc
 
-pub put-low : (before after : List ℕ) (at n next : ℕ) → Put before after at ((n % 65536) ∷ []) next → Put before after at (n ∷ []) next
+low-all : (ns : List ℕ) → u16s (map (λ n. n % 65536) ns) ≡ u16s ns
 unfolding u16s
-put-low before after at n next p = record {
-  contents = p .contents ∙ ap (λ (bytes : List ℕ). putAt before at (bytes ++ [])) (low-bits n);
-  place = p .place;
+low-all [] = refl
+low-all (n ∷ rest) = ap₂ (λ (bytes more : List ℕ). bytes ++ more) (low-bits n) (low-all rest)
+
+pub put-low : (before after : List ℕ) (at : ℕ) (ns : List ℕ) (next : ℕ) → Put before after at (map (λ n. n % 65536) ns) next → Put before after at ns next
+put-low before after at ns next p = record {
+  contents = p .contents ∙ ap (putAt before at) (low-all ns);
+  place = omega (arith, p .place, length-map ns (λ (n : ℕ). n % 65536));
 }

@@ -3,6 +3,7 @@
 pub mod checkpoints;
 pub mod messages;
 pub mod scratch;
+pub mod writer;
 pub mod writing;
 
 use lines::line_of_set;

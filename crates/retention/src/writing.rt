@@ -1,8 +1,11 @@
 // The numbers of a keep sheet, put into a buffer one after another. Each function answers the next
-// place.
+// place. A number goes in by a writer, which `put_number` and `put_pair` make and end: the functions
+// above them have a buffer and a place.
 use crate::checkpoints::next_kept;
 use crate::messages::is_kept;
-use run_table::numbers::put_u16;
+use crate::writer::place;
+use crate::writer::put;
+use crate::writer::writer_at;
 use run_table::numbers::u16_at;
 ghost use mathlib.Core.Bool.{cond, false, true};
 ghost use mathlib.Core.List.{_∷_, [], _++_};
@@ -18,25 +21,24 @@ pub fn put_number(buffer: &mut [u8], at: usize, value: u16) -> usize
     requires { ⌜ at + 1 < length (now buffer) ⌝ }
     ensures { λ r. ⌜ Put (now (buffer .entry)) (now (buffer .exit)) at (value ∷ []) r ⌝ }
 {
-    put_u16(buffer, at, value);
-    at + 2
+    place(put(writer_at(buffer, at), value))
 }
 
-// Puts a size, by its low 16 bits.
-fn put_size(buffer: &mut [u8], at: usize, size: usize) -> usize
-    requires { ⌜ at + 1 < length (now buffer) ⌝ }
-    ensures { λ r. ⌜ Put (now (buffer .entry)) (now (buffer .exit)) at (size ∷ []) r ⌝ }
+// Puts two numbers, by one writer.
+fn put_pair(buffer: &mut [u8], at: usize, first: u16, second: u16) -> usize
+    requires { ⌜ at + 3 < length (now buffer) ⌝ }
+    ensures { λ r. ⌜ Put (now (buffer .entry)) (now (buffer .exit)) at (first ∷ second ∷ []) r ⌝ }
 {
-    put_number(buffer, at, (size % 65536) as u16)
+    let writer = put(writer_at(buffer, at), first);
+    place(put(writer, second))
 }
 
-// Puts K and Q to the front of a buffer.
+// Puts K and Q to the front of a buffer, each by its low 16 bits.
 pub fn put_sizes(buffer: &mut [u8], kept: usize, logged: usize) -> usize
     requires { ⌜ 4 ≤ length (now buffer) ⌝ }
     ensures { λ r. ⌜ Put (now (buffer .entry)) (now (buffer .exit)) 0 (kept ∷ logged ∷ []) r ⌝ }
 {
-    let at = put_size(buffer, 0, kept);
-    put_size(buffer, at, logged)
+    put_pair(buffer, 0, (kept % 65536) as u16, (logged % 65536) as u16)
 }
 
 // The number of a checkpoint in one array of the sheet: its state, or else its process.
