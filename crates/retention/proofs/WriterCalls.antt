@@ -63,20 +63,20 @@ module _ {M : Type 1} (𝓤 : URA M) (H : Heap 𝓤) (A : Atoms 𝓤) (mem : Mem
   abbrev pub Put : Contract 𝓤
   Put = tripleOf 𝓤 H A put.signature (put.spec 𝓤 H A mem run)
 
-  abbrev pub Place′ : Contract 𝓤
-  Place′ = tripleOf 𝓤 H A place.signature (place.spec 𝓤 H A mem run)
+  abbrev pub End : Contract 𝓤
+  End = tripleOf 𝓤 H A place.signature (place.spec 𝓤 H A mem run)
 
   pub record Known (C : Calls 𝓤 H) : Type 2 where
     pub make : Triple 𝓤 (C #writer-at) Make
     pub put : Triple 𝓤 (C #put) Put
-    pub place : Triple 𝓤 (C #place) Place′
+    pub end : Triple 𝓤 (C #place) End
 
 pub known : {M : Type 1} (𝓤 : URA M) (H : Heap 𝓤) (𝓜 : Model 𝓤 H) (𝓖 : GhostRules 𝓤 H) (𝓡 : Running 𝓤 H 𝓜) (env : Routines) → env #writer-at ≡ writer-at-def.routine → env #put ≡ put-def.routine → env #place ≡ place-def.routine
     → Known 𝓤 H (𝓖 .A) (𝓜 .mem) (𝓡 .run) (tables 𝓤 H 𝓜 𝓡 env .C)
-known 𝓤 H 𝓜 𝓖 𝓡 env make put place = record {
+known 𝓤 H 𝓜 𝓖 𝓡 env make put end = record {
   make = cited 𝓤 H (Make 𝓤 H (𝓖 .A) (𝓜 .mem) (𝓡 .run)) 𝓜 𝓡 env #writer-at writer-at-def.routine make (writer-at-thm.met 𝓤 H 𝓜 𝓖 𝓡);
   put = cited 𝓤 H (Put 𝓤 H (𝓖 .A) (𝓜 .mem) (𝓡 .run)) 𝓜 𝓡 env #put put-def.routine put (put-thm.met 𝓤 H 𝓜 𝓖 𝓡);
-  place = cited 𝓤 H (Place′ 𝓤 H (𝓖 .A) (𝓜 .mem) (𝓡 .run)) 𝓜 𝓡 env #place place-def.routine place (place-thm.met 𝓤 H 𝓜 𝓖 𝓡);
+  end = cited 𝓤 H (End 𝓤 H (𝓖 .A) (𝓜 .mem) (𝓡 .run)) 𝓜 𝓡 env #place place-def.routine end (place-thm.met 𝓤 H 𝓜 𝓖 𝓡);
 }
 
 -- a writer's machine value can be stored in a local, whose type has no lifetime
@@ -121,11 +121,11 @@ module _ {M : Type 1} (𝓤 : URA M) (H : Heap 𝓤) (A : Atoms 𝓤) (W : Given
           qed W (token ∷ writer h w ∷ []) ∵ says ! room $ frame ! $
           nothing ! $ owned ! u16 (Is u16) (uint-makes 𝓤 H A W w16) v _ (refl, fits) $ fjoin ! $ move ! (1 ∷ 0 ∷ []) $ fjoin ! $ done !
 
-    abbrev to-place : Place′ 𝓤 H A mem run .Ghost
-    to-place = (((κ, tt), (q, tt), tt, (h, tt), (w ∷ [], tt)), tt)
+    abbrev to-end : End 𝓤 H A mem run .Ghost
+    to-end = (((κ, tt), (q, tt), tt, (h, tt), (w ∷ [], tt)), tt)
 
-    goes-place : ent 𝓤 (⋆ 𝓤 H A (token ∷ writer h w ∷ [])) (Place′ 𝓤 H A mem run .pre to-place)
-    goes-place = qed W (token ∷ writer h w ∷ []) ∵ nothing ! $ move ! (2 ∷ 0 ∷ []) $ fjoin ! $ move ! (1 ∷ 0 ∷ []) $ join ! $ frame ! $ done !
+    goes-end : ent 𝓤 (⋆ 𝓤 H A (token ∷ writer h w ∷ [])) (End 𝓤 H A mem run .pre to-end)
+    goes-end = qed W (token ∷ writer h w ∷ []) ∵ nothing ! $ move ! (2 ∷ 0 ∷ []) $ fjoin ! $ move ! (1 ∷ 0 ∷ []) $ join ! $ frame ! $ done !
 
   module _ {K : Type 0} {Γ : List (Item 𝓤)} {E : Env 𝓤 H} {C : Calls 𝓤 H} {Λ : Loops 𝓤 H} {post : Post 𝓤 H} {d : Place} {rest : Body} where
     -- what a callee hands back is the writer h, if it ensures so
@@ -154,11 +154,11 @@ module _ {M : Type 1} (𝓤 : URA M) (H : Heap 𝓤) (A : Atoms 𝓤) (W : Given
             hands t (written h (v ∷ [])) u (λ r. ensured 𝓤 H A put.ended (put.clauses 𝓤 H A mem run) (κ, tt) (h, (v, tt)) tt r)
             (λ r. exE 𝓤 _ (λ ws. snd∗ 𝓤 (sem 𝓤 H A (lasts put.ended (κ, tt) (h, (v, tt)) ws)) (fact 𝓤 (r ≡ written h (v ∷ []))))) (k u))
 
-        pub ends : Opds K W (raw (Place′ 𝓤 H A mem run .pre (to-place h w)) ∷ Γ) E xs (w ∷ [])
+        pub ends : Opds K W (raw (End 𝓤 H A mem run .pre (to-end h w)) ∷ Γ) E xs (w ∷ [])
             → ((u : Val) → Is usize (h .at) (u ∷ []) → Seq K W (token ∷ ‵ (finally u8 (h .buffer .name) (h .buffer .now)) ∷ ‵ (usize .own (h .at) (u ∷ [])) ∷ Γ) (lands C Λ E d u rest post))
             → Seq K W (token ∷ writer h w ∷ Γ) (runs C Λ E (seq (call #place xs d) rest) post)
         ends args k =
-            use2 W (raw (Place′ 𝓤 H A mem run .pre (to-place h w))) (goes-place h w) $ calls-at t fm (Place′ 𝓤 H A mem run) (known .place) (to-place h w) args (λ u.
+            use2 W (raw (End 𝓤 H A mem run .pre (to-end h w))) (goes-end h w) $ calls-at t fm (End 𝓤 H A mem run) (known .end) (to-end h w) args (λ u.
             use1 W (later (some (λ (r : ℕ). (token ⊛ ‵ (usize .own r (u ∷ []))) ⊛ raw (ensured 𝓤 H A place.ended (place.clauses 𝓤 H A mem run) (κ, tt) (h, tt) tt r)))) (id⊢ 𝓤 _) $ await t tt $ pick t (λ r.
             split t $ move t (1 ∷ []) $ use1 W (some (λ (ys : (List ℕ × Unit {0}) × Unit {0}). ‵ (lasts place.ended (κ, tt) (h, tt) ys) ⊛ raw (fact 𝓤 ((r ≡ h .at) × (ys .0 .0 ≡ h .buffer .now))))) (id⊢ 𝓤 _) $ pick t (λ ys.
             split t $ move t (1 ∷ []) $ heard t ((r ≡ h .at) × (ys .0 .0 ≡ h .buffer .now)) (λ e. fsplit t $ fsplit t $ fsplit t $ move t (1 ∷ []) $ feqL t (λ _.

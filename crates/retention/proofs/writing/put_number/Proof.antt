@@ -35,7 +35,7 @@ use denote.Triple.Walked.{says, needs, Stays, stay-none, gave-slice, walkOf, goe
 use denote.Exit.{yes}
 use denote.Signature.{plain}
 use Rattle.retention.specs.declared.writer.SheetWriter.{SheetWriter}
-use Rattle.retention.specs.Writing as specs
+use Rattle.retention.specs.Writing.{Put}
 use Rattle.retention.specs.Written.{standing, written}
 use Rattle.retention.proofs.WriterCalls.{Known, known, slice, token, makes, puts, ends}
 use Rattle.retention.proofs.WritingLaws.{put-length}
@@ -52,7 +52,7 @@ module _ {M : Type 1} (𝓤 : URA M) (H : Heap 𝓤) (A : Atoms 𝓤) (W : Given
   abbrev h : SheetWriter
   h = written (standing x n) (v ∷ [])
 
-  done-put : specs.Put (x .now) (h .buffer .now) n (v ∷ []) (h .at)
+  done-put : Put (x .now) (h .buffer .now) n (v ∷ []) (h .at)
   done-put = record { contents = refl; place = refl }
 
   abbrev a : RefT (List ℕ) × (ℕ × (ℕ × Unit {0}))

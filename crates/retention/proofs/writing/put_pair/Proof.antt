@@ -35,7 +35,7 @@ use denote.Triple.Walked.{says, needs, Stays, stay-none, gave-slice, walkOf, goe
 use denote.Exit.{yes}
 use denote.Signature.{plain}
 use Rattle.retention.specs.declared.writer.SheetWriter.{SheetWriter}
-use Rattle.retention.specs.Writing as specs
+use Rattle.retention.specs.Writing.{Put}
 use Rattle.retention.specs.Written.{standing, written}
 use Rattle.retention.proofs.WriterCalls.{Known, known, slice, token, makes, puts, ends}
 use Rattle.retention.proofs.WritingLaws.{put-length, put-room, put-then}
@@ -56,7 +56,7 @@ module _ {M : Type 1} (𝓤 : URA M) (H : Heap 𝓤) (A : Atoms 𝓤) (W : Given
   abbrev h₂ : SheetWriter
   h₂ = written h₁ (v ∷ [])
 
-  first : specs.Put (x .now) (h₁ .buffer .now) n (u ∷ []) (h₁ .at)
+  first : Put (x .now) (h₁ .buffer .now) n (u ∷ []) (h₁ .at)
   first = record { contents = refl; place = refl }
 
   room-both : n + 2 * length (u ∷ v ∷ []) ≤ length (x .now)
@@ -65,7 +65,7 @@ module _ {M : Type 1} (𝓤 : URA M) (H : Heap 𝓤) (A : Atoms 𝓤) (W : Given
   room-second : h₁ .at + 1 < length (h₁ .buffer .now)
   room-second = omega (arith, put-room (x .now) (h₁ .buffer .now) n (u ∷ []) (h₁ .at) first (v ∷ []) room-both)
 
-  both : specs.Put (x .now) (h₂ .buffer .now) n (u ∷ v ∷ []) (h₂ .at)
+  both : Put (x .now) (h₂ .buffer .now) n (u ∷ v ∷ []) (h₂ .at)
   both = put-then (x .now) (h₁ .buffer .now) n (u ∷ []) (h₁ .at) first (v ∷ []) room-both (h₂ .buffer .now) (h₂ .at) (record { contents = refl; place = refl })
 
   abbrev a : RefT (List ℕ) × (ℕ × (ℕ × (ℕ × Unit {0})))
