@@ -101,7 +101,7 @@ module _ {M : Type 1} (𝓤 : URA M) (H : Heap 𝓤) (A : Atoms 𝓤) (W : Given
   abbrev writer : SheetWriter → Val → Item 𝓤
   writer h w = ‵ (row κ .own h (w ∷ []))
 
-  -- what each callee's triple binds outside, and that the caller has what it asks
+  -- of each call: its ghost value, and its `pre` from what stands at the head
   module _ (x : RefT (List ℕ)) (n : ℕ) where
     abbrev to-make : Make 𝓤 H A mem run .Ghost
     to-make = (((κ, tt), (q, tt), tt, (x, (n, tt)), (slice x ∷ [], (vint w64 n ∷ [], tt))), tt)

@@ -1,5 +1,6 @@
 -- Numbers put into a buffer, one after another.
---     put-none, put-length              nothing; the buffer's length
+--     put-none, put-written             nothing; what a writer has put
+--     put-length                        the buffer's length
 --     put-room, put-then                more after what was put
 --     Putting, putting-..               a loop that puts one after another
 --     column-length, column-more        the numbers of one array of the sheet
@@ -20,6 +21,8 @@ use Rattle.retention.proofs.ListLaws.{map-append, rows-more, rows-room,
 use Rattle.retention.proofs.ScratchLaws.{Standing, select-first, select-next, stands}
 use Rattle.retention.specs.Scratch.{First, columnAt, statesOf}
 use Rattle.retention.specs.Writing.{Put}
+use Rattle.retention.specs.Written.{written}
+use Rattle.retention.specs.declared.writer.SheetWriter.{SheetWriter}
 use Rattle.run_table.proofs.NumberLaws.{length-putAt, length-u16s, putAt-more, putAt-none, u16s-append}
 use Rattle.run_table.specs.Format.{countAt}
 use Rattle.run_table.specs.Numbers.{putAt, u16At, u16Bytes, u16s}
@@ -27,6 +30,9 @@ use Rattle.run_table.specs.Numbers.{putAt, u16At, u16Bytes, u16s}
 pub put-none : (before : List ℕ) (at : ℕ) → Put before before at [] at
 unfolding u16s
 put-none before at = record { contents = sym (putAt-none before at); place = omega arith }
+
+pub put-written : (w : SheetWriter) (xs : List ℕ) → Put (w .buffer .now) (written w xs .buffer .now) (w .at) xs (written w xs .at)
+put-written w xs = record { contents = refl; place = refl }
 
 module _ (before after : List ℕ) (at : ℕ) (xs : List ℕ) (next : ℕ) (p : Put before after at xs next) where
   pub put-length : at + 2 * length xs ≤ length before → length after ≡ length before

@@ -38,7 +38,7 @@ use Rattle.retention.specs.declared.writer.SheetWriter.{SheetWriter}
 use Rattle.retention.specs.Writing.{Put}
 use Rattle.retention.specs.Written.{standing, written}
 use Rattle.retention.proofs.WriterCalls.{Known, known, slice, token, makes, puts, ends}
-use Rattle.retention.proofs.WritingLaws.{put-length}
+use Rattle.retention.proofs.WritingLaws.{put-length, put-written}
 use Rattle.retention.proofs.writing.put_number.Key.{name as #put-number}
 use Rattle.retention.proofs.writing.put_number as put-number
 use Rattle.retention.proofs.writing.put_number.Statement as stated
@@ -53,7 +53,7 @@ module _ {M : Type 1} (𝓤 : URA M) (H : Heap 𝓤) (A : Atoms 𝓤) (W : Given
   h = written (standing x n) (v ∷ [])
 
   done-put : Put (x .now) (h .buffer .now) n (v ∷ []) (h .at)
-  done-put = record { contents = refl; place = refl }
+  done-put = put-written (standing x n) (v ∷ [])
 
   abbrev a : RefT (List ℕ) × (ℕ × (ℕ × Unit {0}))
   a = (x, (n, (v, tt)))

@@ -38,7 +38,7 @@ use Rattle.retention.specs.declared.writer.SheetWriter.{SheetWriter}
 use Rattle.retention.specs.Writing.{Put}
 use Rattle.retention.specs.Written.{standing, written}
 use Rattle.retention.proofs.WriterCalls.{Known, known, slice, token, makes, puts, ends}
-use Rattle.retention.proofs.WritingLaws.{put-length, put-room, put-then}
+use Rattle.retention.proofs.WritingLaws.{put-length, put-room, put-then, put-written}
 use Rattle.retention.proofs.writing.put_pair.Key.{name as #put-pair}
 use Rattle.retention.proofs.writing.put_pair as put-pair
 use Rattle.retention.proofs.writing.put_pair.Statement as stated
@@ -57,7 +57,7 @@ module _ {M : Type 1} (𝓤 : URA M) (H : Heap 𝓤) (A : Atoms 𝓤) (W : Given
   h₂ = written h₁ (v ∷ [])
 
   first : Put (x .now) (h₁ .buffer .now) n (u ∷ []) (h₁ .at)
-  first = record { contents = refl; place = refl }
+  first = put-written (standing x n) (u ∷ [])
 
   room-both : n + 2 * length (u ∷ v ∷ []) ≤ length (x .now)
   room-both = omega (arith, fits)
@@ -66,7 +66,7 @@ module _ {M : Type 1} (𝓤 : URA M) (H : Heap 𝓤) (A : Atoms 𝓤) (W : Given
   room-second = omega (arith, put-room (x .now) (h₁ .buffer .now) n (u ∷ []) (h₁ .at) first (v ∷ []) room-both)
 
   both : Put (x .now) (h₂ .buffer .now) n (u ∷ v ∷ []) (h₂ .at)
-  both = put-then (x .now) (h₁ .buffer .now) n (u ∷ []) (h₁ .at) first (v ∷ []) room-both (h₂ .buffer .now) (h₂ .at) (record { contents = refl; place = refl })
+  both = put-then (x .now) (h₁ .buffer .now) n (u ∷ []) (h₁ .at) first (v ∷ []) room-both (h₂ .buffer .now) (h₂ .at) (put-written h₁ (v ∷ []))
 
   abbrev a : RefT (List ℕ) × (ℕ × (ℕ × (ℕ × Unit {0})))
   a = (x, (n, (u, (v, tt))))
