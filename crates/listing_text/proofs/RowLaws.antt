@@ -4,21 +4,16 @@
 --     Summed, summed-..      the loop over the counts
 -- Assumes nothing.
 use mathlib.Core.List.{List, [], _∷_, _++_}
-use mathlib.Core.Path.{_≡_, refl, sym, ap, ap₂, _∙_, subst}
-use Prim.Native.Nat.{ℕ, zero, suc, _+_, _*_, _-_, _≤_, _<_}
+use mathlib.Core.Path.{_≡_, refl, ap, ap₂, _∙_}
+use Prim.Native.Nat.{ℕ, _+_, _*_, _-_, _≤_, _<_}
 use native.Mathlib.Nat.{le-antisymm}
 use native.Mathlib.Omega.{arith}
-use lib.ListN.{length, take, drop, getD}
+use lib.ListN.{take, drop}
 use Rattle.consistency.specs.Lowering.{sum}
-use Rattle.futures.specs.Sheet.{Kept}
-use Rattle.listing_text.specs.Listing.{checkpointRow, holdRow, messageRow}
+use Rattle.listing_text.specs.Listing.{checkpointRow}
 use Rattle.listing_text.specs.Rows.{checkpointAt, lineAt}
 use Rattle.retention.proofs.ScratchLaws.{cell-below}
-use Rattle.run_table.proofs.AcceptLaws.{accepted}
 use Rattle.run_table.proofs.NumberLaws.{tabulate-getD, tabulate-more}
-use Rattle.run_table.proofs.ReadLaws.{processes-few}
-use Rattle.run_table.specs.Checks.{tableRefusal}
-use Rattle.run_table.specs.Format.{decode}
 use Rattle.run_table.specs.Numbers.{tabulate, u16At}
 use Rattle.run_table.specs.Table.{Table, countOf, processCount}
 

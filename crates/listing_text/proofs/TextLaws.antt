@@ -7,7 +7,7 @@
 --     each-rows, letters              the texts of a list's entries, by their places
 --     field-parts, row-parts, ..      a field and a row, part by part
 -- Assumes nothing.
-use mathlib.Core.Bool.{Bool, cond, true, false}
+use mathlib.Core.Bool.{Bool, true, false}
 use mathlib.Core.List.{List, [], _∷_, _++_, append-assoc, append-nil}
 use mathlib.Core.Path.{_≡_, refl, sym, ap, ap₂, _∙_, subst}
 use Prim.Native.Nat.{ℕ, zero, suc, _+_, _*_, _/_, _%_, _≤_, _<_}
@@ -18,7 +18,7 @@ use lib.Dec.{ltb}
 use lib.ListN.{length, drop, getD, set, length-append}
 use Rattle.futures.specs.Sheet.{rows}
 use Rattle.listing_text.specs.Text.{Laid, decimal, digits, each, field, overlay, row}
-use Rattle.retention.proofs.ListLaws.{rows-ext, rows-more, rows-room}
+use Rattle.retention.proofs.ListLaws.{rows-more, rows-room}
 
 overlay-length : (b : List ℕ) (at : ℕ) (xs : List ℕ) → length (overlay b at xs) ≡ length b
 unfolding overlay

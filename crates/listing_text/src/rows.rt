@@ -9,7 +9,7 @@ ghost use Prim.Native.Nat.{_+_, _*_, _≤_, _<_};
 ghost use lib.ListN.{length};
 ghost use Rattle.listing_text.specs.Listing.{checkpointRow, holdRow, lineRow};
 ghost use Rattle.listing_text.specs.Rows.{checkpointRows, holdRows, messageRows};
-ghost use Rattle.listing_text.specs.Text.{Laid, each, field, row};
+ghost use Rattle.listing_text.specs.Text.{Laid, each, row};
 
 // Puts a row of one number.
 pub fn put_row(text: &mut [u8], at: usize, word: &[u8], n: u32) -> usize

@@ -4,12 +4,11 @@ use Prim.Native.Nat.{_+_, _<_}
 use Rattle.listing_text.proofs.ListingLaws.{Reading, holds-needs, kept-is, line-room, line-taken, listing-parts, sheet-long, sheet-needs}
 use Rattle.listing_text.proofs.SizeLaws.{listing-few}
 use Rattle.listing_text.proofs.TextLaws.{both-laid, first-room, parts, rest-room}
-use Rattle.listing_text.specs.Listing.{listing, share, shareRow}
+use Rattle.listing_text.specs.Listing.{listing, shareRow}
 use Rattle.listing_text.specs.Rows.{checkpointRows, holdRows, messageRows}
 use Rattle.run_table.specs.Format.{decode}
 use denote.Ref.{now}
 use lib.ListN.{length}
-use mathlib.Core.List.{_++_}
 use mathlib.Core.Path.{refl}
 use native.Mathlib.Omega.{arith}
 use borrow.Author.Needs.{needs}

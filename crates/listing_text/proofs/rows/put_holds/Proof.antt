@@ -5,7 +5,6 @@ use Rattle.listing_text.proofs.RowLaws.{line-in, line-part}
 use Rattle.listing_text.proofs.TextLaws.{Laying, laying-all, laying-length, laying-more, laying-none, laying-room}
 use Rattle.listing_text.specs.Listing.{holdRow}
 use Rattle.listing_text.specs.Rows.{holdRows, lineAt}
-use Rattle.retention.proofs.ScratchLaws.{cell-below}
 use mathlib.Core.Path.{ap, refl}
 use native.Mathlib.Omega.{arith}
 use Rattle.listing_text.proofs.rows.put_holds.Statement.{statement}

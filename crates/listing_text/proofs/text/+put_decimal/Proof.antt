@@ -1,7 +1,7 @@
 -- `text::put_decimal` meets its contract: the number falls at each call.
 -- Assumes nothing.
 use Rattle.listing_text.proofs.TextLaws.{digit-room, laid-digit, laid-digits, laid-length, tenth-room}
-use mathlib.Core.Path.{_∙_, subst}
+use mathlib.Core.Path.{_∙_}
 use native.Mathlib.Omega.{arith}
 use Prim.Native.Nat.{ℕ, _<_}
 use borrow.Fn.Kinds.{In}
