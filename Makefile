@@ -19,7 +19,7 @@ list: program
 	@target/bin/listing <'$(TABLE)'
 
 program: need-rt
-	@test -x target/bin/listing || echo "proving and building the listing program: some four minutes the first time" >&2
+	@test -x target/bin/listing || echo "proving and building the listing program: some three minutes the first time" >&2
 	@{ rt check listing 2>&1; echo "status $$?"; } | awk ' \
 	    /^status [0-9]+$$/ { if ($$2) { for (i = 1; i <= n; i++) print line[i] >"/dev/stderr" } exit $$2 } \
 	    { line[++n] = $$0 } \
