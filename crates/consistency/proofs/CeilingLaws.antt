@@ -8,9 +8,8 @@
 --     line-of-members               the line of a non-empty set is the minimum of its members' lines
 -- Assumes nothing.
 use mathlib.Core.Bool.{Bool, true, false, cond, _&&_, and-true, and-false}
-use mathlib.Core.List.{List}
 use mathlib.Core.Logic.{_⊎_, inl, inr, ⊎-elim}
-use mathlib.Core.Path.{_≡_, refl, sym, ap, _∙_, subst, subst⁻¹}
+use mathlib.Core.Path.{_≡_, refl, sym, ap, _∙_, subst⁻¹}
 use Prim.Native.Nat.{ℕ, zero, suc, _-_, _≤_, _<_, min}
 use native.Mathlib.Decide.{decLe, decLt, ℕ-discrete}
 use native.Mathlib.Nat.{le-refl, le-trans}
@@ -18,16 +17,15 @@ use native.Mathlib.Omega.{arith}
 use borrow.Author.Tests.{eq-eqb, ne-eqb, lt-ltb, le-ltb}
 use lib.Dec.{eqb, ltb}
 use lib.ListN.{length, getD, List·getD-eq-default}
-use lib.Seq.{ext-getD}
 use Rattle.consistency.proofs.LineLaws.{latest-min, latest-same, latest-unique}
 use Rattle.consistency.proofs.LoweringLaws.{line-is, line-latest, line-length}
-use Rattle.consistency.specs.Ceilings.{Holders, ceilingOf, lineOf, recoveryLine, single, smallest}
-use Rattle.consistency.specs.Lines.{AtOrBelow, Consistent, Latest, Line, Orphan, at}
+use Rattle.consistency.specs.Ceilings.{Holders, ceilingOf, lineOf, single, smallest}
+use Rattle.consistency.specs.Lines.{AtOrBelow, Consistent, Latest, Line, at}
 use Rattle.run_table.proofs.FormatLaws.{count-beyond, message-beyond}
 use Rattle.run_table.proofs.NumberLaws.{getD-tabulate, length-tabulate}
 use Rattle.run_table.specs.Checks.{WellFormed}
 use Rattle.run_table.specs.Numbers.{tabulate}
-use Rattle.run_table.specs.Table.{Message, Table, countOf, messageCount, messageOf, noMessage, processCount}
+use Rattle.run_table.specs.Table.{Message, Table, countOf, messageCount, messageOf, processCount}
 
 -- without a checkpoint, a process stands at 0 either way
 pub all-zero : (b : Bool) (c : ℕ) → c ≡ 0 → cond b (c - 1) c ≡ 0

@@ -25,9 +25,9 @@ use Rattle.consistency.specs.Ceilings.{recoveryLine}
 use Rattle.consistency.specs.Lines.{AtOrBelow, at}
 use Rattle.futures.proofs.StepLaws.{checkpoint-grows, checkpoint-known, checkpoint-message, checkpoint-messages, checkpoint-waiting, putBack-receiver, putBack-sender, putBack-sent, receivedAt-listed, receivedAt-unlisted, rollback-count, rollback-message, rollback-order, rollback-place, send-count, send-message-new, send-message-old, send-messages, step-cases, step-well-formed}
 use Rattle.futures.specs.Futures.{FollowedTo, Future, NeedsCheckpoint, NeedsMessage, Place, StepKeeps, StillThere, at-position, endOf, gone, moved, placeOf}
-use Rattle.futures.specs.Steps.{Step, afterCheckpoint, afterRollback, afterSend, checkpoint, checkpointChecks, putBack, receivedAt, remaining, rollback, send, sendChecks, stays, step, unlessCaught}
+use Rattle.futures.specs.Steps.{Step, afterCheckpoint, afterRollback, afterSend, checkpoint, checkpointChecks, putBack, receivedAt, remaining, rollback, send, sendChecks, stays, step}
 use Rattle.run_table.proofs.FormatLaws.{count-beyond, message-beyond}
-use Rattle.run_table.specs.Checks.{Check, WellFormed, firstCaught}
+use Rattle.run_table.specs.Checks.{WellFormed, firstCaught}
 use Rattle.run_table.specs.Numbers.{any}
 use Rattle.run_table.specs.Table.{Message, Table, countOf, messageCount, messageOf, processCount}
 

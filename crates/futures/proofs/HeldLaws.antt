@@ -7,7 +7,7 @@
 --     held-above          every held line is at or above every consistent line of checkpoints
 -- Assumes nothing.
 use mathlib.Core.Bool.{Bool, true, false, cond}
-use mathlib.Core.Path.{_≡_, refl, sym, ap, _∙_, subst, subst⁻¹}
+use mathlib.Core.Path.{_≡_, refl, sym, _∙_, subst, subst⁻¹}
 use Prim.Native.Nat.{ℕ, _-_, _≤_, _<_, max, min}
 use native.Mathlib.Decide.{decLt, ℕ-discrete}
 use native.Mathlib.Nat.{le-refl}

@@ -1,7 +1,7 @@
 -- Futures and what they need (document 01, "The keep sheet"). A future is a finite list of steps; each takes what the one before it
 -- left, and nobody else changes the table in between. It is told of the recovery line and of the steps, and of nothing else.
 -- Assumes nothing.
-use mathlib.Core.Bool.{Bool, cond}
+use mathlib.Core.Bool.{cond}
 use mathlib.Core.List.{List, [], _∷_}
 use mathlib.Core.Logic.{_⊎_}
 use mathlib.Core.Path.{_≡_}
@@ -10,7 +10,7 @@ use lib.ListN.{length, take}
 use Rattle.consistency.specs.Ceilings.{recoveryLine}
 use Rattle.consistency.specs.Lines.{at}
 use Rattle.futures.specs.Steps.{Step, checkpoint, remaining, rollback, send, stays, step}
-use Rattle.run_table.specs.Table.{Message, Table, countOf, messageCount, messageOf}
+use Rattle.run_table.specs.Table.{Table, countOf, messageCount, messageOf}
 
 -- A future: any finite list of steps, the empty one included.
 abbrev pub Future : Type 0

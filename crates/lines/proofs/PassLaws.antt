@@ -13,7 +13,7 @@ use native.Mathlib.Nat.{le-refl}
 use native.Mathlib.Omega.{arith}
 use lib.ListN.{length, getD, set, length-set, List·getD-eq-default}
 use Rattle.consistency.proofs.LoweringLaws.{line-consistent, line-put-back, put-back-falls}
-use Rattle.consistency.specs.Lines.{Consistent, Line, Orphan, at}
+use Rattle.consistency.specs.Lines.{Consistent, Orphan, at}
 use Rattle.consistency.specs.Lowering.{lineUnder, sum}
 use Rattle.lines.specs.Arrays.{messagesOf}
 use Rattle.run_table.proofs.CodingLaws.{message-path}

@@ -6,13 +6,13 @@
 -- Assumes nothing.
 use mathlib.Core.List.{List, [], _∷_, _++_, append-nil}
 use mathlib.Core.Path.{_≡_, refl, sym, ap, _∙_, subst, subst⁻¹}
-use Prim.Native.Nat.{ℕ, zero, suc, _+_, _*_, _/_, _%_, _<_, _≤_}
+use Prim.Native.Nat.{ℕ, zero, suc, _+_, _*_, _/_, _%_, _<_}
 use native.Mathlib.Nat.{le-of-suc-le-suc, not-suc-le-zero}
 use native.Mathlib.Omega.{arith}
 use lib.ListN.{length, getD, length-append, List·getD-append}
 use lib.Seq.{ext-getD, getD-append-add}
 use Rattle.run_table.proofs.FormatLaws.{count-place, count-some, decode-messages, decode-processes, length-entries, message-some, receipt-place, send-place}
-use Rattle.run_table.proofs.NumberLaws.{length-tabulate, tabulate-append, tabulate-ext, u16At-drop, u16At-u16s}
+use Rattle.run_table.proofs.NumberLaws.{tabulate-append, tabulate-ext, u16At-drop, u16At-u16s}
 use Rattle.run_table.specs.Format.{checkpointAt, countAt, countsPart, decode, encode, entriesOf, messageAt, messagesIn, processAt, processesIn, receiptsOf, receiptsPart, sendsOf, sendsPart, tableLength}
 use Rattle.run_table.specs.Numbers.{tabulate, u16At, u16Bytes, u16s}
 use Rattle.run_table.specs.Table.{Message, Table, countOf, messageCount, messageOf, noMessage, processCount}

@@ -14,12 +14,12 @@
 use mathlib.Core.Bool.{Bool, true, false, _&&_, _||_, or-true, true≢false, false≢true}
 use mathlib.Core.List.{List, [], _∷_, _++_, append-assoc}
 use mathlib.Core.Logic.{⊎-elim}
-use mathlib.Core.Path.{_≡_, refl, sym, ap, _∙_, subst}
+use mathlib.Core.Path.{_≡_, refl, sym, ap, _∙_}
 use Prim.Native.Nat.{ℕ, zero, suc, _+_, _*_, _/_, _%_, _<_, _≤_, zero-le, suc-le-suc}
 use native.Mathlib.Nat.{add-zero, zero-add, suc-add, le-of-suc-le-suc, not-suc-le-zero, eq-or-lt-of-le}
 use native.Mathlib.Numerals.{add-one}
 use native.Mathlib.Omega.{arith}
-use lib.ListN.{length, getD, take, drop, set, length-append, length-drop, length-set, length-take, take-append-drop, List·getD-eq-default}
+use lib.ListN.{length, getD, take, drop, set, length-append, length-drop, length-take, take-append-drop, List·getD-eq-default}
 use lib.Seq.{drop-append-add, drop-drop, getD-take, getD-drop, length-take-le, sets-eq, take-at}
 use Rattle.run_table.specs.Numbers.{any, putAt, tabulate, u16At, u16Bytes, u16s}
 use Rattle.run_table.specs.Parts.{anyBelow}

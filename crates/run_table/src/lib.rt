@@ -9,7 +9,7 @@ use lookups::Field;
 ghost use mathlib.Core.Path.{_≡_};
 ghost use Rattle.run_table.specs.Checks.{tableRefusal};
 ghost use Rattle.run_table.specs.Format.{decode};
-ghost use Rattle.run_table.specs.Table.{Message, countOf, messageCount, messageOf, processCount};
+ghost use Rattle.run_table.specs.Table.{countOf, messageCount, messageOf, processCount};
 
 // The refusal of a table: the number of the first of the checks 1 to 9 that catches, or 0.
 #[no_mangle]

@@ -3,7 +3,7 @@
 use borrow.Author.Needs.{needs}
 use native.Mathlib.Omega.{arith}
 use mathlib.Core.Bool.{true}
-use mathlib.Core.List.{List, []}
+use mathlib.Core.List.{List}
 use mathlib.Core.Path.{_≡_, refl, sym, ap, _∙_}
 use Prim.Native.Nat.{ℕ, _*_}
 use denote.Ref.{now}
@@ -18,7 +18,6 @@ use Rattle.run_table.proofs.ReadLaws.{processes-few}
 use Rattle.run_table.specs.Checks.{tableRefusal}
 use Rattle.run_table.specs.Format.{decode}
 use Rattle.run_table.specs.Numbers.{putAt, u16s}
-use Rattle.run_table.specs.Table.{processCount}
 use Rattle.keeper.proofs.keeper_recovery_line.Statement.{statement}
 use Rattle.keeper.proofs.keeper_recovery_line.Tie as tie
 

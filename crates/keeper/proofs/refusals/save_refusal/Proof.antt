@@ -4,13 +4,13 @@ use borrow.Author.Needs.{needs}
 use native.Mathlib.Omega.{arith}
 use mathlib.Core.List.{List}
 use mathlib.Core.Path.{_≡_, sym, ap, _∙_}
-use Prim.Native.Nat.{ℕ, _<_}
+use Prim.Native.Nat.{ℕ}
 use denote.Ref.{now}
 use lib.ListN.{length}
 use Rattle.keeper.proofs.StepLaws.{list-bad, position-bad, process-unknown, save-answers, states-full}
 use Rattle.run_table.proofs.ReadLaws.{count-is, counts-size}
 use Rattle.run_table.specs.Format.{countAt, decode}
-use Rattle.run_table.specs.Table.{countOf, processCount}
+use Rattle.run_table.specs.Table.{countOf}
 use Rattle.keeper.proofs.refusals.save_refusal.Statement.{statement}
 use Rattle.keeper.proofs.refusals.save_refusal.Tie as tie
 

@@ -3,7 +3,6 @@
 use native.Mathlib.Omega.{arith}
 use mathlib.Core.Path.{subst⁻¹}
 use Prim.Native.Nat.{ℕ, _-_, _<_}
-use denote.Ref.{now}
 use Rattle.lines.proofs.ArrayLaws.{height-read, height-beyond}
 use Rattle.lines.proofs.FillLaws.{Filled, filled-none, filled-more, filled-all}
 use Rattle.lines.specs.Arrays.{heightAt}

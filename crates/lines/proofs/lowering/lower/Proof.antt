@@ -4,8 +4,8 @@
 use borrow.Author.Needs.{needs}
 use native.Mathlib.Omega.{arith}
 use mathlib.Core.List.{List}
-use mathlib.Core.Path.{_≡_, refl, sym, _∙_, subst⁻¹}
-use Prim.Native.Nat.{ℕ, _-_, _≤_, _<_}
+use mathlib.Core.Path.{_≡_, refl, _∙_, subst⁻¹}
+use Prim.Native.Nat.{ℕ, _-_, _<_}
 use borrow.Author.Tests.{not-false, not-true}
 use lib.ListN.{getD}
 use denote.Ref.{now}

@@ -1,6 +1,6 @@
 use borrow.Author.Needs.{needs}
 use native.Mathlib.Omega.{arith}
-use mathlib.Core.Path.{sym, _∙_}
+use mathlib.Core.Path.{sym}
 use denote.Ref.{now}
 use Rattle.run_table.proofs.NumberLaws.{u16At-beyond, u16At-last}
 use Rattle.run_table.proofs.numbers.u16_or_zero.Statement.{statement}

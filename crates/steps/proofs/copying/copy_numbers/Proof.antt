@@ -2,7 +2,6 @@
 -- Assumes nothing.
 use native.Mathlib.Omega.{arith}
 use Prim.Native.Nat.{_-_, _*_}
-use denote.Ref.{now}
 use Rattle.run_table.proofs.WriteLaws.{Written, written-none, written-more, written-all}
 use Rattle.run_table.specs.Numbers.{u16At}
 use Rattle.steps.proofs.copying.copy_numbers.Statement.{statement}

@@ -3,7 +3,7 @@
 use borrow.Author.Needs.{needs}
 use native.Mathlib.Omega.{arith}
 use mathlib.Core.Path.{ap}
-use Prim.Native.Nat.{ℕ, _-_, _<_}
+use Prim.Native.Nat.{_-_}
 use lib.ListN.{length}
 use Rattle.run_table.proofs.ReadLaws.{messages-few, receipts-size}
 use Rattle.steps.proofs.SavingLaws.{Positions, positions-none, positions-more, positions-all, position-bad, bad-beyond, bad-receiver, bad-received, good-here}
