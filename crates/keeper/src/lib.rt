@@ -199,7 +199,7 @@ pub extern "C" fn keeper_keep_sheet(
     if answer.len() < size {
         return 16;
     }
-    put_sheet(table, scratch, answer);
+    put_sheet(table, scratch, kept, logged, answer);
     *written = size;
     0
 }

@@ -56,17 +56,17 @@ pub fn count_messages(table: &[u8], scratch: &[u16]) -> usize
     messages::count_kept(scratch, n, parts::sends(table), parts::receipts(table), m)
 }
 
-// Writes the keep sheet to the front of a buffer that has room for it.
-pub fn put_sheet(table: &[u8], scratch: &[u16], answer: &mut [u8])
+// Writes the keep sheet, given K and Q, to the front of a buffer that has room for it.
+pub fn put_sheet(table: &[u8], scratch: &[u16], kept: usize, logged: usize, answer: &mut [u8])
     requires { ⌜ tableRefusal (now table) ≡ 0 ⌝ }
     requires { ⌜ take (processCount (decode (now table)) * processCount (decode (now table))) (now scratch) ≡ holderLines (decode (now table)) ⌝ }
+    requires { ⌜ kept ≡ length (keptCheckpoints (decode (now table))) ⌝ }
+    requires { ⌜ logged ≡ length (keptMessages (decode (now table))) ⌝ }
     requires { ⌜ 4 + 4 * length (keptCheckpoints (decode (now table))) + 2 * length (keptMessages (decode (now table))) ≤ length (now answer) ⌝ }
     ensures { λ _. ⌜ now (answer .exit) ≡ putAt (now (answer .entry)) 0 (sheet (decode (now (table .entry)))) ⌝ }
 {
     let n = parts::process_count(table);
     let m = parts::message_count(table);
-    let kept = count_checkpoints(table, scratch);
-    let logged = count_messages(table, scratch);
     let after_sizes = writing::put_sizes(answer, kept, logged);
     let after_checkpoints = writing::put_checkpoints(
         answer,

@@ -92,7 +92,7 @@ returns-3 c =
     )
 
 put-sheet-requires : tie.Need-put-sheet-requires
-put-sheet-requires c κs = (accepted (c .before .before .before .before .before .before .before .before .before .before .before .before .before), (lines-stand (decode (now (c .before .before .before .before .before .before .before .before .before .before .before .before .before .before .before .before .before .before .args .table))) _ _ (long (c .before .before .before .before .before .before .before .before .before .before .before)) (c .before .before .before .before .before .before .before .before .before .fill-lines .ensures), omega (arith, c .before .before .if3 .left, c .before .before .before .count-messages .ensures, c .before .before .before .before .before .count-checkpoints .ensures)))
+put-sheet-requires c κs = (accepted (c .before .before .before .before .before .before .before .before .before .before .before .before .before), (lines-stand (decode (now (c .before .before .before .before .before .before .before .before .before .before .before .before .before .before .before .before .before .before .args .table))) _ _ (long (c .before .before .before .before .before .before .before .before .before .before .before)) (c .before .before .before .before .before .before .before .before .before .fill-lines .ensures), (c .before .before .before .before .before .count-checkpoints .ensures, (c .before .before .before .count-messages .ensures, omega (arith, c .before .before .if3 .left, c .before .before .before .count-messages .ensures, c .before .before .before .before .before .count-checkpoints .ensures)))))
 
 same-length-2 : tie.Need-same-length-2
 same-length-2 c = search needs
