@@ -1,0 +1,509 @@
+//! The keeper's calls in safe Rust, over the proved static library
+//! `libkeeper.a`.
+//!
+//! A run table is bytes; an answer is written to the front of a buffer that
+//! the caller lends, and a call answers `Ok` with the length written or `Err`
+//! with a [`Refusal`]. On a refusal nothing lent is changed, with one
+//! exception: under [`Refusal::AnswerTooShort`] the scratch of
+//! [`keep_sheet`] holds the lines. Bytes and numbers beyond an answer are
+//! never changed. No call allocates, keeps what it was lent, or panics.
+//!
+//! What is lent to one call may not overlap. Rust's borrow rules see to that
+//! here, so no call is unsafe.
+//!
+//! The doc tests below use example A: two processes with three checkpoints
+//! each and five messages.
+//!
+//! ```
+//! /// Numbers as a table has them: 16 bits, low byte first.
+//! fn bytes(numbers: &[u16]) -> Vec<u8> {
+//!     numbers.iter().flat_map(|number| number.to_le_bytes()).collect()
+//! }
+//! let example_a = bytes(&[
+//!     2, 5, // N and M
+//!     3, 3, // the counts
+//!     0, 0, 1, 0, 1, 1, 0, 2, 1, 2, // the sends: process, number
+//!     1, 2, 0, 1, 0, 2, 1, 2, 0, 0, // the receipts: process, number; 0: waiting
+//! ]);
+//! assert_eq!(keeper::check_table(&example_a), Ok(()));
+//! ```
+
+use std::error::Error;
+use std::fmt;
+
+/// N is at most this.
+pub const MOST_PROCESSES: usize = 32;
+
+/// M is at most this.
+pub const MOST_MESSAGES: usize = 4_096;
+
+/// A process has at most this many checkpoints.
+pub const MOST_CHECKPOINTS: usize = 4_096;
+
+/// The bytes of the largest table: enough for the answer of every step.
+pub const LARGEST_TABLE: usize = 4 + 2 * MOST_PROCESSES + 8 * MOST_MESSAGES;
+
+/// The bytes of the largest line: enough for the answer of
+/// [`recovery_line`] and [`line_of_set`].
+pub const LARGEST_LINE: usize = 2 * MOST_PROCESSES;
+
+/// The numbers of scratch that are enough for [`keep_sheet`] on every table:
+/// N × N for N = 32.
+pub const SCRATCH_NUMBERS: usize = MOST_PROCESSES * MOST_PROCESSES;
+
+/// The bytes that are enough for every keep sheet, by the proof that at most
+/// N × N checkpoints are kept: 12,292.
+pub const SHEET_ROOM: usize = 4 + 4 * SCRATCH_NUMBERS + 2 * MOST_MESSAGES;
+
+/// No keep sheet is longer than this: 10,308 bytes, for 528 checkpoints and
+/// 4,096 messages.
+///
+/// Of the lines of two single holders p and q, one has the other's process at
+/// its new state or the two lines are the same, so each pair of processes adds
+/// at most one checkpoint to the N of the holders themselves: at most
+/// N × (N + 1) / 2 are kept. This is an argument on paper; what is proved is
+/// [`SHEET_ROOM`].
+pub const LARGEST_SHEET: usize =
+    4 + 4 * (MOST_PROCESSES * (MOST_PROCESSES + 1) / 2) + 2 * MOST_MESSAGES;
+
+/// Why a call wrote no answer: the first check that caught, in the order of
+/// the numbers. A check covers the whole table, or the whole list, before the
+/// next begins.
+#[derive(Clone, Copy, Debug, PartialEq, Eq, Hash, PartialOrd, Ord)]
+pub enum Refusal {
+    /// 1: the table has fewer than 4 bytes.
+    TableTooShort,
+    /// 2: N is 0 or above 32.
+    ProcessesOutOfRange,
+    /// 3: M is above 4,096.
+    TooManyMessages,
+    /// 4: the length of the table differs from 4 + 2N + 8M.
+    WrongLength,
+    /// 5: a count is 0 or above 4,096.
+    CountOutOfRange,
+    /// 6: a sender or receiver is N or above.
+    UnknownProcessInMessage,
+    /// 7: a message has the same sender and receiver.
+    MessageToItsSender,
+    /// 8: a send number is not below the sender's count.
+    SendNumberTooHigh,
+    /// 9: a receipt number is not below the receiver's count.
+    ReceiptNumberTooHigh,
+    /// 10: a process named in a send or save is N or above.
+    UnknownProcess,
+    /// 11: a send names one process twice.
+    SendToItself,
+    /// 12: a set has a bit at N or above.
+    UnknownProcessInSet,
+    /// 13: a save's list has a position of M or above, or one not above the
+    /// one before it, or one of a message not waiting for that process.
+    BadList,
+    /// 14: a send meets M = 4,096, or a save meets a count of 4,096.
+    TableFull,
+    /// 15: the scratch is shorter than N × N numbers.
+    ScratchTooShort,
+    /// 16: the answer buffer is shorter than the answer.
+    AnswerTooShort,
+}
+
+impl Refusal {
+    /// All refusals, in checking order.
+    pub const ALL: [Refusal; 16] = [
+        Refusal::TableTooShort,
+        Refusal::ProcessesOutOfRange,
+        Refusal::TooManyMessages,
+        Refusal::WrongLength,
+        Refusal::CountOutOfRange,
+        Refusal::UnknownProcessInMessage,
+        Refusal::MessageToItsSender,
+        Refusal::SendNumberTooHigh,
+        Refusal::ReceiptNumberTooHigh,
+        Refusal::UnknownProcess,
+        Refusal::SendToItself,
+        Refusal::UnknownProcessInSet,
+        Refusal::BadList,
+        Refusal::TableFull,
+        Refusal::ScratchTooShort,
+        Refusal::AnswerTooShort,
+    ];
+
+    /// The number of the refusal, 1 to 16.
+    ///
+    /// ```
+    /// assert_eq!(keeper::Refusal::TableTooShort.number(), 1);
+    /// assert_eq!(keeper::Refusal::AnswerTooShort.number(), 16);
+    /// ```
+    pub fn number(self) -> u32 {
+        self as u32 + 1
+    }
+
+    /// The refusal of a number, where there is one.
+    ///
+    /// ```
+    /// use keeper::Refusal;
+    /// assert_eq!(Refusal::from_number(4), Some(Refusal::WrongLength));
+    /// assert_eq!(Refusal::from_number(0), None);
+    /// assert_eq!(Refusal::from_number(17), None);
+    /// ```
+    pub fn from_number(number: u32) -> Option<Refusal> {
+        let place = usize::try_from(number).ok()?.checked_sub(1)?;
+        Refusal::ALL.get(place).copied()
+    }
+}
+
+impl fmt::Display for Refusal {
+    fn fmt(&self, to: &mut fmt::Formatter<'_>) -> fmt::Result {
+        let check = match self {
+            Refusal::TableTooShort => "the table has fewer than 4 bytes",
+            Refusal::ProcessesOutOfRange => "N is 0 or above 32",
+            Refusal::TooManyMessages => "M is above 4,096",
+            Refusal::WrongLength => "the length differs from 4 + 2N + 8M",
+            Refusal::CountOutOfRange => "a count is 0 or above 4,096",
+            Refusal::UnknownProcessInMessage => "a sender or receiver is N or above",
+            Refusal::MessageToItsSender => "a message has the same sender and receiver",
+            Refusal::SendNumberTooHigh => "a send number is not below the sender's count",
+            Refusal::ReceiptNumberTooHigh => "a receipt number is not below the receiver's count",
+            Refusal::UnknownProcess => "a process named in a send or save is N or above",
+            Refusal::SendToItself => "a send names one process twice",
+            Refusal::UnknownProcessInSet => "a set has a bit at N or above",
+            Refusal::BadList => {
+                "a save's list has a position of M or above, or not above the one before it, \
+                 or of a message not waiting for that process"
+            }
+            Refusal::TableFull => "a send meets M = 4,096, or a save meets a count of 4,096",
+            Refusal::ScratchTooShort => "the scratch is shorter than N × N numbers",
+            Refusal::AnswerTooShort => "the answer buffer is shorter than the answer",
+        };
+        write!(to, "refused {}: {check}", self.number())
+    }
+}
+
+impl Error for Refusal {}
+
+/// The calls as the archive has them: a slice is a pointer and a length.
+mod archive {
+    extern "C" {
+        pub fn keeper_check_table(table: *const u8, length: usize) -> u32;
+        pub fn keeper_recovery_line(
+            table: *const u8,
+            length: usize,
+            answer: *mut u8,
+            room: usize,
+            written: *mut usize,
+        ) -> u32;
+        pub fn keeper_line_of_set(
+            table: *const u8,
+            length: usize,
+            set: u32,
+            answer: *mut u8,
+            room: usize,
+            written: *mut usize,
+        ) -> u32;
+        pub fn keeper_send(
+            table: *const u8,
+            length: usize,
+            from: u16,
+            to: u16,
+            answer: *mut u8,
+            room: usize,
+            written: *mut usize,
+        ) -> u32;
+        pub fn keeper_save(
+            table: *const u8,
+            length: usize,
+            process: u16,
+            list: *const u16,
+            entries: usize,
+            answer: *mut u8,
+            room: usize,
+            written: *mut usize,
+        ) -> u32;
+        pub fn keeper_fall_back(
+            table: *const u8,
+            length: usize,
+            answer: *mut u8,
+            room: usize,
+            written: *mut usize,
+        ) -> u32;
+        pub fn keeper_keep_sheet(
+            table: *const u8,
+            length: usize,
+            scratch: *mut u16,
+            numbers: usize,
+            answer: *mut u8,
+            room: usize,
+            written: *mut usize,
+        ) -> u32;
+    }
+}
+
+/// What a returned number and a length written say.
+fn outcome(number: u32, written: usize) -> Result<usize, Refusal> {
+    match Refusal::from_number(number) {
+        None if number == 0 => Ok(written),
+        None => unreachable!("the library answers 0 to 16, and it answered {number}"),
+        Some(refusal) => Err(refusal),
+    }
+}
+
+// Each call below is sound for one reason: the archive's functions are proved
+// to read and write nothing but what they are lent, for slices of any length
+// and any contents, as long as no two of them overlap. A shared and a mutable
+// borrow, or two mutable ones, never overlap.
+
+/// Checks 1 to 9 over the table: `Ok` when all calls accept it.
+///
+/// ```
+/// # let example_a: Vec<u8> = [2u16, 5, 3, 3, 0, 0, 1, 0, 1, 1, 0, 2, 1, 2, 1, 2, 0, 1, 0, 2, 1, 2, 0, 0]
+/// #     .iter().flat_map(|number| number.to_le_bytes()).collect();
+/// use keeper::{check_table, Refusal};
+/// assert_eq!(check_table(&example_a), Ok(()));
+/// assert_eq!(check_table(&example_a[..3]), Err(Refusal::TableTooShort));
+/// assert_eq!(check_table(&example_a[..47]), Err(Refusal::WrongLength));
+/// ```
+pub fn check_table(table: &[u8]) -> Result<(), Refusal> {
+    // SAFETY: see above.
+    let number = unsafe { archive::keeper_check_table(table.as_ptr(), table.len()) };
+    outcome(number, 0).map(|_| ())
+}
+
+/// The recovery line of the run: the latest consistent line in which every
+/// process stands at a checkpoint that it has. The answer is N numbers of 16
+/// bits by process, low byte first: 2N bytes, [`LARGEST_LINE`] at most.
+///
+/// Refusals 1 to 9 and 16.
+///
+/// ```
+/// # let example_a: Vec<u8> = [2u16, 5, 3, 3, 0, 0, 1, 0, 1, 1, 0, 2, 1, 2, 1, 2, 0, 1, 0, 2, 1, 2, 0, 0]
+/// #     .iter().flat_map(|number| number.to_le_bytes()).collect();
+/// let mut line = [0; keeper::LARGEST_LINE];
+/// let written = keeper::recovery_line(&example_a, &mut line)?;
+/// assert_eq!(line[..written], [1, 0, 1, 0]);
+/// # Ok::<(), keeper::Refusal>(())
+/// ```
+pub fn recovery_line(table: &[u8], answer: &mut [u8]) -> Result<usize, Refusal> {
+    let mut written = 0;
+    // SAFETY: see above `check_table`.
+    let number = unsafe {
+        archive::keeper_recovery_line(
+            table.as_ptr(),
+            table.len(),
+            answer.as_mut_ptr(),
+            answer.len(),
+            &mut written,
+        )
+    };
+    outcome(number, written)
+}
+
+/// The line of a set of processes that hold, in which process p is bit p: the
+/// latest consistent line in which a holding process stands at one of its
+/// checkpoints, and any other may also stand at its new state, numbered as its
+/// count. The answer has the form of [`recovery_line`]'s.
+///
+/// Refusals 1 to 9, 12 and 16.
+///
+/// ```
+/// # let example_a: Vec<u8> = [2u16, 5, 3, 3, 0, 0, 1, 0, 1, 1, 0, 2, 1, 2, 1, 2, 0, 1, 0, 2, 1, 2, 0, 0]
+/// #     .iter().flat_map(|number| number.to_le_bytes()).collect();
+/// use keeper::{line_of_set, Refusal};
+/// let mut line = [0; keeper::LARGEST_LINE];
+/// // Process 0 holds; process 1 holds; nobody holds.
+/// assert_eq!(line_of_set(&example_a, 0b01, &mut line), Ok(4));
+/// assert_eq!(line[..4], [1, 0, 1, 0]);
+/// assert_eq!(line_of_set(&example_a, 0b10, &mut line), Ok(4));
+/// assert_eq!(line[..4], [3, 0, 2, 0]);
+/// assert_eq!(line_of_set(&example_a, 0, &mut line), Ok(4));
+/// assert_eq!(line[..4], [3, 0, 3, 0]);
+/// // There is no process 2.
+/// assert_eq!(line_of_set(&example_a, 0b100, &mut line), Err(Refusal::UnknownProcessInSet));
+/// ```
+pub fn line_of_set(table: &[u8], set: u32, answer: &mut [u8]) -> Result<usize, Refusal> {
+    let mut written = 0;
+    // SAFETY: see above `check_table`.
+    let number = unsafe {
+        archive::keeper_line_of_set(
+            table.as_ptr(),
+            table.len(),
+            set,
+            answer.as_mut_ptr(),
+            answer.len(),
+            &mut written,
+        )
+    };
+    outcome(number, written)
+}
+
+/// The table after a send: a message from the latest checkpoint of `from`,
+/// waiting for `to`, is added at the end. The answer is a table, 8 bytes
+/// longer than the one given.
+///
+/// Refusals 1 to 9, 10, 11, 14 and 16.
+///
+/// ```
+/// # let example_a: Vec<u8> = [2u16, 5, 3, 3, 0, 0, 1, 0, 1, 1, 0, 2, 1, 2, 1, 2, 0, 1, 0, 2, 1, 2, 0, 0]
+/// #     .iter().flat_map(|number| number.to_le_bytes()).collect();
+/// use keeper::{send, Refusal};
+/// let mut next = vec![0; keeper::LARGEST_TABLE];
+/// assert_eq!(send(&example_a, 0, 1, &mut next), Ok(56));
+/// assert_eq!(next[..4], [2, 0, 6, 0]);
+/// assert_eq!(next[28..32], [0, 0, 2, 0]); // sent by process 0 after its checkpoint 2
+/// assert_eq!(next[52..56], [1, 0, 0, 0]); // waiting for process 1
+/// assert_eq!(send(&example_a, 0, 2, &mut next), Err(Refusal::UnknownProcess));
+/// assert_eq!(send(&example_a, 1, 1, &mut next), Err(Refusal::SendToItself));
+/// ```
+pub fn send(table: &[u8], from: u16, to: u16, answer: &mut [u8]) -> Result<usize, Refusal> {
+    let mut written = 0;
+    // SAFETY: see above `check_table`.
+    let number = unsafe {
+        archive::keeper_send(
+            table.as_ptr(),
+            table.len(),
+            from,
+            to,
+            answer.as_mut_ptr(),
+            answer.len(),
+            &mut written,
+        )
+    };
+    outcome(number, written)
+}
+
+/// The table after a checkpoint (save) of `process`, which first receives the
+/// waiting messages at the positions of `list`, strictly rising; it may be
+/// empty. Their receipt number becomes the old count of the process, and the
+/// count grows by one. The answer is a table as long as the one given.
+///
+/// Refusals 1 to 9, 10, 13, 14 and 16.
+///
+/// ```
+/// # let example_a: Vec<u8> = [2u16, 5, 3, 3, 0, 0, 1, 0, 1, 1, 0, 2, 1, 2, 1, 2, 0, 1, 0, 2, 1, 2, 0, 0]
+/// #     .iter().flat_map(|number| number.to_le_bytes()).collect();
+/// use keeper::{save, Refusal};
+/// let mut next = vec![0; keeper::LARGEST_TABLE];
+/// // Message 4 waits for process 0.
+/// assert_eq!(save(&example_a, 0, &[4], &mut next), Ok(48));
+/// assert_eq!(next[4..8], [4, 0, 3, 0]); // the counts
+/// assert_eq!(next[44..48], [0, 0, 3, 0]); // its receipt
+/// assert_eq!(save(&example_a, 1, &[4], &mut next), Err(Refusal::BadList));
+/// ```
+pub fn save(table: &[u8], process: u16, list: &[u16], answer: &mut [u8]) -> Result<usize, Refusal> {
+    let mut written = 0;
+    // SAFETY: see above `check_table`.
+    let number = unsafe {
+        archive::keeper_save(
+            table.as_ptr(),
+            table.len(),
+            process,
+            list.as_ptr(),
+            list.len(),
+            answer.as_mut_ptr(),
+            answer.len(),
+            &mut written,
+        )
+    };
+    outcome(number, written)
+}
+
+/// The table after the whole run has fallen back to its recovery line L: each
+/// count becomes L + 1, a message not sent before the line is removed, and of
+/// the others one received after the line waits again. Order is kept. The
+/// answer is a table, no longer than the one given.
+///
+/// Refusals 1 to 9 and 16; a buffer shorter than the table is enough where the
+/// answer is.
+///
+/// ```
+/// # let example_a: Vec<u8> = [2u16, 5, 3, 3, 0, 0, 1, 0, 1, 1, 0, 2, 1, 2, 1, 2, 0, 1, 0, 2, 1, 2, 0, 0]
+/// #     .iter().flat_map(|number| number.to_le_bytes()).collect();
+/// let mut next = vec![0; keeper::LARGEST_TABLE];
+/// let written = keeper::fall_back(&example_a, &mut next)?;
+/// let after: Vec<u8> = [2u16, 2, 2, 2, 0, 0, 1, 0, 1, 0, 0, 1]
+///     .iter().flat_map(|number| number.to_le_bytes()).collect();
+/// assert_eq!(next[..written], after);
+/// # Ok::<(), keeper::Refusal>(())
+/// ```
+pub fn fall_back(table: &[u8], answer: &mut [u8]) -> Result<usize, Refusal> {
+    let mut written = 0;
+    // SAFETY: see above `check_table`.
+    let number = unsafe {
+        archive::keeper_fall_back(
+            table.as_ptr(),
+            table.len(),
+            answer.as_mut_ptr(),
+            answer.len(),
+            &mut written,
+        )
+    };
+    outcome(number, written)
+}
+
+/// The keep sheet: exactly the checkpoints and messages that some future of
+/// the run needs. In 16-bit numbers, low byte first: K and Q; K processes; K
+/// checkpoint numbers, by process and then number; Q positions of messages,
+/// rising. It has 4 + 4K + 2Q bytes; [`SHEET_ROOM`] bytes are always enough.
+///
+/// The first N × N numbers of the scratch hold the lines of single holders
+/// afterwards, N numbers each, the line of process 0 first;
+/// [`SCRATCH_NUMBERS`] are always enough. Under
+/// [`Refusal::AnswerTooShort`] the scratch holds the lines too.
+///
+/// Refusals 1 to 9, 15 and 16.
+///
+/// ```
+/// # let example_a: Vec<u8> = [2u16, 5, 3, 3, 0, 0, 1, 0, 1, 1, 0, 2, 1, 2, 1, 2, 0, 1, 0, 2, 1, 2, 0, 0]
+/// #     .iter().flat_map(|number| number.to_le_bytes()).collect();
+/// use keeper::{keep_sheet, Refusal};
+/// let mut scratch = [0; keeper::SCRATCH_NUMBERS];
+/// let mut sheet = [0; keeper::SHEET_ROOM];
+/// assert_eq!(keep_sheet(&example_a, &mut scratch, &mut sheet), Ok(20));
+/// assert_eq!(sheet[..20], [
+///     3, 0, 2, 0, // three checkpoints and two messages
+///     0, 0, 1, 0, 1, 0, // of processes 0, 1 and 1
+///     1, 0, 1, 0, 2, 0, // numbered 1, 1 and 2
+///     0, 0, 4, 0, // messages 0 and 4
+/// ]);
+/// assert_eq!(scratch[..4], [1, 1, 3, 2]);
+/// assert_eq!(keep_sheet(&example_a, &mut scratch[..3], &mut sheet), Err(Refusal::ScratchTooShort));
+/// assert_eq!(keep_sheet(&example_a, &mut scratch, &mut sheet[..19]), Err(Refusal::AnswerTooShort));
+/// ```
+pub fn keep_sheet(table: &[u8], scratch: &mut [u16], answer: &mut [u8]) -> Result<usize, Refusal> {
+    let mut written = 0;
+    // SAFETY: see above `check_table`.
+    let number = unsafe {
+        archive::keeper_keep_sheet(
+            table.as_ptr(),
+            table.len(),
+            scratch.as_mut_ptr(),
+            scratch.len(),
+            answer.as_mut_ptr(),
+            answer.len(),
+            &mut written,
+        )
+    };
+    outcome(number, written)
+}
+
+#[cfg(test)]
+mod tests {
+    use super::*;
+
+    #[test]
+    fn numbers_of_the_refusals() {
+        for (place, refusal) in Refusal::ALL.into_iter().enumerate() {
+            assert_eq!(refusal.number(), place as u32 + 1);
+            assert_eq!(Refusal::from_number(refusal.number()), Some(refusal));
+            assert!(refusal
+                .to_string()
+                .starts_with(&format!("refused {}: ", place + 1)));
+        }
+    }
+
+    #[test]
+    fn sizes() {
+        assert_eq!(LARGEST_TABLE, 32_836);
+        assert_eq!(SCRATCH_NUMBERS, 1_024);
+        assert_eq!(SHEET_ROOM, 12_292);
+        assert_eq!(LARGEST_SHEET, 10_308);
+    }
+}
