@@ -1,0 +1,236 @@
+//! `calls [CALLS] [SEED]` compares at least CALLS calls of the library with
+//! the second implementation, on tables that depend on SEED alone, and stops
+//! at the first difference.
+
+use std::env;
+use std::process::ExitCode;
+use std::time::Instant;
+
+use differential::compare::{Call, Comparison, Difference};
+use differential::make;
+use reference::gen::{self, Order, Rng};
+use reference::{Outcome, Table};
+
+const CALLS: u64 = 250_000;
+const SEED: u64 = 20_260_101;
+
+/// What a call would write into an endless buffer, then with room for it and
+/// with one byte less. The archive's outcome in the exact buffer.
+fn exact_and_short(
+    comparison: &mut Comparison,
+    rng: &mut Rng,
+    made_by: &str,
+    table: &[u8],
+    call: &Call,
+) -> Result<Outcome, Box<Difference>> {
+    let expected = call.with_room(usize::MAX).expected(table);
+    let length = expected.answer.len();
+    if expected.number == 0 && length > 0 {
+        let mut short = Outcome::refused(16);
+        short.lines.clone_from(&expected.lines);
+        let call = call.with_room(length - 1);
+        comparison.call_expecting(rng, made_by, table, &call, short)?;
+    }
+    comparison.call_expecting(rng, made_by, table, &call.with_room(length), expected)
+}
+
+/// Tables at the limits, each with few calls: they are slow.
+fn limits(comparison: &mut Comparison, seed: u64) -> Result<(), Box<Difference>> {
+    let rng = &mut Rng::new(seed);
+    let mut tables = gen::limit_tables(rng);
+    tables.push(make::fullest_sheet());
+    // Long dominoes in every order, of two processes and of more.
+    for order in Order::ALL {
+        tables.push(gen::domino_chain(rng, 1_500, order));
+        tables.push(gen::ring_domino(rng, 7, 1_000, order));
+    }
+    for (number, table) in tables.iter().enumerate() {
+        let made_by = format!("limits, seed {seed}, table {number}");
+        let bytes = table.to_bytes();
+        let n = table.processes();
+        let room = usize::MAX;
+        let waiting = table.waiting_for(1).into_iter().map(|k| k as u16);
+        let calls = [
+            Call::CheckTable,
+            Call::RecoveryLine { room },
+            Call::LineOfSet { set: 0b101, room },
+            Call::LineOfSet {
+                set: make::set(rng, n),
+                room,
+            },
+            Call::Send {
+                from: 0,
+                to: 1,
+                room,
+            },
+            Call::Save {
+                process: 1,
+                list: waiting.collect(),
+                room,
+            },
+            Call::FallBack { room },
+            Call::KeepSheet {
+                numbers: n * n,
+                room,
+            },
+        ];
+        for call in &calls {
+            exact_and_short(comparison, rng, &made_by, &bytes, call)?;
+        }
+        let indices = [0, 31, 32, 4_095, 4_096, usize::MAX];
+        comparison.lookups(rng, &made_by, &bytes, &indices)?;
+        // One count more than there may be, and one message more.
+        let mut over = table.clone();
+        over.counts[n - 1] = 4_097;
+        comparison.call(rng, &made_by, &over.to_bytes(), &Call::CheckTable)?;
+        let mut over = table.clone();
+        over.messages.resize(4_097, over.messages[0]);
+        comparison.call(rng, &made_by, &over.to_bytes(), &Call::CheckTable)?;
+    }
+    Ok(())
+}
+
+/// Every proper front part of some tables, with every call.
+fn truncations(comparison: &mut Comparison, seed: u64) -> Result<(), Box<Difference>> {
+    let rng = &mut Rng::new(seed);
+    for number in 0..12 {
+        let (n, m) = (rng.between(1, 5), rng.between(0, 8));
+        let whole = gen::arbitrary(rng, n, m, 4).to_bytes();
+        for bytes in gen::truncations(&whole) {
+            let made_by = format!("truncations, seed {seed}, table {number}");
+            make::battery(comparison, rng, &made_by, &bytes, true)?;
+        }
+    }
+    Ok(())
+}
+
+/// Every damage from 1 to 9 and every pair of damages from 2 to 9.
+fn damages(comparison: &mut Comparison, seed: u64) -> Result<(), Box<Difference>> {
+    let rng = &mut Rng::new(seed);
+    for first in 1..=9 {
+        for second in first..=9 {
+            if first == 1 && second != 1 {
+                continue;
+            }
+            for round in 0..4 {
+                let (n, m) = (rng.between(2, 6), rng.between(1, 8));
+                let whole = gen::arbitrary(rng, n, m, 5).to_bytes();
+                let pair = if first == second {
+                    vec![first]
+                } else {
+                    vec![first, second]
+                };
+                let Some(bytes) = gen::damage_many(rng, &whole, &pair) else {
+                    continue;
+                };
+                let made_by = format!("damages {pair:?}, seed {seed}, round {round}");
+                make::battery(comparison, rng, &made_by, &bytes, true)?;
+            }
+        }
+    }
+    Ok(())
+}
+
+/// A chain of steps in which each starts from the bytes that the library
+/// wrote. Lines and sheets now and then. How many steps were made.
+fn chain(comparison: &mut Comparison, seed: u64, steps: usize) -> Result<(), Box<Difference>> {
+    let rng = &mut Rng::new(seed);
+    let mut bytes = if rng.chance(2, 3) {
+        let n = rng.between(1, 8);
+        Table::start(n).to_bytes()
+    } else {
+        make::some_accepted(rng).to_bytes()
+    };
+    for number in 0..steps {
+        let made_by = format!("chain, seed {seed}, step {number}");
+        let table = Table::read(&bytes).expect("the library writes accepted tables");
+        let n = table.processes();
+        let call = make::step(rng, &table);
+        let outcome = exact_and_short(comparison, rng, &made_by, &bytes, &call)?;
+        if outcome.number == 0 {
+            bytes = outcome.answer;
+        }
+        if number % 8 == 0 {
+            let room = usize::MAX;
+            let set = make::set(rng, n);
+            let numbers = n * n + rng.between(0, 3);
+            for call in [
+                Call::RecoveryLine { room },
+                Call::LineOfSet { set, room },
+                Call::KeepSheet { numbers, room },
+            ] {
+                exact_and_short(comparison, rng, &made_by, &bytes, &call)?;
+            }
+        }
+    }
+    Ok(())
+}
+
+fn run(comparison: &mut Comparison, calls: u64, seed: u64) -> Result<(), Box<Difference>> {
+    let start = Instant::now();
+    let mut done = 0;
+    let mut part = |comparison: &Comparison, what: &str| {
+        let total = comparison.total();
+        println!(
+            "{what}: {} calls, {:.1} s so far",
+            total - done,
+            start.elapsed().as_secs_f64()
+        );
+        done = total;
+    };
+    limits(comparison, seed)?;
+    part(comparison, "limits and long dominoes");
+    truncations(comparison, seed + 1)?;
+    part(comparison, "every truncation");
+    damages(comparison, seed + 2)?;
+    part(comparison, "damages and pairs of damages");
+    for number in 0..40 {
+        chain(comparison, seed + 1_000 + number, 250)?;
+    }
+    part(
+        comparison,
+        "40 chains of 250 steps over the library's own answers",
+    );
+    let mut round = 0;
+    while comparison.total() < calls {
+        let rng = &mut Rng::new(seed.wrapping_mul(0x1_0000_0001).wrapping_add(round));
+        let (kind, bytes) = make::table(rng);
+        let made_by = format!("round {round} of seed {seed}, a table of the kind '{kind}'");
+        make::battery(comparison, rng, &made_by, &bytes, bytes.len() > 8_000)?;
+        round += 1;
+    }
+    part(comparison, &format!("{round} tables by chance"));
+    Ok(())
+}
+
+fn main() -> ExitCode {
+    let mut arguments = env::args().skip(1).map(|word| word.parse::<u64>());
+    let (calls, seed) = match (arguments.next(), arguments.next(), arguments.next()) {
+        (None, _, _) => (CALLS, SEED),
+        (Some(Ok(calls)), None, _) => (calls, SEED),
+        (Some(Ok(calls)), Some(Ok(seed)), None) => (calls, seed),
+        _ => {
+            eprintln!("usage: calls [CALLS] [SEED]");
+            return ExitCode::from(2);
+        }
+    };
+    println!("comparing at least {calls} calls, seed {seed}");
+    let mut comparison = Comparison::default();
+    if let Err(difference) = run(&mut comparison, calls, seed) {
+        println!("{difference}");
+        println!("FAILED after {} calls that agree", comparison.total());
+        return ExitCode::FAILURE;
+    }
+    print!("calls by the number returned:\n{}", comparison.report());
+    let missing = comparison.not_met();
+    if !missing.is_empty() {
+        println!("FAILED: no call met {}", missing.join(", "));
+        return ExitCode::FAILURE;
+    }
+    println!(
+        "{} calls and {} lookups agree; every call met each of its refusals",
+        comparison.total(),
+        comparison.lookups
+    );
+    ExitCode::SUCCESS
+}

@@ -1,0 +1,503 @@
+//! One call, made by the archive, by the binding and by the second
+//! implementation, and everything that may differ: the returned number, the
+//! length written, every byte of the answer buffer and of its guards, every
+//! number of the scratch and of its guards, and what may only be read.
+
+use std::collections::BTreeMap;
+use std::fmt;
+
+use reference::gen::Rng;
+use reference::Outcome;
+
+use crate::archive;
+use crate::lend::{Element, Lent};
+use crate::show;
+
+/// A call and its arguments, apart from the table. `room` is the length of the
+/// answer buffer, `numbers` that of the scratch.
+#[derive(Clone, Debug, PartialEq, Eq)]
+pub enum Call {
+    CheckTable,
+    RecoveryLine {
+        room: usize,
+    },
+    LineOfSet {
+        set: u32,
+        room: usize,
+    },
+    Send {
+        from: u16,
+        to: u16,
+        room: usize,
+    },
+    Save {
+        process: u16,
+        list: Vec<u16>,
+        room: usize,
+    },
+    FallBack {
+        room: usize,
+    },
+    KeepSheet {
+        numbers: usize,
+        room: usize,
+    },
+}
+
+/// The names of the calls, in the order of the report.
+pub const NAMES: [&str; 7] = [
+    "check_table",
+    "recovery_line",
+    "line_of_set",
+    "send",
+    "save",
+    "fall_back",
+    "keep_sheet",
+];
+
+/// The checks of each call from 10 on; 1 to 9 are checks of every call.
+pub const LATER_CHECKS: [&[u32]; 7] = [
+    &[],
+    &[16],
+    &[12, 16],
+    &[10, 11, 14, 16],
+    &[10, 13, 14, 16],
+    &[16],
+    &[15, 16],
+];
+
+impl Call {
+    /// The place of the call in [`NAMES`].
+    pub fn place(&self) -> usize {
+        match self {
+            Call::CheckTable => 0,
+            Call::RecoveryLine { .. } => 1,
+            Call::LineOfSet { .. } => 2,
+            Call::Send { .. } => 3,
+            Call::Save { .. } => 4,
+            Call::FallBack { .. } => 5,
+            Call::KeepSheet { .. } => 6,
+        }
+    }
+
+    /// The length of the answer buffer.
+    fn room(&self) -> usize {
+        match *self {
+            Call::CheckTable => 0,
+            Call::RecoveryLine { room }
+            | Call::LineOfSet { room, .. }
+            | Call::Send { room, .. }
+            | Call::Save { room, .. }
+            | Call::FallBack { room }
+            | Call::KeepSheet { room, .. } => room,
+        }
+    }
+
+    /// The same call with another answer buffer.
+    pub fn with_room(&self, new: usize) -> Call {
+        let mut call = self.clone();
+        match &mut call {
+            Call::CheckTable => {}
+            Call::RecoveryLine { room }
+            | Call::LineOfSet { room, .. }
+            | Call::Send { room, .. }
+            | Call::Save { room, .. }
+            | Call::FallBack { room }
+            | Call::KeepSheet { room, .. } => *room = new,
+        }
+        call
+    }
+
+    /// The length of the scratch.
+    fn numbers(&self) -> usize {
+        match *self {
+            Call::KeepSheet { numbers, .. } => numbers,
+            _ => 0,
+        }
+    }
+
+    /// A save's list.
+    fn list(&self) -> &[u16] {
+        match self {
+            Call::Save { list, .. } => list,
+            _ => &[],
+        }
+    }
+
+    /// What the second implementation answers.
+    pub fn expected(&self, table: &[u8]) -> Outcome {
+        match self {
+            Call::CheckTable => Outcome::refused(reference::check_table(table)),
+            Call::RecoveryLine { room } => reference::recovery_line(table, *room),
+            Call::LineOfSet { set, room } => reference::line_of_set(table, *set, *room),
+            Call::Send { from, to, room } => reference::send(table, *from, *to, *room),
+            Call::Save {
+                process,
+                list,
+                room,
+            } => reference::save(table, *process, list, *room),
+            Call::FallBack { room } => reference::fall_back(table, *room),
+            Call::KeepSheet { numbers, room } => reference::keep_sheet(table, *numbers, *room),
+        }
+    }
+
+    /// What the archive answers; writes into what it is lent.
+    fn by_archive(&self, lent: &mut Loan) -> u32 {
+        let table = lent.table.slice();
+        let (bytes, length) = (table.as_ptr(), table.len());
+        let list = lent.list.slice();
+        let (entries, of_entries) = (list.as_ptr(), list.len());
+        let scratch = lent.scratch.slice_mut();
+        let (numbers, of_numbers) = (scratch.as_mut_ptr(), scratch.len());
+        let answer = lent.answer.slice_mut();
+        let (answer, room) = (answer.as_mut_ptr(), answer.len());
+        let written = lent.written.slice_mut().as_mut_ptr();
+        // SAFETY: each pointer and length is a slice of a buffer of its own.
+        unsafe {
+            match *self {
+                Call::CheckTable => archive::keeper_check_table(bytes, length),
+                Call::RecoveryLine { .. } => {
+                    archive::keeper_recovery_line(bytes, length, answer, room, written)
+                }
+                Call::LineOfSet { set, .. } => {
+                    archive::keeper_line_of_set(bytes, length, set, answer, room, written)
+                }
+                Call::Send { from, to, .. } => {
+                    archive::keeper_send(bytes, length, from, to, answer, room, written)
+                }
+                Call::Save { process, .. } => archive::keeper_save(
+                    bytes, length, process, entries, of_entries, answer, room, written,
+                ),
+                Call::FallBack { .. } => {
+                    archive::keeper_fall_back(bytes, length, answer, room, written)
+                }
+                Call::KeepSheet { .. } => archive::keeper_keep_sheet(
+                    bytes, length, numbers, of_numbers, answer, room, written,
+                ),
+            }
+        }
+    }
+
+    /// What the binding answers, brought into the archive's form.
+    fn by_binding(&self, lent: &mut Loan) -> u32 {
+        let table = lent.table.slice();
+        let answer = lent.answer.slice_mut();
+        let result = match *self {
+            Call::CheckTable => {
+                return match keeper::check_table(table) {
+                    Ok(()) => 0,
+                    Err(refusal) => refusal.number(),
+                }
+            }
+            Call::RecoveryLine { .. } => keeper::recovery_line(table, answer),
+            Call::LineOfSet { set, .. } => keeper::line_of_set(table, set, answer),
+            Call::Send { from, to, .. } => keeper::send(table, from, to, answer),
+            Call::Save { process, .. } => keeper::save(table, process, lent.list.slice(), answer),
+            Call::FallBack { .. } => keeper::fall_back(table, answer),
+            Call::KeepSheet { .. } => keeper::keep_sheet(table, lent.scratch.slice_mut(), answer),
+        };
+        match result {
+            Ok(length) => {
+                lent.written.put(&[length]);
+                0
+            }
+            Err(refusal) => refusal.number(),
+        }
+    }
+}
+
+/// All that a call is lent. A call that has no list, no scratch or no answer
+/// gets none of it; the slice is there all the same, and stays as it is.
+struct Loan {
+    table: Lent<u8>,
+    list: Lent<u16>,
+    scratch: Lent<u16>,
+    answer: Lent<u8>,
+    written: Lent<usize>,
+}
+
+impl Loan {
+    fn new(rng: &mut Rng, table: &[u8], call: &Call) -> Loan {
+        Loan {
+            table: Lent::holding(rng, table),
+            list: Lent::holding(rng, call.list()),
+            scratch: Lent::room(rng, call.numbers()),
+            answer: Lent::room(rng, call.room()),
+            written: Lent::room(rng, 1),
+        }
+    }
+
+    fn copy(&self) -> Loan {
+        Loan {
+            table: self.table.copy(),
+            list: self.list.copy(),
+            scratch: self.scratch.copy(),
+            answer: self.answer.copy(),
+            written: self.written.copy(),
+        }
+    }
+
+    /// What the loan holds after a call with this outcome.
+    fn after(&self, outcome: &Outcome, writes_length: bool) -> Loan {
+        let mut loan = self.copy();
+        if outcome.number == 0 && writes_length {
+            loan.answer.put(&outcome.answer);
+            loan.written.put(&[outcome.answer.len()]);
+        }
+        if let Some(lines) = &outcome.lines {
+            loan.scratch.put(lines);
+        }
+        loan
+    }
+
+    /// What differs, in words.
+    fn differences(&self, expected: &Loan, into: &mut Vec<String>) {
+        fn add<T: Element>(what: &str, got: &Lent<T>, wanted: &Lent<T>, into: &mut Vec<String>) {
+            if let Some((at, got_element, wanted_element)) = got.difference(wanted) {
+                into.push(format!(
+                    "the {what} (length {}) differs first at {at}: got {got_element:?}, expected {wanted_element:?}",
+                    got.slice().len()
+                ));
+            }
+        }
+        add("table", &self.table, &expected.table, into);
+        add("list", &self.list, &expected.list, into);
+        add("scratch", &self.scratch, &expected.scratch, into);
+        add("answer", &self.answer, &expected.answer, into);
+        add("length written", &self.written, &expected.written, into);
+    }
+}
+
+/// A difference between the two implementations, with all that made it.
+pub struct Difference {
+    made_by: String,
+    table: Vec<u8>,
+    call: String,
+    what: Vec<String>,
+    got: String,
+    expected: String,
+}
+
+impl fmt::Display for Difference {
+    fn fmt(&self, to: &mut fmt::Formatter<'_>) -> fmt::Result {
+        writeln!(to, "difference in {}", self.call)?;
+        writeln!(to, "made by: {}", self.made_by)?;
+        for what in &self.what {
+            writeln!(to, "  {what}")?;
+        }
+        write!(to, "{}", show::table(&self.table))?;
+        writeln!(to, "library:               {}", self.got)?;
+        writeln!(to, "second implementation: {}", self.expected)
+    }
+}
+
+/// The comparisons made so far.
+#[derive(Default)]
+pub struct Comparison {
+    /// How many calls of each name ended in each number.
+    pub calls: BTreeMap<(usize, u32), u64>,
+    /// How many lookups of the table reader were compared.
+    pub lookups: u64,
+}
+
+impl Comparison {
+    /// All calls made so far.
+    pub fn total(&self) -> u64 {
+        self.calls.values().sum()
+    }
+
+    /// Makes one call with guards, by the archive and by the binding. The
+    /// answer of the archive, or what differed.
+    pub fn call(
+        &mut self,
+        rng: &mut Rng,
+        made_by: &str,
+        table: &[u8],
+        call: &Call,
+    ) -> Result<Outcome, Box<Difference>> {
+        let expected = call.expected(table);
+        self.call_expecting(rng, made_by, table, call, expected)
+    }
+
+    /// As [`Comparison::call`], where the outcome to expect is known.
+    pub fn call_expecting(
+        &mut self,
+        rng: &mut Rng,
+        made_by: &str,
+        table: &[u8],
+        call: &Call,
+        expected: Outcome,
+    ) -> Result<Outcome, Box<Difference>> {
+        let before = Loan::new(rng, table, call);
+        let wanted = before.after(&expected, *call != Call::CheckTable);
+        let mut got = Outcome::refused(0);
+        for by_binding in [false, true] {
+            let mut loan = before.copy();
+            let number = if by_binding {
+                call.by_binding(&mut loan)
+            } else {
+                call.by_archive(&mut loan)
+            };
+            let mut what = Vec::new();
+            if number != expected.number {
+                what.push(format!(
+                    "the returned number differs: got {number}, expected {}",
+                    expected.number
+                ));
+            }
+            loan.differences(&wanted, &mut what);
+            if !what.is_empty() {
+                let path = if by_binding {
+                    "the binding"
+                } else {
+                    "the archive"
+                };
+                return Err(Box::new(Difference {
+                    made_by: made_by.to_string(),
+                    table: table.to_vec(),
+                    call: format!("{call:?}, called through {path}"),
+                    what,
+                    got: format!(
+                        "number {number}, length written {} ({} before the call), scratch {:?}, answer buffer {}",
+                        loan.written.slice()[0],
+                        before.written.slice()[0],
+                        loan.scratch.slice(),
+                        show::hex(loan.answer.slice())
+                    ),
+                    expected: format!(
+                        "number {}, length written {}, scratch {:?}, answer buffer {}",
+                        expected.number,
+                        wanted.written.slice()[0],
+                        wanted.scratch.slice(),
+                        show::hex(wanted.answer.slice())
+                    ),
+                }));
+            }
+            if !by_binding {
+                // What the archive wrote, taken out of the answer buffer.
+                let length = if number == 0 && *call != Call::CheckTable {
+                    loan.written.slice()[0]
+                } else {
+                    0
+                };
+                got = Outcome {
+                    number,
+                    answer: loan.answer.slice()[..length].to_vec(),
+                    lines: expected
+                        .lines
+                        .as_ref()
+                        .map(|lines| loan.scratch.slice()[..lines.len()].to_vec()),
+                };
+            }
+        }
+        *self.calls.entry((call.place(), got.number)).or_default() += 1;
+        Ok(got)
+    }
+
+    /// Compares the table reader's check and its lookups at these indices.
+    pub fn lookups(
+        &mut self,
+        rng: &mut Rng,
+        made_by: &str,
+        table: &[u8],
+        indices: &[usize],
+    ) -> Result<(), Box<Difference>> {
+        let lent = Lent::holding(rng, table);
+        let before = lent.copy();
+        let (bytes, length) = (lent.slice().as_ptr(), lent.slice().len());
+        let mut what = Vec::new();
+        let mut same = |name: &str, got: u32, wanted: u32| {
+            self.lookups += 1;
+            if got != wanted {
+                what.push(format!("run_table_{name}: got {got}, expected {wanted}"));
+            }
+        };
+        // SAFETY: the pointer and length are a slice of a buffer.
+        unsafe {
+            use archive::*;
+            same(
+                "check",
+                run_table_check(bytes, length),
+                reference::check_table(table),
+            );
+            let n = u32::from(run_table_processes(bytes, length));
+            same("processes", n, reference::processes(table).into());
+            let m = u32::from(run_table_messages(bytes, length));
+            same("messages", m, reference::messages(table).into());
+            for &at in indices {
+                let pairs = [
+                    (
+                        "count",
+                        run_table_count(bytes, length, at),
+                        reference::count(table, at),
+                    ),
+                    (
+                        "sender",
+                        run_table_sender(bytes, length, at),
+                        reference::sender(table, at),
+                    ),
+                    (
+                        "sent",
+                        run_table_sent(bytes, length, at),
+                        reference::sent(table, at),
+                    ),
+                    (
+                        "receiver",
+                        run_table_receiver(bytes, length, at),
+                        reference::receiver(table, at),
+                    ),
+                    (
+                        "received",
+                        run_table_received(bytes, length, at),
+                        reference::received(table, at),
+                    ),
+                ];
+                for (name, got, wanted) in pairs {
+                    same(&format!("{name} at {at}"), got.into(), wanted.into());
+                }
+            }
+        }
+        if lent.difference(&before).is_some() {
+            what.push("a lookup changed the table or its guards".to_string());
+        }
+        if what.is_empty() {
+            return Ok(());
+        }
+        Err(Box::new(Difference {
+            made_by: made_by.to_string(),
+            table: table.to_vec(),
+            call: "lookups of the table reader".to_string(),
+            what,
+            got: "see above".to_string(),
+            expected: "see above".to_string(),
+        }))
+    }
+
+    /// The (call, refusal) pairs that the rules allow and no call met.
+    pub fn not_met(&self) -> Vec<String> {
+        let mut missing = Vec::new();
+        for (place, name) in NAMES.iter().enumerate() {
+            let later = LATER_CHECKS[place].iter().copied();
+            for number in (0..=9).chain(later) {
+                if !self.calls.contains_key(&(place, number)) {
+                    missing.push(format!("{name} with {number}"));
+                }
+            }
+        }
+        missing
+    }
+
+    /// The calls by name and number, a line for each name.
+    pub fn report(&self) -> String {
+        let mut text = String::new();
+        for (place, name) in NAMES.iter().enumerate() {
+            let numbers: Vec<String> = self
+                .calls
+                .range((place, 0)..=(place, u32::MAX))
+                .map(|((_, number), times)| format!("{number}: {times}"))
+                .collect();
+            text += &format!("  {name:13} {}\n", numbers.join(", "));
+        }
+        text
+    }
+}

@@ -1,0 +1,439 @@
+//! Tables and arguments by chance, and the calls to make on a table.
+
+use reference::gen::{self, Order, Rng};
+use reference::table::{MOST_MESSAGES, MOST_STATES};
+use reference::{Message, Table};
+
+use crate::compare::{Call, Comparison, Difference};
+
+/// The kinds of tables, each with the number of rounds out of a hundred that
+/// it gets.
+const KINDS: [(&str, usize); 16] = [
+    ("small history", 12),
+    ("history", 10),
+    ("small arbitrary", 14),
+    ("arbitrary", 9),
+    ("clustered", 7),
+    ("domino", 5),
+    ("ring", 4),
+    ("staircase", 2),
+    ("many waiting", 3),
+    ("full", 1),
+    ("random body", 5),
+    ("random bytes", 4),
+    ("damaged", 9),
+    ("damaged more than once", 8),
+    ("damaged after the last check", 2),
+    ("a few bytes changed", 5),
+];
+
+/// Counts that lie at or near their limit.
+fn high_count(rng: &mut Rng) -> u32 {
+    MOST_STATES - rng.between(0, 2) as u32
+}
+
+/// An accepted table of moderate size.
+fn accepted(rng: &mut Rng, kind: &str) -> Table {
+    match kind {
+        "small history" => {
+            let (n, m) = (rng.between(1, 5), rng.between(0, 12));
+            gen::history(rng, n, m)
+        }
+        "history" => {
+            let (n, m) = (rng.between(1, 14), rng.between(0, 90));
+            gen::history(rng, n, m)
+        }
+        "small arbitrary" => {
+            let (n, m, most) = (rng.between(1, 4), rng.between(0, 9), rng.between(1, 5));
+            gen::arbitrary(rng, n, m, most as u32)
+        }
+        "arbitrary" => {
+            let (n, m) = (rng.between(1, 32), rng.between(0, 150));
+            let most = [2, 8, 64, 512, MOST_STATES][rng.between(0, 4)];
+            gen::arbitrary(rng, n, m, most)
+        }
+        "clustered" => {
+            let (n, m) = (rng.between(1, 32), rng.between(0, 250));
+            gen::clustered(rng, n, m)
+        }
+        "domino" => {
+            let (m, order) = (rng.between(0, 80), Order::ALL[rng.between(0, 4)]);
+            gen::domino_chain(rng, m, order)
+        }
+        "ring" => {
+            let (n, m) = (rng.between(2, 32), rng.between(0, 120));
+            let order = Order::ALL[rng.between(0, 4)];
+            gen::ring_domino(rng, n, m, order)
+        }
+        "staircase" => {
+            let n = rng.between(1, 32);
+            let count = n + 1 + rng.between(0, 8);
+            gen::staircase(n, count as u32)
+        }
+        "many waiting" => {
+            // Hundreds of messages that wait for few processes: long lists.
+            let (n, m) = (rng.between(2, 4), rng.between(300, 900));
+            let mut table = gen::arbitrary(rng, n, m, 6);
+            for message in &mut table.messages {
+                if rng.chance(9, 10) {
+                    message.received = 0;
+                }
+            }
+            table
+        }
+        "full" => {
+            // As many messages as there may be or one fewer, or counts at the
+            // limit: what check 14 looks at.
+            let n = rng.between(2, 5);
+            let m = if rng.chance(1, 2) {
+                MOST_MESSAGES - rng.between(0, 1)
+            } else {
+                rng.between(0, 20)
+            };
+            let mut table = gen::arbitrary(rng, n, m, 3);
+            for p in 0..n {
+                if rng.chance(2, 3) {
+                    table.counts[p] = high_count(rng);
+                }
+            }
+            for message in &mut table.messages {
+                if rng.chance(1, 4) {
+                    message.sent = table.counts[message.sender] - 1;
+                }
+                if rng.chance(1, 4) {
+                    message.received = table.counts[message.receiver] - 1;
+                }
+            }
+            table
+        }
+        _ => unreachable!("{kind} is no kind of accepted table"),
+    }
+}
+
+/// An accepted table of any of the smaller kinds.
+pub fn some_accepted(rng: &mut Rng) -> Table {
+    let kinds = [
+        "small history",
+        "small arbitrary",
+        "history",
+        "arbitrary",
+        "clustered",
+    ];
+    let kind = kinds[rng.between(0, kinds.len() - 1)];
+    accepted(rng, kind)
+}
+
+/// A table for this round, with the name of its kind.
+pub fn table(rng: &mut Rng) -> (&'static str, Vec<u8>) {
+    let mut lot = rng.between(0, 99);
+    let mut kind = KINDS[0].0;
+    for (name, share) in KINDS {
+        if lot < share {
+            kind = name;
+            break;
+        }
+        lot -= share;
+    }
+    let bytes = match kind {
+        "random body" => {
+            let (n, m) = (rng.between(1, 8), rng.between(0, 10));
+            gen::random_body(rng, n, m)
+        }
+        "random bytes" => {
+            let mut bytes = gen::random_bytes(rng, 120);
+            // A header within the limits, now and then of the right length.
+            if bytes.len() >= 4 && rng.chance(2, 3) {
+                let n = rng.between(0, 33);
+                let m = (bytes.len() - 4).saturating_sub(2 * n) / 8;
+                bytes[..4].copy_from_slice(&[n as u8, 0, m as u8, 0]);
+                if rng.chance(1, 2) && bytes.len() >= 4 + 2 * n + 8 * m {
+                    bytes.truncate(4 + 2 * n + 8 * m);
+                }
+            }
+            bytes
+        }
+        "damaged" => loop {
+            let whole = some_accepted(rng).to_bytes();
+            let refusal = rng.between(1, 9) as u32;
+            if let Some(bytes) = gen::damage(rng, &whole, refusal) {
+                break bytes;
+            }
+        },
+        "damaged more than once" => loop {
+            let whole = some_accepted(rng).to_bytes();
+            let mut refusals: Vec<u32> = (2..=9).collect();
+            refusals.retain(|_| rng.chance(2, 5));
+            if let Some(bytes) = gen::damage_many(rng, &whole, &refusals) {
+                break bytes;
+            }
+        },
+        "damaged after the last check" => {
+            // One message breaks a late check, a later one an earlier check.
+            let mut table = some_accepted(rng);
+            while table.processes() < 2 || table.messages.len() < 2 {
+                table = some_accepted(rng);
+            }
+            let last = table.messages.len() - 1;
+            let at = rng.between(0, last - 1);
+            let high = table.counts[table.messages[at].receiver] + rng.between(0, 2) as u32;
+            table.messages[at].received = high;
+            let latest = &mut table.messages[last];
+            match rng.between(0, 2) {
+                0 => latest.sent = table.counts[latest.sender],
+                1 => latest.receiver = latest.sender,
+                _ => latest.receiver = table.counts.len(),
+            }
+            table.to_bytes()
+        }
+        "a few bytes changed" => {
+            let mut bytes = some_accepted(rng).to_bytes();
+            for _ in 0..rng.between(1, 3) {
+                let at = rng.between(0, bytes.len() - 1);
+                bytes[at] = match rng.between(0, 3) {
+                    0 => bytes[at].wrapping_add(1),
+                    1 => bytes[at].wrapping_sub(1),
+                    2 => bytes[at] ^ (1 << rng.between(0, 7)),
+                    _ => rng.next_bits() as u8,
+                };
+            }
+            bytes
+        }
+        _ => accepted(rng, kind).to_bytes(),
+    };
+    (kind, bytes)
+}
+
+/// A process for a send or save: mostly one of n, else n or above.
+pub fn process(rng: &mut Rng, n: usize) -> u16 {
+    if n > 0 && rng.chance(9, 10) {
+        return rng.between(0, n - 1) as u16;
+    }
+    let beyond = [n, n + 1, 32, 33, 255, 256, 65_535];
+    beyond[rng.between(0, beyond.len() - 1)] as u16
+}
+
+/// A set of processes: empty, all, one, all but one, any, or with bits at n
+/// and above.
+pub fn set(rng: &mut Rng, n: usize) -> u32 {
+    let all = if n >= 32 { u32::MAX } else { (1 << n) - 1 };
+    let one = 1u32 << rng.between(0, n.clamp(1, 32) - 1);
+    let any = rng.next_bits() as u32;
+    match rng.between(0, 9) {
+        0 => 0,
+        1 => all,
+        2 => one,
+        3 => all & !one,
+        4..=6 => any & all,
+        7 => (any & all) | 1u32.checked_shl(n as u32).unwrap_or(0),
+        8 => any,
+        _ => 1 << rng.between(0, 31),
+    }
+}
+
+/// A list for a save by `process`, good or spoilt in one of many ways.
+pub fn list(rng: &mut Rng, table: &Table, process: u16) -> Vec<u16> {
+    let m = table.messages.len();
+    let waiting: Vec<u16> = table
+        .waiting_for(process.into())
+        .into_iter()
+        .map(|position| position as u16)
+        .collect();
+    let mut list = waiting.clone();
+    let share = rng.between(1, 4);
+    if rng.chance(2, 3) {
+        list.retain(|_| rng.chance(share, 4));
+    }
+    match rng.between(0, 15) {
+        0 => list.clear(),
+        1..=5 => {}
+        6 => {
+            // One entry twice.
+            if !list.is_empty() {
+                let at = rng.between(0, list.len() - 1);
+                list.insert(at, list[at]);
+            }
+        }
+        7 => {
+            // Two entries the other way round.
+            if list.len() >= 2 {
+                let at = rng.between(0, list.len() - 2);
+                list.swap(at, at + 1);
+            }
+        }
+        8 => list.reverse(),
+        9 => rng.shuffle(&mut list),
+        10 | 11 => {
+            // A position of M or above, at the end or anywhere.
+            let beyond = [m, m + 1, m + rng.between(0, 70), 4_096, 32_768, 65_535];
+            let beyond = beyond[rng.between(0, beyond.len() - 1)] as u16;
+            let at = if rng.chance(1, 2) {
+                list.len()
+            } else {
+                rng.between(0, list.len())
+            };
+            list.insert(at, beyond);
+        }
+        12 | 13 => {
+            // A position that does not wait for this process, in its place.
+            let others: Vec<u16> = (0..m as u16).filter(|k| !waiting.contains(k)).collect();
+            if !others.is_empty() {
+                list.push(others[rng.between(0, others.len() - 1)]);
+                list.sort_unstable();
+            }
+        }
+        14 => {
+            // Any numbers.
+            for entry in &mut list {
+                if rng.chance(1, 3) {
+                    *entry = rng.next_bits() as u16;
+                }
+            }
+        }
+        _ => {
+            // A long list: all positions, or one position many times.
+            let length = rng.between(1, 600);
+            list = if rng.chance(1, 2) {
+                (0..length as u16).collect()
+            } else {
+                vec![rng.between(0, m) as u16; length]
+            };
+        }
+    }
+    list
+}
+
+/// Lengths of an answer buffer for an answer of this length: exact, one byte
+/// short, and others; for a refused call (`None`) any.
+fn rooms(rng: &mut Rng, answer: Option<usize>, all: bool) -> Vec<usize> {
+    let Some(length) = answer else {
+        return vec![[0, 1, 64, 300][rng.between(0, 3)]];
+    };
+    let mut rooms = vec![length];
+    if length > 0 && (all || rng.chance(1, 2)) {
+        rooms.push(length - 1);
+    }
+    if all || rng.chance(1, 3) {
+        rooms.push(length + rng.between(1, 40));
+    }
+    if all || rng.chance(1, 6) {
+        rooms.push(0);
+        rooms.push(rng.between(0, length));
+    }
+    rooms
+}
+
+/// The calls to try on a table, their answer buffers still to be chosen.
+fn calls(rng: &mut Rng, bytes: &[u8], few: bool) -> Vec<Call> {
+    let room = usize::MAX;
+    let values = Table::read(bytes).unwrap_or(Table {
+        counts: vec![1; usize::from(reference::processes(bytes)).min(40)],
+        messages: Vec::new(),
+    });
+    let n = values.processes();
+    let times = |most: usize| if few { 1 } else { most };
+    let mut calls = vec![
+        Call::CheckTable,
+        Call::RecoveryLine { room },
+        Call::FallBack { room },
+    ];
+    for _ in 0..times(6) {
+        let set = set(rng, n);
+        calls.push(Call::LineOfSet { set, room });
+    }
+    for _ in 0..times(4) {
+        let (from, to) = (process(rng, n), process(rng, n));
+        calls.push(Call::Send { from, to, room });
+    }
+    for _ in 0..times(8) {
+        let process = process(rng, n);
+        let list = list(rng, &values, process);
+        calls.push(Call::Save {
+            process,
+            list,
+            room,
+        });
+    }
+    // For an accepted table the scratch has a least length; else any will do.
+    let square = n * n;
+    let mut scratches = vec![square];
+    if !few {
+        scratches.push(square.saturating_sub(1));
+        scratches.push(square + rng.between(1, 70));
+        scratches.push(rng.between(0, square));
+    }
+    for numbers in scratches {
+        calls.push(Call::KeepSheet { numbers, room });
+    }
+    calls
+}
+
+/// Makes all the calls on a table, with all sorts of answer buffers, and the
+/// lookups.
+pub fn battery(
+    comparison: &mut Comparison,
+    rng: &mut Rng,
+    made_by: &str,
+    bytes: &[u8],
+    few: bool,
+) -> Result<(), Box<Difference>> {
+    for call in calls(rng, bytes, few) {
+        let unbounded = call.expected(bytes);
+        let answer = (unbounded.number == 0).then_some(unbounded.answer.len());
+        let all = !few && rng.chance(1, 4);
+        for room in rooms(rng, answer, all) {
+            comparison.call(rng, made_by, bytes, &call.with_room(room))?;
+            if call == Call::CheckTable {
+                break;
+            }
+        }
+    }
+    let n = usize::from(reference::processes(bytes));
+    let m = usize::from(reference::messages(bytes));
+    let near = [0, 1, n, m, n.wrapping_sub(1), m.wrapping_sub(1), usize::MAX];
+    let mut indices = near.to_vec();
+    indices.extend([
+        rng.between(0, n),
+        rng.between(0, m),
+        rng.next_bits() as usize,
+    ]);
+    // Indices whose place in the table would overflow.
+    indices.extend([usize::MAX / 4, usize::MAX / 8 + 1, 1 << 62, 1 << 63]);
+    comparison.lookups(rng, made_by, bytes, &indices)
+}
+
+/// One step of a chain, named by chance: mostly one that no check catches.
+pub fn step(rng: &mut Rng, table: &Table) -> Call {
+    let room = usize::MAX;
+    let n = table.processes();
+    match rng.between(0, 99) {
+        0..=4 => Call::FallBack { room },
+        5..=54 => {
+            let (from, to) = (process(rng, n), process(rng, n));
+            Call::Send { from, to, room }
+        }
+        _ => {
+            let process = process(rng, n);
+            let list = if rng.chance(1, 8) {
+                list(rng, table, process)
+            } else {
+                let mut waiting = table.waiting_for(process.into());
+                waiting.retain(|_| rng.chance(2, 3));
+                waiting.into_iter().map(|k| k as u16).collect()
+            };
+            Call::Save {
+                process,
+                list,
+                room,
+            }
+        }
+    }
+}
+
+/// The most that can be kept: the stairs, with messages that wait.
+pub fn fullest_sheet() -> Table {
+    let mut table = gen::staircase(32, MOST_STATES);
+    while table.messages.len() < MOST_MESSAGES {
+        table.messages.push(Message::new((0, 0), (1, 0)));
+    }
+    table
+}

@@ -1,0 +1,157 @@
+//! The comparison can fail: with an outcome to expect that is spoilt in one
+//! place, it reports a difference.
+
+use differential::compare::{Call, Comparison};
+use differential::lend::Lent;
+use reference::gen::{arbitrary, Rng};
+use reference::{Message, Outcome, Table};
+
+fn example_a() -> Table {
+    Table {
+        counts: vec![3, 3],
+        messages: vec![
+            Message::new((0, 0), (1, 2)),
+            Message::new((1, 0), (0, 1)),
+            Message::new((1, 1), (0, 2)),
+            Message::new((0, 2), (1, 2)),
+            Message::new((1, 2), (0, 0)),
+        ],
+    }
+}
+
+fn all_calls(room: usize) -> Vec<Call> {
+    vec![
+        Call::RecoveryLine { room },
+        Call::LineOfSet { set: 2, room },
+        Call::Send {
+            from: 0,
+            to: 1,
+            room,
+        },
+        Call::Save {
+            process: 0,
+            list: vec![4],
+            room,
+        },
+        Call::FallBack { room },
+        Call::KeepSheet { numbers: 6, room },
+    ]
+}
+
+/// Whether the comparison of this call with this outcome fails.
+fn fails(table: &[u8], call: &Call, outcome: Outcome) -> bool {
+    let mut comparison = Comparison::default();
+    let rng = &mut Rng::new(7);
+    comparison
+        .call_expecting(rng, "a spoilt outcome", table, call, outcome)
+        .is_err()
+}
+
+#[test]
+fn every_bit_of_an_answer_counts() {
+    let table = example_a().to_bytes();
+    for call in all_calls(100) {
+        let expected = call.expected(&table);
+        assert!(!fails(&table, &call, expected.clone()));
+        for bit in 0..8 * expected.answer.len() {
+            let mut spoilt = expected.clone();
+            spoilt.answer[bit / 8] ^= 1 << (bit % 8);
+            assert!(fails(&table, &call, spoilt), "{call:?}, bit {bit}");
+        }
+    }
+}
+
+#[test]
+fn the_length_counts() {
+    let table = example_a().to_bytes();
+    for call in all_calls(100) {
+        let expected = call.expected(&table);
+        let mut shorter = expected.clone();
+        shorter.answer.pop();
+        assert!(fails(&table, &call, shorter));
+        let mut longer = expected;
+        longer.answer.push(0);
+        assert!(fails(&table, &call, longer));
+    }
+}
+
+#[test]
+fn the_number_counts() {
+    let table = example_a().to_bytes();
+    for room in [0, 100] {
+        for call in all_calls(room) {
+            let expected = call.expected(&table);
+            for number in (0..=17).filter(|&number| number != expected.number) {
+                let mut spoilt = expected.clone();
+                spoilt.number = number;
+                assert!(fails(&table, &call, spoilt), "{call:?}, {number}");
+            }
+        }
+    }
+    let call = Call::CheckTable;
+    assert!(fails(&table, &call, Outcome::refused(4)));
+    assert!(!fails(&table, &call, Outcome::refused(0)));
+}
+
+/// On success and under 16 the scratch holds the lines, and no more of it is
+/// written.
+#[test]
+fn the_scratch_counts() {
+    let table = example_a().to_bytes();
+    for room in [0, 100] {
+        let call = Call::KeepSheet { numbers: 6, room };
+        let expected = call.expected(&table);
+        let lines = expected.lines.clone().expect("the lines");
+        assert_eq!(lines, [1, 1, 3, 2]);
+        for at in 0..lines.len() {
+            let mut spoilt = expected.clone();
+            spoilt.lines.as_mut().unwrap()[at] += 1;
+            assert!(fails(&table, &call, spoilt));
+        }
+        let mut none = expected.clone();
+        none.lines = None;
+        assert!(fails(&table, &call, none));
+        let mut more = expected;
+        more.lines.as_mut().unwrap().push(0);
+        assert!(fails(&table, &call, more));
+    }
+}
+
+/// An outcome of another table is seen.
+#[test]
+fn another_table_counts() {
+    let rng = &mut Rng::new(8);
+    let mut seen = 0;
+    for _ in 0..200 {
+        let table = arbitrary(rng, 3, 5, 4);
+        let mut other = table.clone();
+        let at = rng.between(0, 4);
+        other.messages[at].received = 0;
+        for call in all_calls(100) {
+            let here = call.expected(&table.to_bytes());
+            let there = call.expected(&other.to_bytes());
+            if here != there {
+                assert!(fails(&table.to_bytes(), &call, there));
+                seen += 1;
+            }
+        }
+    }
+    assert!(seen > 200, "{seen}");
+}
+
+#[test]
+fn guards_count() {
+    let rng = &mut Rng::new(9);
+    let lent: Lent<u8> = Lent::room(rng, 10);
+    assert!(lent.difference(&lent.copy()).is_none());
+    let mut other = lent.copy();
+    other.slice_mut()[3] ^= 1;
+    assert_eq!(lent.difference(&other).map(|found| found.0), Some(3));
+    // One byte before the slice and one behind it, and the farthest ones.
+    for place in [-1, -32, 10, 41] {
+        let mut other = lent.copy();
+        let (all, front) = other.with_guards();
+        all[front.wrapping_add_signed(place)] ^= 1;
+        assert_eq!(lent.difference(&other).map(|found| found.0), Some(place));
+    }
+}
