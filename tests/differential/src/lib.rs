@@ -5,10 +5,12 @@
 //! * `compare` - one call made by the archive, by the binding and by the
 //!   second implementation, and everything that may differ
 //! * `make`    - tables and arguments by chance
+//! * `scope`   - all tables up to a size
 //! * `show`    - tables and answers for a reader
 
 pub mod archive;
 pub mod compare;
 pub mod lend;
 pub mod make;
+pub mod scope;
 pub mod show;

@@ -1,0 +1,343 @@
+//! Small scopes, every table of them:
+//!
+//! * `scopes lines N C M`: at most N processes with at most C states and at
+//!   most M messages: the lines of all sets, the recovery line and the keep
+//!   sheet. The lines to expect are found by trying every line.
+//! * `scopes steps N C M`: every send, every save with any list of at most M
+//!   positions, and the fall back.
+//! * `scopes needs N C M DEPTH`: what some future of at most DEPTH steps
+//!   needs, found by search, is what the library's keep sheet has.
+//!
+//! With no words it takes the scopes of `make test`; with the word `more` some
+//! larger ones after them.
+
+use std::collections::{BTreeSet, HashMap};
+use std::env;
+use std::process::ExitCode;
+use std::time::Instant;
+
+use differential::compare::Call;
+use differential::scope::{least_renaming, next_order, renamed_message, Scope};
+use differential::show;
+use reference::lines::{
+    all_hold, ceiling, line_by_enumeration, line_to_bytes, single_holder, Line,
+};
+use reference::sheet::kept_under;
+use reference::{needed_by_futures, Message, Table};
+
+/// What a buffer holds before a call.
+const FILL: u8 = 0xA5;
+
+/// A difference, in words.
+type Failure = String;
+
+/// The calls made, and the buffers that they write.
+struct Library {
+    calls: u64,
+    answer: Vec<u8>,
+    scratch: Vec<u16>,
+}
+
+impl Library {
+    fn new() -> Library {
+        Library {
+            calls: 0,
+            answer: vec![FILL; 256],
+            scratch: vec![0; 64],
+        }
+    }
+
+    /// Makes a call whose buffer ends some bytes behind the answer, and
+    /// compares what it wrote and what it left.
+    fn yields(
+        &mut self,
+        what: &dyn Fn() -> String,
+        table: &[u8],
+        expected: &[u8],
+        call: impl Fn(&[u8], &mut [u16], &mut [u8]) -> Result<usize, keeper::Refusal>,
+    ) -> Result<(), Failure> {
+        let length = expected.len();
+        let room = length + 3;
+        self.answer[..room + 3].fill(FILL);
+        let (lent, guards) = self.answer[..room + 3].split_at_mut(room);
+        let got = call(table, &mut self.scratch, lent);
+        self.calls += 1;
+        let same = got == Ok(length)
+            && lent[..length] == *expected
+            && lent[length..].iter().all(|&byte| byte == FILL)
+            && guards.iter().all(|&byte| byte == FILL);
+        if same {
+            return Ok(());
+        }
+        Err(format!(
+            "difference in {}\n{}library:               {got:?}, answer buffer {}\nsecond implementation: {}",
+            what(),
+            show::table(table),
+            show::hex(lent),
+            show::hex(expected)
+        ))
+    }
+}
+
+/// All lines and the sheet, on every table of a scope.
+fn lines(scope: Scope) -> Result<String, Failure> {
+    let mut library = Library::new();
+    let mut tables = 0;
+    scope.each_sorted(|sorted| -> Result<(), Failure> {
+        // Lines do not see the order of the messages, so they are found once
+        // for all orders.
+        let n = sorted.processes();
+        let sets: Vec<Line> = (0..=all_hold(n))
+            .map(|set| line_by_enumeration(sorted, &ceiling(sorted, set)))
+            .collect();
+        let sets_bytes: Vec<Vec<u8>> = sets.iter().map(|line| line_to_bytes(line)).collect();
+        let hold: Vec<Line> = (0..n)
+            .map(|p| sets[single_holder(p) as usize].clone())
+            .collect();
+        let numbers: Vec<u16> = hold.iter().flatten().map(|&number| number as u16).collect();
+        let mut table = sorted.clone();
+        loop {
+            tables += 1;
+            let bytes = table.to_bytes();
+            for (set, expected) in sets_bytes.iter().enumerate() {
+                library.yields(&|| format!("line_of_set {set}"), &bytes, expected, |table, _, answer| {
+                    keeper::line_of_set(table, set as u32, answer)
+                })?;
+            }
+            let last = &sets_bytes[all_hold(n) as usize];
+            library.yields(&|| "recovery_line".to_string(), &bytes, last, |table, _, answer| {
+                keeper::recovery_line(table, answer)
+            })?;
+            let sheet = kept_under(&table, &hold).to_bytes();
+            library.scratch.fill(0xA5A5);
+            library.yields(&|| "keep_sheet".to_string(), &bytes, &sheet, keeper::keep_sheet)?;
+            let (front, rest) = library.scratch.split_at(n * n);
+            if front != numbers || rest.iter().any(|&number| number != 0xA5A5) {
+                return Err(format!(
+                    "difference in the scratch of keep_sheet\n{}library: {:?}\nsecond implementation: {numbers:?}",
+                    show::table(&bytes),
+                    library.scratch
+                ));
+            }
+            if !next_order(&mut table.messages) {
+                return Ok(());
+            }
+        }
+    })?;
+    assert_eq!(tables, scope.size(), "every table once");
+    Ok(format!("{tables} tables, {} calls", library.calls))
+}
+
+/// Every list of positions 0 to m with at most m entries.
+fn all_lists(m: usize) -> Vec<Vec<u16>> {
+    let mut all: Vec<Vec<u16>> = vec![Vec::new()];
+    let mut longest: Vec<Vec<u16>> = vec![Vec::new()];
+    for _ in 0..m.max(1) {
+        longest = longest
+            .iter()
+            .flat_map(|front| (0..=m as u16).map(move |k| [&front[..], &[k]].concat()))
+            .collect();
+        all.extend(longest.iter().cloned());
+    }
+    all
+}
+
+/// Every step, on every table of a scope.
+fn steps(scope: Scope) -> Result<String, Failure> {
+    let mut answer = vec![FILL; 256];
+    let mut tables = 0;
+    let mut calls = 0;
+    let room = answer.len();
+    let mut compare = |table: &[u8], call: &Call| -> Result<(), Failure> {
+        let expected = call.expected(table);
+        answer.fill(FILL);
+        let got = match call {
+            Call::Send { from, to, .. } => keeper::send(table, *from, *to, &mut answer),
+            Call::Save { process, list, .. } => keeper::save(table, *process, list, &mut answer),
+            _ => keeper::fall_back(table, &mut answer),
+        };
+        calls += 1;
+        let (number, length) = match got {
+            Ok(length) => (0, length),
+            Err(refusal) => (refusal.number(), 0),
+        };
+        let same = number == expected.number
+            && answer[..length] == expected.answer
+            && answer[length..].iter().all(|&byte| byte == FILL);
+        if same {
+            return Ok(());
+        }
+        Err(format!(
+            "difference in {call:?}\n{}library:               {number}, {}\nsecond implementation: {}, {}",
+            show::table(table),
+            show::hex(&answer),
+            expected.number,
+            show::hex(&expected.answer)
+        ))
+    };
+    scope.each_sorted(|sorted| -> Result<(), Failure> {
+        let n = sorted.processes() as u16;
+        let lists = all_lists(sorted.messages.len());
+        let mut table = sorted.clone();
+        loop {
+            tables += 1;
+            let bytes = table.to_bytes();
+            compare(&bytes, &Call::FallBack { room })?;
+            for process in 0..=n {
+                for to in 0..=n {
+                    let from = process;
+                    compare(&bytes, &Call::Send { from, to, room })?;
+                }
+                for list in &lists {
+                    let list = list.clone();
+                    compare(
+                        &bytes,
+                        &Call::Save {
+                            process,
+                            list,
+                            room,
+                        },
+                    )?;
+                }
+            }
+            if !next_order(&mut table.messages) {
+                return Ok(());
+            }
+        }
+    })?;
+    assert_eq!(tables, scope.size(), "every table once");
+    Ok(format!("{tables} tables, {calls} calls"))
+}
+
+/// What some future needs, for a class of tables: checkpoints, and messages by
+/// what stands in their entries. Two messages with equal entries have the same
+/// futures, so they are needed both or not at all; the search is held to it.
+struct Needed {
+    states: BTreeSet<(usize, u32)>,
+    messages: BTreeSet<Message>,
+}
+
+fn search(table: &Table, depth: usize) -> Needed {
+    let (states, positions) = needed_by_futures(table, depth);
+    let messages: BTreeSet<Message> = positions.iter().map(|&k| table.messages[k]).collect();
+    for (k, message) in table.messages.iter().enumerate() {
+        assert_eq!(
+            positions.contains(&k),
+            messages.contains(message),
+            "{table:?}"
+        );
+    }
+    Needed { states, messages }
+}
+
+/// The library's sheet against what futures need, on every table of a scope.
+///
+/// The search is made once for a class of tables that differ in the order of
+/// their messages and the names of their processes. A future of one is a future
+/// of the other when its steps are renamed too, so the needs of one are the
+/// renamed needs of the other. The library writes the sheet of every table.
+fn needs(scope: Scope, depth: usize) -> Result<String, Failure> {
+    let mut classes: HashMap<Table, Needed> = HashMap::new();
+    let mut scratch = vec![0; 64];
+    let mut answer = vec![0; 256];
+    let mut tables = 0;
+    scope.each_sorted(|sorted| -> Result<(), Failure> {
+        let (least, names) = least_renaming(sorted);
+        let needed = classes
+            .entry(least)
+            .or_insert_with_key(|least| search(least, depth));
+        let mut table = sorted.clone();
+        loop {
+            tables += 1;
+            let bytes = table.to_bytes();
+            let mut expected: Vec<u16> = vec![0, 0];
+            let mut states = Vec::new();
+            for (p, &count) in table.counts.iter().enumerate() {
+                states.extend((0..count).filter(|&c| needed.states.contains(&(names[p], c))).map(|c| (p as u16, c as u16)));
+            }
+            let kept = |k: &usize| needed.messages.contains(&renamed_message(&table.messages[*k], &names));
+            let positions: Vec<u16> = (0..table.messages.len()).filter(kept).map(|k| k as u16).collect();
+            expected[0] = states.len() as u16;
+            expected[1] = positions.len() as u16;
+            expected.extend(states.iter().map(|&(p, _)| p));
+            expected.extend(states.iter().map(|&(_, c)| c));
+            expected.extend(positions);
+            let expected: Vec<u8> = expected.iter().flat_map(|number| number.to_le_bytes()).collect();
+            let got = keeper::keep_sheet(&bytes, &mut scratch, &mut answer);
+            if got != Ok(expected.len()) || answer[..expected.len()] != expected {
+                return Err(format!(
+                    "the sheet is not what futures of at most {depth} steps need\n{}library: {got:?}, answer buffer {}\nneeded, as a sheet: {}",
+                    show::table(&bytes),
+                    show::hex(&answer),
+                    show::hex(&expected)
+                ));
+            }
+            if !next_order(&mut table.messages) {
+                return Ok(());
+            }
+        }
+    })?;
+    assert_eq!(tables, scope.size(), "every table once");
+    Ok(format!("{tables} tables, {} searches", classes.len()))
+}
+
+/// One task: its words and numbers.
+fn task(words: &[&str]) -> Option<Result<String, Failure>> {
+    let number = |at: usize| words.get(at).and_then(|word| word.parse::<usize>().ok());
+    let scope = Scope {
+        processes: number(1)?,
+        states: u32::try_from(number(2)?).ok()?,
+        messages: number(3)?,
+    };
+    if scope.processes > 4 || scope.states > 8 || scope.messages > 6 {
+        return None;
+    }
+    match (words[0], words.len()) {
+        ("lines", 4) => Some(lines(scope)),
+        ("steps", 4) => Some(steps(scope)),
+        ("needs", 5) => Some(needs(scope, number(4)?)),
+        _ => None,
+    }
+}
+
+/// The scopes of `make test`.
+const PART: [&str; 6] = [
+    "lines 3 3 3",
+    "lines 2 4 4",
+    "steps 2 3 3",
+    "steps 3 2 2",
+    "needs 2 3 3 5",
+    "needs 3 2 2 4",
+];
+
+/// Larger ones: some minutes.
+const MORE: [&str; 4] = ["lines 3 3 4", "lines 4 2 3", "steps 3 3 2", "needs 3 2 3 4"];
+
+fn main() -> ExitCode {
+    let words: Vec<String> = env::args().skip(1).collect();
+    let line = words.join(" ");
+    let mut tasks: Vec<&str> = match line.as_str() {
+        "" => PART.to_vec(),
+        "more" => PART.iter().chain(&MORE).copied().collect(),
+        one => vec![one],
+    };
+    for line in tasks.drain(..) {
+        let start = Instant::now();
+        let words: Vec<&str> = line.split(' ').collect();
+        match task(&words) {
+            Some(Ok(counts)) => println!(
+                "scope {line}: {counts} agree, {:.1} s",
+                start.elapsed().as_secs_f64()
+            ),
+            Some(Err(failure)) => {
+                println!("{failure}\nFAILED in scope {line}");
+                return ExitCode::FAILURE;
+            }
+            None => {
+                eprintln!("usage: scopes [more | lines N C M | steps N C M | needs N C M DEPTH]");
+                return ExitCode::from(2);
+            }
+        }
+    }
+    ExitCode::SUCCESS
+}
