@@ -1,0 +1,306 @@
+/* See model.h. Each part names the section of the document that it follows. */
+#include "model.h"
+
+#include <stdbool.h>
+#include <string.h>
+
+enum { MOST_PROCESSES = 32, MOST_MESSAGES = 4096, MOST_STATES = 4096 };
+
+/* A message (j, y) to (i, r), and the next message of the same sender. */
+struct message {
+    unsigned j, y, i, r;
+    int next;
+};
+
+/* "The run table". */
+struct run {
+    unsigned n, m;
+    unsigned count[MOST_PROCESSES];
+    struct message message[MOST_MESSAGES];
+    int first[MOST_PROCESSES];
+};
+
+static unsigned number_at(const uint8_t *bytes, size_t at)
+{
+    return bytes[at] + 256u * bytes[at + 1];
+}
+
+/* "In checking order", 1 to 9: a check covers the whole table before the next begins. */
+static uint32_t read_run(const uint8_t *table, size_t length, struct run *run)
+{
+    if (length < 4)
+        return 1;
+    unsigned n = run->n = number_at(table, 0);
+    if (n == 0 || n > MOST_PROCESSES)
+        return 2;
+    unsigned m = run->m = number_at(table, 2);
+    if (m > MOST_MESSAGES)
+        return 3;
+    if (length != 4 + 2 * (size_t)n + 8 * (size_t)m)
+        return 4;
+    size_t sends = 4 + 2 * (size_t)n;
+    size_t receipts = sends + 4 * (size_t)m;
+    for (unsigned p = 0; p < n; p++) {
+        run->count[p] = number_at(table, 4 + 2 * p);
+        if (run->count[p] == 0 || run->count[p] > MOST_STATES)
+            return 5;
+    }
+    for (unsigned k = 0; k < m; k++) {
+        struct message *message = &run->message[k];
+        message->j = number_at(table, sends + 4 * k);
+        message->y = number_at(table, sends + 4 * k + 2);
+        message->i = number_at(table, receipts + 4 * k);
+        message->r = number_at(table, receipts + 4 * k + 2);
+        if (message->j >= n || message->i >= n)
+            return 6;
+    }
+    for (unsigned k = 0; k < m; k++)
+        if (run->message[k].j == run->message[k].i)
+            return 7;
+    for (unsigned k = 0; k < m; k++)
+        if (run->message[k].y >= run->count[run->message[k].j])
+            return 8;
+    for (unsigned k = 0; k < m; k++)
+        if (run->message[k].r >= run->count[run->message[k].i])
+            return 9;
+    for (unsigned p = 0; p < n; p++)
+        run->first[p] = -1;
+    for (unsigned k = m; k-- > 0;) {
+        run->message[k].next = run->first[run->message[k].j];
+        run->first[run->message[k].j] = (int)k;
+    }
+    return 0;
+}
+
+/* "Lines": the latest consistent line in which the processes of the set hold. A process whose number fell
+   stands on a stack; its messages that now lie at or after it are undone at their receivers. */
+static void latest_line(const struct run *run, uint32_t set, unsigned line[MOST_PROCESSES])
+{
+    unsigned stack[MOST_PROCESSES], height = 0;
+    bool on_stack[MOST_PROCESSES];
+    for (unsigned p = 0; p < run->n; p++) {
+        bool holding = (set >> p) % 2 == 1;
+        line[p] = holding ? run->count[p] - 1 : run->count[p];
+        on_stack[p] = holding;
+        if (holding)
+            stack[height++] = p;
+    }
+    while (height > 0) {
+        unsigned j = stack[--height];
+        on_stack[j] = false;
+        for (int k = run->first[j]; k >= 0; k = run->message[k].next) {
+            const struct message *message = &run->message[k];
+            if (message->r == 0 || message->y < line[j] || message->r > line[message->i])
+                continue;
+            line[message->i] = message->r - 1;
+            if (!on_stack[message->i]) {
+                on_stack[message->i] = true;
+                stack[height++] = message->i;
+            }
+        }
+    }
+}
+
+/* An answer that is being written. */
+struct out {
+    uint8_t *bytes;
+    size_t at;
+};
+
+static void put(struct out *out, unsigned number)
+{
+    out->bytes[out->at++] = (uint8_t)(number % 256);
+    out->bytes[out->at++] = (uint8_t)(number / 256);
+}
+
+static void put_run(struct out *out, const struct run *run)
+{
+    put(out, run->n);
+    put(out, run->m);
+    for (unsigned p = 0; p < run->n; p++)
+        put(out, run->count[p]);
+    for (unsigned k = 0; k < run->m; k++) {
+        put(out, run->message[k].j);
+        put(out, run->message[k].y);
+    }
+    for (unsigned k = 0; k < run->m; k++) {
+        put(out, run->message[k].i);
+        put(out, run->message[k].r);
+    }
+}
+
+static uint32_t answer_run(const struct run *run, uint8_t *answer, size_t room, size_t *written)
+{
+    size_t size = 4 + 2 * (size_t)run->n + 8 * (size_t)run->m;
+    if (room < size)
+        return 16;
+    struct out out = {answer, 0};
+    put_run(&out, run);
+    *written = size;
+    return 0;
+}
+
+static uint32_t answer_line(const struct run *run, uint32_t set, uint8_t *answer, size_t room, size_t *written)
+{
+    if (room < 2 * (size_t)run->n)
+        return 16;
+    unsigned line[MOST_PROCESSES];
+    latest_line(run, set, line);
+    struct out out = {answer, 0};
+    for (unsigned p = 0; p < run->n; p++)
+        put(&out, line[p]);
+    *written = out.at;
+    return 0;
+}
+
+static uint32_t all_processes(const struct run *run)
+{
+    return run->n == 32 ? UINT32_MAX : (UINT32_C(1) << run->n) - 1;
+}
+
+/* One table at a time is looked at. */
+static struct run run;
+
+uint32_t MODEL(check_table)(const uint8_t *table, size_t length)
+{
+    return read_run(table, length, &run);
+}
+
+uint32_t MODEL(recovery_line)(const uint8_t *table, size_t length, uint8_t *answer, size_t room, size_t *written)
+{
+    uint32_t refusal = read_run(table, length, &run);
+    if (refusal != 0)
+        return refusal;
+    return answer_line(&run, all_processes(&run), answer, room, written);
+}
+
+uint32_t MODEL(line_of_set)(const uint8_t *table, size_t length, uint32_t set, uint8_t *answer, size_t room,
+                            size_t *written)
+{
+    uint32_t refusal = read_run(table, length, &run);
+    if (refusal != 0)
+        return refusal;
+    if ((set & ~all_processes(&run)) != 0)
+        return 12;
+    return answer_line(&run, set, answer, room, written);
+}
+
+/* "Steps". */
+uint32_t MODEL(send)(const uint8_t *table, size_t length, uint16_t from, uint16_t to, uint8_t *answer, size_t room,
+                     size_t *written)
+{
+    uint32_t refusal = read_run(table, length, &run);
+    if (refusal != 0)
+        return refusal;
+    if (from >= run.n || to >= run.n)
+        return 10;
+    if (from == to)
+        return 11;
+    if (run.m == MOST_MESSAGES)
+        return 14;
+    run.message[run.m] = (struct message){from, run.count[from] - 1, to, 0, -1};
+    run.m++;
+    return answer_run(&run, answer, room, written);
+}
+
+uint32_t MODEL(save)(const uint8_t *table, size_t length, uint16_t process, const uint16_t *list, size_t entries,
+                     uint8_t *answer, size_t room, size_t *written)
+{
+    uint32_t refusal = read_run(table, length, &run);
+    if (refusal != 0)
+        return refusal;
+    if (process >= run.n)
+        return 10;
+    for (size_t at = 0; at < entries; at++) {
+        if (list[at] >= run.m)
+            return 13;
+        if (at > 0 && list[at] <= list[at - 1])
+            return 13;
+        const struct message *message = &run.message[list[at]];
+        if (message->i != process || message->r != 0)
+            return 13;
+    }
+    if (run.count[process] == MOST_STATES)
+        return 14;
+    for (size_t at = 0; at < entries; at++)
+        run.message[list[at]].r = run.count[process];
+    run.count[process]++;
+    return answer_run(&run, answer, room, written);
+}
+
+uint32_t MODEL(fall_back)(const uint8_t *table, size_t length, uint8_t *answer, size_t room, size_t *written)
+{
+    uint32_t refusal = read_run(table, length, &run);
+    if (refusal != 0)
+        return refusal;
+    unsigned line[MOST_PROCESSES];
+    latest_line(&run, all_processes(&run), line);
+    unsigned left = 0;
+    for (unsigned k = 0; k < run.m; k++) {
+        struct message message = run.message[k];
+        if (message.y >= line[message.j])
+            continue;
+        if (message.r > line[message.i])
+            message.r = 0;
+        run.message[left++] = message;
+    }
+    run.m = left;
+    for (unsigned p = 0; p < run.n; p++)
+        run.count[p] = line[p] + 1;
+    return answer_run(&run, answer, room, written);
+}
+
+/* "The keep sheet". */
+uint32_t MODEL(keep_sheet)(const uint8_t *table, size_t length, uint16_t *scratch, size_t numbers, uint8_t *answer,
+                           size_t room, size_t *written)
+{
+    static bool state_kept[MOST_PROCESSES][MOST_STATES];
+    static bool message_kept[MOST_MESSAGES];
+    uint32_t refusal = read_run(table, length, &run);
+    if (refusal != 0)
+        return refusal;
+    if (numbers < (size_t)run.n * run.n)
+        return 15;
+    for (unsigned p = 0; p < run.n; p++)
+        memset(state_kept[p], 0, run.count[p] * sizeof(bool));
+    for (unsigned k = 0; k < run.m; k++)
+        message_kept[k] = run.message[k].r == 0;
+    for (unsigned holder = 0; holder < run.n; holder++) {
+        unsigned line[MOST_PROCESSES];
+        latest_line(&run, UINT32_C(1) << holder, line);
+        for (unsigned p = 0; p < run.n; p++) {
+            scratch[holder * run.n + p] = (uint16_t)line[p];
+            if (line[p] < run.count[p])
+                state_kept[p][line[p]] = true;
+        }
+        for (unsigned k = 0; k < run.m; k++) {
+            const struct message *message = &run.message[k];
+            if (message->y < line[message->j] && line[message->i] < message->r)
+                message_kept[k] = true;
+        }
+    }
+    unsigned states = 0, messages = 0;
+    for (unsigned p = 0; p < run.n; p++)
+        for (unsigned c = 0; c < run.count[p]; c++)
+            states += state_kept[p][c];
+    for (unsigned k = 0; k < run.m; k++)
+        messages += message_kept[k];
+    if (room < 4 + 4 * (size_t)states + 2 * (size_t)messages)
+        return 16;
+    struct out out = {answer, 0};
+    put(&out, states);
+    put(&out, messages);
+    for (unsigned p = 0; p < run.n; p++)
+        for (unsigned c = 0; c < run.count[p]; c++)
+            if (state_kept[p][c])
+                put(&out, p);
+    for (unsigned p = 0; p < run.n; p++)
+        for (unsigned c = 0; c < run.count[p]; c++)
+            if (state_kept[p][c])
+                put(&out, c);
+    for (unsigned k = 0; k < run.m; k++)
+        if (message_kept[k])
+            put(&out, k);
+    *written = out.at;
+    return 0;
+}

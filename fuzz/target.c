@@ -1,0 +1,386 @@
+/* The fuzzer's target: the bytes of an input choose a table and a list of calls; every call is made of the
+   archive and of the model (model.c), with guards round all that is lent, and any difference ends the program.
+
+   An input is a mode byte, a table, and then calls until the bytes run out. A missing byte reads as 0.
+
+   Mode, bit 0: the table is raw, else it is built. Raw: two bytes of length, then the bytes themselves.
+   Built: N, M and the counts, then four bytes for each message; the numbers are brought into their ranges, so
+   that the table is accepted. Bit 1: counts are near 4,096. Bit 2: one of the table's numbers is then replaced
+   by two bytes of the input. Bit 3: one byte is added to the table, or taken away. Bits 4 to 7 all set: the
+   messages are repeated up to nearly 4,096, which is slow and so is rare.
+
+   A call is a byte for which call, a byte for the lengths of the answer buffer and the scratch, and its
+   arguments. Bit 7 of the first byte: the answer of a step becomes the table. */
+#include "model.h"
+
+#include <stdbool.h>
+#include <stdio.h>
+#include <stdlib.h>
+#include <string.h>
+
+uint32_t keeper_check_table(const uint8_t *table, size_t length);
+uint32_t keeper_recovery_line(const uint8_t *table, size_t length, uint8_t *answer, size_t room, size_t *written);
+uint32_t keeper_line_of_set(const uint8_t *table, size_t length, uint32_t set, uint8_t *answer, size_t room,
+                            size_t *written);
+uint32_t keeper_send(const uint8_t *table, size_t length, uint16_t from, uint16_t to, uint8_t *answer, size_t room,
+                     size_t *written);
+uint32_t keeper_save(const uint8_t *table, size_t length, uint16_t process, const uint16_t *list, size_t entries,
+                     uint8_t *answer, size_t room, size_t *written);
+uint32_t keeper_fall_back(const uint8_t *table, size_t length, uint8_t *answer, size_t room, size_t *written);
+uint32_t keeper_keep_sheet(const uint8_t *table, size_t length, uint16_t *scratch, size_t numbers, uint8_t *answer,
+                           size_t room, size_t *written);
+
+int LLVMFuzzerTestOneInput(const uint8_t *data, size_t size);
+
+/* The calls compared so far. */
+unsigned long calls_compared;
+
+enum {
+    LARGEST_TABLE = 32836,
+    LARGEST_RAW = 40000,
+    LARGEST_ROOM = LARGEST_TABLE + 8 + 64,
+    LARGEST_SCRATCH = 1024 + 64,
+    LARGEST_LIST = 300,
+    MOST_WORK = 60000,
+    GUARDS = 32
+};
+
+/* The rest of the input. */
+struct input {
+    const uint8_t *at, *end;
+};
+
+static unsigned byte(struct input *input)
+{
+    return input->at < input->end ? *input->at++ : 0;
+}
+
+static unsigned number(struct input *input)
+{
+    unsigned low = byte(input);
+    return low + 256 * byte(input);
+}
+
+/* A table with guards, and what it was before the calls. */
+static uint8_t table_bytes[GUARDS + LARGEST_RAW + GUARDS], table_before[sizeof table_bytes];
+static size_t table_length;
+
+/* What a call is lent besides, once for the archive and once for the model. */
+struct loan {
+    uint8_t answer[GUARDS + LARGEST_ROOM + GUARDS];
+    uint16_t scratch[GUARDS + LARGEST_SCRATCH + GUARDS];
+    uint16_t list[GUARDS + LARGEST_LIST + GUARDS];
+    size_t written[3];
+};
+static struct loan before, by_archive, by_model;
+
+/* A call with its arguments. */
+struct call {
+    unsigned which;
+    uint32_t set;
+    uint16_t from, to;
+    size_t entries, numbers, room;
+};
+static const char *const names[] = {"check_table", "recovery_line", "line_of_set", "send", "save", "fall_back", "keep_sheet"};
+
+static uint32_t of_archive(const struct call *call, struct loan *loan)
+{
+    const uint8_t *table = table_bytes + GUARDS;
+    uint8_t *answer = loan->answer + GUARDS;
+    switch (call->which) {
+    case 0: return keeper_check_table(table, table_length);
+    case 1: return keeper_recovery_line(table, table_length, answer, call->room, &loan->written[1]);
+    case 2: return keeper_line_of_set(table, table_length, call->set, answer, call->room, &loan->written[1]);
+    case 3: return keeper_send(table, table_length, call->from, call->to, answer, call->room, &loan->written[1]);
+    case 4:
+        return keeper_save(table, table_length, call->from, loan->list + GUARDS, call->entries, answer, call->room,
+                           &loan->written[1]);
+    case 5: return keeper_fall_back(table, table_length, answer, call->room, &loan->written[1]);
+    default:
+        return keeper_keep_sheet(table, table_length, loan->scratch + GUARDS, call->numbers, answer, call->room,
+                                 &loan->written[1]);
+    }
+}
+
+static uint32_t of_model(const struct call *call, struct loan *loan)
+{
+    const uint8_t *table = table_bytes + GUARDS;
+    uint8_t *answer = loan->answer + GUARDS;
+    switch (call->which) {
+    case 0: return model_check_table(table, table_length);
+    case 1: return model_recovery_line(table, table_length, answer, call->room, &loan->written[1]);
+    case 2: return model_line_of_set(table, table_length, call->set, answer, call->room, &loan->written[1]);
+    case 3: return model_send(table, table_length, call->from, call->to, answer, call->room, &loan->written[1]);
+    case 4:
+        return model_save(table, table_length, call->from, loan->list + GUARDS, call->entries, answer, call->room,
+                          &loan->written[1]);
+    case 5: return model_fall_back(table, table_length, answer, call->room, &loan->written[1]);
+    default:
+        return model_keep_sheet(table, table_length, loan->scratch + GUARDS, call->numbers, answer, call->room,
+                                &loan->written[1]);
+    }
+}
+
+static void show_bytes(const char *what, const uint8_t *bytes, size_t length)
+{
+    printf("%s (%zu bytes):", what, length);
+    for (size_t at = 0; at < length; at++)
+        printf("%s%02x", at % 2 == 0 ? " " : "", bytes[at]);
+    printf("\n");
+}
+
+static _Noreturn void differ(const char *what, const struct call *call, uint32_t got, uint32_t expected)
+{
+    printf("difference: %s\n", what);
+    printf("call %s: set %#x, from or process %u, to %u, room %zu, scratch %zu, list of %zu:", names[call->which],
+           call->set, call->from, call->to, call->room, call->numbers, call->entries);
+    for (size_t at = 0; at < call->entries; at++)
+        printf(" %u", before.list[GUARDS + at]);
+    printf("\n");
+    show_bytes("table", table_before + GUARDS, table_length);
+    printf("archive: number %u, length %zu; model: number %u, length %zu; length before the call %zu\n", got,
+           by_archive.written[1], expected, by_model.written[1], before.written[1]);
+    show_bytes("answer buffer of the archive", by_archive.answer + GUARDS, call->room);
+    show_bytes("answer buffer of the model  ", by_model.answer + GUARDS, call->room);
+    fflush(stdout);
+    abort();
+}
+
+/* The bytes and numbers of a loan that a call may see, with their guards. */
+static bool same_loans(const struct call *call, const char **what)
+{
+    size_t room = GUARDS + call->room + GUARDS;
+    size_t numbers = sizeof(uint16_t) * (GUARDS + call->numbers + GUARDS);
+    size_t entries = sizeof(uint16_t) * (GUARDS + call->entries + GUARDS);
+    *what = "the answer buffer or its guards";
+    if (memcmp(by_archive.answer, by_model.answer, room) != 0)
+        return false;
+    *what = "the scratch or its guards";
+    if (memcmp(by_archive.scratch, by_model.scratch, numbers) != 0)
+        return false;
+    *what = "the list or its guards";
+    if (memcmp(by_archive.list, before.list, entries) != 0)
+        return false;
+    *what = "the length written or its guards";
+    return memcmp(by_archive.written, by_model.written, sizeof before.written) == 0;
+}
+
+static void copy_loan(struct loan *to, const struct call *call)
+{
+    memcpy(to->answer, before.answer, GUARDS + call->room + GUARDS);
+    memcpy(to->scratch, before.scratch, sizeof(uint16_t) * (GUARDS + call->numbers + GUARDS));
+    memcpy(to->list, before.list, sizeof(uint16_t) * (GUARDS + call->entries + GUARDS));
+    memcpy(to->written, before.written, sizeof before.written);
+}
+
+/* Makes the call of both and compares. The number returned. */
+static uint32_t compare(const struct call *call)
+{
+    const char *what;
+    copy_loan(&by_model, call);
+    copy_loan(&by_archive, call);
+    uint32_t expected = of_model(call, &by_model);
+    uint32_t got = of_archive(call, &by_archive);
+    if (got != expected)
+        differ("the returned number", call, got, expected);
+    if (!same_loans(call, &what))
+        differ(what, call, got, expected);
+    if (memcmp(table_bytes, table_before, GUARDS + table_length + GUARDS) != 0)
+        differ("the table or its guards were changed", call, got, expected);
+    calls_compared++;
+    return got;
+}
+
+/* What the buffers hold before a call: bytes that depend on the place. */
+static void fill_once(void)
+{
+    static bool filled;
+    if (filled)
+        return;
+    filled = true;
+    for (size_t at = 0; at < sizeof before.answer; at++)
+        before.answer[at] = (uint8_t)(at * 37 + 11);
+    for (size_t at = 0; at < sizeof before.scratch / sizeof before.scratch[0]; at++)
+        before.scratch[at] = (uint16_t)(at * 2503 + 40007);
+    for (size_t at = 0; at < 3; at++)
+        before.written[at] = 0x0123456789abcdef + at;
+}
+
+/* The length and the guards of the table are set, and it is kept for comparison. */
+static void table_is_set(size_t length)
+{
+    table_length = length;
+    memset(table_bytes, 0xC3, GUARDS);
+    memset(table_bytes + GUARDS + length, 0x3C, GUARDS);
+    memcpy(table_before, table_bytes, GUARDS + length + GUARDS);
+}
+
+static void set_number(size_t place, unsigned value)
+{
+    table_bytes[GUARDS + 2 * place] = (uint8_t)value;
+    table_bytes[GUARDS + 2 * place + 1] = (uint8_t)(value >> 8);
+}
+
+static unsigned get_number(size_t place)
+{
+    return table_bytes[GUARDS + 2 * place] + 256u * table_bytes[GUARDS + 2 * place + 1];
+}
+
+static size_t raw_table(struct input *input)
+{
+    size_t length = number(input);
+    size_t left = (size_t)(input->end - input->at);
+    if (length > left)
+        length = left;
+    if (length > LARGEST_RAW)
+        length = LARGEST_RAW;
+    memcpy(table_bytes + GUARDS, input->at, length);
+    input->at += length;
+    return length;
+}
+
+static size_t built_table(struct input *input, unsigned mode)
+{
+    unsigned shape = byte(input);
+    unsigned n = 1 + (shape < 192 ? shape % 4 : shape % 32);
+    unsigned given = byte(input) % 64;
+    unsigned m = given;
+    if (n == 1)
+        given = m = 0;
+    if (given > 0 && mode >= 240)
+        m = 4096 - byte(input) % 3;
+    set_number(0, n);
+    set_number(1, m);
+    for (unsigned p = 0; p < n; p++) {
+        unsigned low = byte(input);
+        set_number(2 + p, (mode & 2) != 0 ? 4096 - low % 3 : 1 + low % 40);
+    }
+    size_t sends = 2 + n, receipts = sends + 2 * (size_t)m;
+    for (unsigned k = 0; k < m; k++) {
+        unsigned j, y, i, r;
+        if (k < given) {
+            j = byte(input) % n;
+            i = (j + 1 + byte(input) % (n - 1)) % n;
+            y = byte(input);
+            r = byte(input);
+            /* Counts near the limit have their own high numbers. */
+            unsigned of_j = get_number(2 + j), of_i = get_number(2 + i);
+            y = (mode & 2) != 0 && y >= 128 ? of_j - 1 - (y - 128) : y % of_j;
+            r = (mode & 2) != 0 && r >= 128 ? of_i - 1 - (r - 128) : r % of_i;
+        } else {
+            j = get_number(sends + 2 * (size_t)(k - given));
+            y = get_number(sends + 2 * (size_t)(k - given) + 1);
+            i = get_number(receipts + 2 * (size_t)(k - given));
+            r = get_number(receipts + 2 * (size_t)(k - given) + 1);
+        }
+        set_number(sends + 2 * (size_t)k, j);
+        set_number(sends + 2 * (size_t)k + 1, y);
+        set_number(receipts + 2 * (size_t)k, i);
+        set_number(receipts + 2 * (size_t)k + 1, r);
+    }
+    size_t numbers = receipts + 2 * (size_t)m;
+    if ((mode & 4) != 0) {
+        size_t place = number(input) % numbers;
+        set_number(place, number(input));
+    }
+    size_t length = 2 * numbers;
+    if ((mode & 8) != 0)
+        length = byte(input) % 2 == 0 ? length + 1 : length - 1;
+    return length;
+}
+
+/* A list for a save: entries of the input, or the positions that wait for the process, all or every other,
+   perhaps with one of them changed. */
+static void make_list(struct input *input, struct call *call)
+{
+    unsigned kind = byte(input);
+    uint16_t *list = before.list + GUARDS;
+    size_t entries = 0;
+    size_t length = table_length;
+    size_t n = length >= 4 ? get_number(0) : 0, m = length >= 4 ? get_number(1) : 0;
+    if (kind % 2 == 0) {
+        entries = kind / 2 % 16;
+        for (size_t at = 0; at < entries; at++)
+            list[at] = (uint16_t)number(input);
+    } else if (length == 4 + 2 * n + 8 * m) {
+        size_t receipts = 2 + n + 2 * m, seen = 0;
+        for (size_t k = 0; k < m && entries < LARGEST_LIST; k++) {
+            bool waits = get_number(receipts + 2 * k) == call->from && get_number(receipts + 2 * k + 1) == 0;
+            if (waits && ((kind & 2) == 0 || seen++ % 2 == 0))
+                list[entries++] = (uint16_t)k;
+        }
+        if ((kind & 4) != 0 && entries > 0) {
+            size_t place = byte(input) % entries;
+            list[place] = (uint16_t)number(input);
+        }
+        if ((kind & 8) != 0 && entries > 1) {
+            size_t place = 1 + byte(input) % (entries - 1);
+            list[place] = list[place - 1];
+        }
+    }
+    call->entries = entries;
+    for (size_t at = 0; at < GUARDS; at++) {
+        before.list[at] = (uint16_t)(at * 7 + 50001);
+        list[entries + at] = (uint16_t)(at * 11 + 50101);
+    }
+}
+
+static void one_call(struct input *input)
+{
+    unsigned first = byte(input), lengths = byte(input);
+    struct call call = {.which = (first & 15) % 7};
+    size_t n = table_length >= 2 ? get_number(0) : 0;
+    n = n > 32 ? 32 : n;
+    if (call.which == 2) {
+        unsigned kind = byte(input);
+        call.set = kind % 2 == 0 ? kind / 2 : number(input) + 65536u * number(input);
+    }
+    if (call.which == 3 || call.which == 4) {
+        unsigned named = byte(input);
+        call.from = (uint16_t)(named == 255 ? number(input) : named % (n + 1));
+        named = call.which == 3 ? byte(input) : 0;
+        call.to = (uint16_t)(named == 255 ? number(input) : named % (n + 1));
+    }
+    if (call.which == 4)
+        make_list(input, &call);
+    if (call.which == 6) {
+        switch (lengths >> 5) {
+        case 0: call.numbers = n * n - (n > 0); break;
+        case 1: call.numbers = n * n + 1; break;
+        case 2: call.numbers = byte(input); break;
+        case 3: call.numbers = 1024 + byte(input) % 32; break;
+        default: call.numbers = n * n; break;
+        }
+    }
+    /* The length of the answer, as the model has it. */
+    struct call unbounded = call;
+    unbounded.room = LARGEST_ROOM;
+    memcpy(by_model.list, before.list, sizeof before.list);
+    size_t answer = of_model(&unbounded, &by_model) == 0 && call.which != 0 ? by_model.written[1] : 0;
+    switch (lengths & 7) {
+    case 0: call.room = answer > 0 ? answer - 1 : 0; break;
+    case 1: call.room = answer + 1 + byte(input) % 40; break;
+    case 2: call.room = 0; break;
+    case 3: call.room = byte(input); break;
+    case 4: call.room = answer > 0 ? number(input) % answer : 0; break;
+    default: call.room = answer; break;
+    }
+    uint32_t got = compare(&call);
+    bool step = call.which >= 3 && call.which <= 5;
+    if ((first & 128) != 0 && step && got == 0) {
+        memcpy(table_bytes + GUARDS, by_archive.answer + GUARDS, by_archive.written[1]);
+        table_is_set(by_archive.written[1]);
+    }
+}
+
+int LLVMFuzzerTestOneInput(const uint8_t *data, size_t size)
+{
+    struct input input = {data, data + size};
+    fill_once();
+    unsigned mode = byte(&input);
+    table_is_set((mode & 1) != 0 ? raw_table(&input) : built_table(&input, mode));
+    /* Fewer calls where the table is long. */
+    for (size_t work = 0; work < MOST_WORK && input.at < input.end; work += 2000 + table_length)
+        one_call(&input);
+    return 0;
+}
