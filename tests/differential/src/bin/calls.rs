@@ -9,7 +9,7 @@ use std::time::Instant;
 use differential::compare::{Call, Comparison, Difference};
 use differential::make;
 use reference::gen::{self, Order, Rng};
-use reference::{Outcome, Table};
+use reference::{Message, Outcome, Table};
 
 const CALLS: u64 = 250_000;
 const SEED: u64 = 20_260_101;
@@ -131,6 +131,90 @@ fn damages(comparison: &mut Comparison, seed: u64) -> Result<(), Box<Difference>
     Ok(())
 }
 
+/// Several refusals at once, which pins their order: small tables with and
+/// without a full count, a table full of messages, and damaged ones; each with
+/// arguments of every kind and with buffers that are enough or not.
+fn orders(comparison: &mut Comparison, seed: u64) -> Result<(), Box<Difference>> {
+    let rng = &mut Rng::new(seed);
+    let small = Table {
+        counts: vec![3, 2],
+        messages: vec![
+            Message::new((1, 0), (0, 0)),
+            Message::new((0, 2), (1, 0)),
+            Message::new((1, 1), (0, 2)),
+            Message::new((1, 1), (0, 0)),
+        ],
+    };
+    let mut full_count = small.clone();
+    full_count.counts[0] = 4_096;
+    let mut full_counts = small.clone();
+    full_counts.counts = vec![4_096; 2];
+    let mut full_of_messages = full_count.clone();
+    full_of_messages.messages = full_count.messages.repeat(1_024);
+    let mut tables: Vec<Vec<u8>> = [&small, &full_count, &full_counts, &full_of_messages]
+        .map(Table::to_bytes)
+        .to_vec();
+    for refusal in 1..=9 {
+        tables.extend(gen::damage(rng, &full_count.to_bytes(), refusal));
+    }
+    // Good for process 0, then a position of M and above, equal ones, falling
+    // ones, one of process 1, one that does not wait; and two faults at once.
+    let lists: [&[u16]; 13] = [
+        &[],
+        &[0],
+        &[3],
+        &[0, 3],
+        &[1],
+        &[4],
+        &[0, 4_096],
+        &[65_535],
+        &[0, 0],
+        &[3, 0],
+        &[0, 1, 3],
+        &[0, 2],
+        &[2, 1, 65_535],
+    ];
+    let named = [0, 1, 2, 3, 65_535];
+    for (number, table) in tables.iter().enumerate() {
+        let made_by = format!("orders, table {number}");
+        let room = usize::MAX;
+        let mut calls = vec![
+            Call::CheckTable,
+            Call::RecoveryLine { room },
+            Call::FallBack { room },
+        ];
+        for process in named {
+            for to in named {
+                let from = process;
+                calls.push(Call::Send { from, to, room });
+            }
+            for list in lists {
+                let list = list.to_vec();
+                calls.push(Call::Save {
+                    process,
+                    list,
+                    room,
+                });
+            }
+        }
+        for set in [0, 1, 2, 3, 4, 6, 7, 1 << 31, u32::MAX] {
+            calls.push(Call::LineOfSet { set, room });
+        }
+        for numbers in 0..=5 {
+            calls.push(Call::KeepSheet { numbers, room });
+        }
+        for call in &calls {
+            // In an exact buffer and one byte short, or, where a check before
+            // 16 catches, in an empty one; then in an empty and a long one.
+            exact_and_short(comparison, rng, &made_by, table, call)?;
+            for room in [0, table.len() + 20] {
+                comparison.call(rng, &made_by, table, &call.with_room(room))?;
+            }
+        }
+    }
+    Ok(())
+}
+
 /// A chain of steps in which each starts from the bytes that the library
 /// wrote. Lines and sheets now and then. How many steps were made.
 fn chain(comparison: &mut Comparison, seed: u64, steps: usize) -> Result<(), Box<Difference>> {
@@ -184,6 +268,8 @@ fn run(comparison: &mut Comparison, calls: u64, seed: u64) -> Result<(), Box<Dif
     part(comparison, "every truncation");
     damages(comparison, seed + 2)?;
     part(comparison, "damages and pairs of damages");
+    orders(comparison, seed + 3)?;
+    part(comparison, "several refusals at once");
     for number in 0..40 {
         chain(comparison, seed + 1_000 + number, 250)?;
     }

@@ -1,0 +1,63 @@
+#!/bin/sh
+# sh tests/differential/faults.sh [CALLS]
+#
+# Shows that the comparisons can fail. The model of the fuzzer (fuzz/model.c) stands in the library's place: as
+# it is, with which all must agree, and then with one fault of faults.txt at a time. The differential tests
+# (CALLS calls) must find each fault; what a small scope and the replay of the fuzzer's inputs say is printed
+# too. Needs gcc, cargo and the archives.
+set -u
+calls=${1:-60000}
+cd "$(dirname "$0")/../.." || exit 1
+work=$(pwd)/target/faults
+list=tests/differential/faults.txt
+test -f target/staticlib/librun_table.a || { echo "target/staticlib/librun_table.a is not there: make archives" >&2; exit 1; }
+mkdir -p "$work"
+rm -f "$work"/*.a "$work"/*.o "$work/faults.inc"
+cp target/staticlib/librun_table.a "$work/"
+
+# add NUMBER: the model in $work/model.c with the names of that fault.
+add() {
+    gcc -std=c11 -w -O2 -DPREFIX=fault$1_ -Ifuzz -c -o "$work/fault$1.o" "$work/model.c" || exit 1
+    echo "FAULT($1)" >>"$work/faults.inc"
+}
+
+cp fuzz/model.c "$work/model.c"
+add 0
+grep -v '^#' "$list" >"$work/faults.txt"
+number=0
+while IFS='|' read -r name edit; do
+    number=$((number + 1))
+    sed "$edit" fuzz/model.c >"$work/model.c"
+    if [ "$(diff fuzz/model.c "$work/model.c" | grep -c '^<')" != 1 ]; then
+        echo "fault '$name': the edit does not change one line" >&2
+        exit 1
+    fi
+    add $number
+done <"$work/faults.txt"
+gcc -std=c11 -Wall -Wextra -O2 -I"$work" -c -o "$work/faults.o" tests/differential/faults.c &&
+ar rcs "$work/libkeeper.a" "$work"/*.o &&
+(cd tests/differential && KEEPER_LIB_DIR=$work cargo --quiet build --release --target-dir "$work/cargo") &&
+gcc -std=c11 -O2 -o "$work/replay" fuzz/replay.c fuzz/target.c fuzz/model.c "$work/libkeeper.a" || exit 1
+
+# verdict COMMAND: a fault may make a call that never ends; that is found too.
+verdict() {
+    if timeout 60 "$@" >"$work/log" 2>&1; then echo agrees; else echo found; fi
+}
+
+FAULT=0 "$work/cargo/release/calls" "$calls" >"$work/log" || { cat "$work/log"; exit 1; }
+FAULT=0 "$work/replay" fuzz/corpus/* >"$work/log" || { cat "$work/log"; exit 1; }
+echo "with no fault: the model agrees with the second implementation ($calls calls)"
+missed=0
+number=0
+while IFS='|' read -r name edit; do
+    number=$((number + 1))
+    export FAULT=$number
+    by_scopes=$(verdict "$work/cargo/release/scopes" lines 3 2 2)
+    by_replay=$(verdict "$work/replay" fuzz/corpus/*)
+    by_calls=$(verdict "$work/cargo/release/calls" "$calls")
+    after=$(sed -n 's/^FAILED after \([0-9]*\) calls.*/\1/p' "$work/log")
+    echo "$name: calls: $by_calls${after:+ after $after}; scope lines 3 2 2: $by_scopes; replay: $by_replay"
+    test "$by_calls" = found || missed=$((missed + 1))
+done <"$work/faults.txt"
+echo "$number faults, $missed not found by the differential tests"
+test "$missed" -eq 0
