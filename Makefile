@@ -1,9 +1,13 @@
 # make list     the listing of a run table: make list TABLE=path, or of example A of the corpus
 # make test     everything that is checked; ends in `rt ci`, whose last line is the last line printed
+# make archives the static libraries: target/staticlib/libkeeper.a and librun_table.a
+# make differential-tests  the library beside the second implementation: CALLS=n for more calls, SCOPES=more for larger scopes
+# make fuzz     runs the fuzzer for FUZZ_SECONDS (60); needs clang
 # make check    proves what has changed and runs the test programs: quicker, and no verdict
 SHELL := /bin/sh
 .DEFAULT_GOAL := help
 .PHONY: help list program test check format reference-tests c-tests corpus-tests
+.PHONY: archives binding-tests differential-tests differential-faults fuzz fuzz-replay
 
 help:
 	@sed -n 's/^# \(make .*\)/\1/p' Makefile
@@ -25,7 +29,7 @@ program: need-rt
 	    { line[++n] = $$0 } \
 	    /^rt: .* proved \([0-9]/ { print >"/dev/stderr" }'
 
-test: need-rt need-gcc need-cargo format reference-tests c-tests corpus-tests
+test: need-rt need-gcc need-cargo format reference-tests c-tests corpus-tests binding-tests differential-tests fuzz-replay
 	@rt ci
 
 check: need-rt
@@ -58,3 +62,44 @@ c-tests: need-rt need-gcc
 # The listing program over the corpus of tables, whose listings are the second implementation's.
 corpus-tests: program
 	@sh tests/corpus/run.sh target/bin/listing
+
+# The archives that other programs link. `rt ci` removes target/, so what needs them runs before it.
+archives: need-rt
+	@mkdir -p target/tests
+	@for c in run_table keeper; do \
+	    rt staticlib $$c >target/tests/archive_$$c.log 2>&1 || { cat target/tests/archive_$$c.log; exit 1; }; \
+	    tail -n 1 target/tests/archive_$$c.log; \
+	done
+
+# The Rust binding: its doc tests on example A.
+binding-tests: archives need-cargo
+	@cd bindings/rust && $(CARGO) test --release --target-dir ../../target/cargo >../../target/tests/binding.log 2>&1 || { cat ../../target/tests/binding.log; exit 1; }
+	@awk '/^test result/ { n += $$4 } END { print n " tests of the Rust binding passed" }' target/tests/binding.log
+
+# Every call of the library beside the second implementation: tables by chance, at the limits, damaged, chains
+# of steps; then every table of small scopes. A difference prints the table, the call and both answers.
+CALLS =
+SEED =
+SCOPES =
+differential-tests: archives need-cargo
+	@cd tests/differential && $(CARGO) test --release --target-dir ../../target/cargo >../../target/tests/differential.log 2>&1 || { cat ../../target/tests/differential.log; exit 1; }
+	@cd tests/differential && $(CARGO) build --release --target-dir ../../target/cargo
+	@target/cargo/release/calls $(CALLS) $(SEED)
+	@target/cargo/release/scopes $(SCOPES)
+
+# Shows that these tests can fail: the faults of faults.txt in an implementation put in the library's place.
+differential-faults: archives need-cargo need-gcc
+	@sh tests/differential/faults.sh
+
+# The fuzzer's target, over the archive and a model in C. The inputs of fuzz/corpus are replayed without clang.
+FUZZ_SECONDS = 60
+FUZZ_SOURCES = fuzz/target.c fuzz/model.c target/staticlib/libkeeper.a
+fuzz-replay: archives need-gcc
+	@gcc -std=c11 -Wall -Wextra -Werror -O2 -o target/tests/fuzz_replay fuzz/replay.c $(FUZZ_SOURCES)
+	@target/tests/fuzz_replay fuzz/corpus/*
+
+fuzz: archives
+	@command -v clang >/dev/null 2>&1 || { echo "clang is missing: the fuzzer needs clang with libFuzzer (Debian: clang and libclang-rt-14-dev); make fuzz-replay needs gcc alone" >&2; exit 1; }
+	@mkdir -p target/fuzz/corpus
+	@clang -std=c11 -Wall -Wextra -g -O2 -fsanitize=fuzzer,address,undefined -fno-sanitize-recover=undefined -o target/fuzz/fuzz $(FUZZ_SOURCES) || { echo "clang can't build with -fsanitize=fuzzer: its runtime is missing (Debian: libclang-rt-14-dev)" >&2; exit 1; }
+	@target/fuzz/fuzz -max_total_time=$(FUZZ_SECONDS) -max_len=1500 -print_final_stats=1 -artifact_prefix=target/fuzz/ target/fuzz/corpus fuzz/corpus
