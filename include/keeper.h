@@ -1,0 +1,154 @@
+/* keeper.h: recovery lines, steps and keep sheets of checkpointed runs. Link libkeeper.a (-lkeeper);
+   nothing else is needed. Tables have the format that run_table.h describes.
+
+   What holds of every call:
+
+   Lent memory. Each table, list, scratch and answer buffer is a pointer and a length. The lengths of
+   tables and answer buffers count bytes, those of lists and scratches 16-bit numbers. Where a length is
+   0 its pointer may be NULL; where it is not, the pointer must point to that much. `written` is never
+   NULL. No two things lent to one call may overlap, `*written` included. Tables and answer buffers may
+   stand at any address; lists, scratches and `written` at one that suits their type. A call touches
+   nothing but what it is lent, and only reads tables and lists.
+
+   The number. A call returns KEEPER_OK, or the number of the first of its checks that catches. Checks
+   are in the order of their numbers, and each covers the whole table, or the whole list, before the
+   next begins. A table is accepted where none of 1 to 9 catches.
+
+   Success. The answer stands at the front of the answer buffer and its length in bytes in `*written`;
+   what lies beyond the answer in the buffer is unchanged. The numbers of an answer have 16 bits, low
+   byte first.
+
+   Refusal. Nothing lent is changed, neither `*written` nor the answer buffer, in any byte. There is one
+   exception, which stands at keeper_keep_sheet.
+
+   What a call returns and writes, that it touches nothing else and that it always returns: all this is
+   proved, for any contents and lengths, given that what is lent is there, does not overlap and is left
+   alone until the call returns. A call allocates nothing and keeps nothing from one call to the next, so
+   that several threads may call at once, each with memory of its own to write to. */
+#ifndef KEEPER_H
+#define KEEPER_H
+
+#include <stddef.h>
+#include <stdint.h>
+
+#ifdef __cplusplus
+extern "C" {
+#endif
+
+/* What a call returns. */
+enum keeper_refusal {
+    KEEPER_OK = 0,
+    /* Of the table, in every call: */
+    KEEPER_TABLE_TOO_SHORT = 1,            /* the table has fewer than 4 bytes */
+    KEEPER_PROCESSES_OUT_OF_RANGE = 2,     /* N is 0 or above 32 */
+    KEEPER_TOO_MANY_MESSAGES = 3,          /* M is above 4,096 */
+    KEEPER_WRONG_LENGTH = 4,               /* the length is not 4 + 2N + 8M */
+    KEEPER_COUNT_OUT_OF_RANGE = 5,         /* a count is 0 or above 4,096 */
+    KEEPER_UNKNOWN_PROCESS_IN_MESSAGE = 6, /* a sender or receiver is N or above */
+    KEEPER_MESSAGE_TO_ITS_SENDER = 7,      /* a message has the same sender and receiver */
+    KEEPER_SEND_NUMBER_TOO_HIGH = 8,       /* a send number is not below the sender's count */
+    KEEPER_RECEIPT_NUMBER_TOO_HIGH = 9,    /* a receipt number is not below the receiver's count */
+    /* Of the other arguments, on an accepted table: */
+    KEEPER_UNKNOWN_PROCESS = 10,           /* a process named in a send or save is N or above */
+    KEEPER_SEND_TO_ITSELF = 11,            /* a send names one process twice */
+    KEEPER_UNKNOWN_PROCESS_IN_SET = 12,    /* a set has a bit at N or above */
+    KEEPER_BAD_LIST = 13,                  /* a save's list has a position of M or above, or one that is
+                                              not above the one before it, or one of a message that does
+                                              not wait for the process */
+    KEEPER_TABLE_FULL = 14,                /* a send meets M = 4,096, or a save meets a count of 4,096 */
+    KEEPER_SCRATCH_TOO_SHORT = 15,         /* the scratch has fewer than N * N numbers */
+    KEEPER_ANSWER_TOO_SHORT = 16           /* the answer buffer is shorter than the answer */
+};
+
+/* The limits of a table. */
+#define KEEPER_MOST_PROCESSES 32
+#define KEEPER_MOST_MESSAGES 4096
+#define KEEPER_MOST_CHECKPOINTS 4096
+
+/* Room that is enough for every table, so that check 15 or 16 never catches. */
+#define KEEPER_LARGEST_TABLE 32836  /* bytes: the answer of a step */
+#define KEEPER_LARGEST_LINE 64      /* bytes: a line */
+#define KEEPER_SCRATCH_NUMBERS 1024 /* 16-bit numbers: the scratch of a keep sheet */
+#define KEEPER_SHEET_ROOM 12292     /* bytes: a keep sheet, of at most 1,024 checkpoints and 4,096 messages */
+
+/* Exact sizes, for n processes, m messages, k kept checkpoints and q kept messages: in bytes, but
+   KEEPER_SCRATCH_SIZE in 16-bit numbers. They are constants where their arguments are. */
+#define KEEPER_TABLE_SIZE(n, m) (4 + 2 * (size_t)(n) + 8 * (size_t)(m))
+#define KEEPER_LINE_SIZE(n) (2 * (size_t)(n))
+#define KEEPER_SCRATCH_SIZE(n) ((size_t)(n) * (size_t)(n))
+#define KEEPER_SHEET_SIZE(k, q) (4 + 4 * (size_t)(k) + 2 * (size_t)(q))
+
+/* The refusal of a table. Checks 1 to 9. Nothing is written. */
+uint32_t keeper_check_table(const uint8_t *table, size_t length);
+
+/* Lines. A line is one number for each process: that of one of its checkpoints, or its count, which
+   stands for what the process has become since its last one. A message sent after checkpoint y of j and
+   received before checkpoint r of i (r not 0) is an orphan of a line where y is at or above the line at
+   j and r at or below the line at i: received before the line, sent after it. A line without orphans is
+   consistent. Of the consistent lines under a ceiling one is the latest, at every process. */
+
+/* The recovery line of the run: the latest consistent line at whose every process stands a checkpoint
+   that the table has. Checks 1 to 9, 16. The answer is N numbers by process, 2N bytes. */
+uint32_t keeper_recovery_line(const uint8_t *table, size_t length, uint8_t *answer, size_t room,
+                              size_t *written);
+
+/* The line of a set of processes that hold (take no checkpoint now), process p being bit p of `set`:
+   the latest consistent line with no holding process above its last checkpoint; the others may stand at
+   their counts. For the set of all N it is the recovery line, for the empty one it is the counts.
+   Checks 1 to 9, 12, 16. The answer is N numbers by process, 2N bytes. */
+uint32_t keeper_line_of_set(const uint8_t *table, size_t length, uint32_t set, uint8_t *answer,
+                            size_t room, size_t *written);
+
+/* Steps. The answer of each is an accepted table again. It is written to another buffer than the table
+   is read from. */
+
+/* The table after a send: one message more, at position M, sent by `from` at its latest checkpoint (its
+   count less one) and waiting for `to`. Checks 1 to 9, 10, 11, 14, 16. The answer has 8 bytes more than
+   the table. */
+uint32_t keeper_send(const uint8_t *table, size_t length, uint16_t from, uint16_t to, uint8_t *answer,
+                     size_t room, size_t *written);
+
+/* The table after a save: `process` takes a checkpoint, having received the messages at the listed
+   positions. Their receipt number becomes its old count, and its count grows by one. The list has
+   `list_length` positions, strictly rising, each of a message that waits for the process; it may be
+   empty, and then NULL. Checks 1 to 9, 10, 13, 14, 16. The answer is as long as the table. */
+uint32_t keeper_save(const uint8_t *table, size_t length, uint16_t process, const uint16_t *list,
+                     size_t list_length, uint8_t *answer, size_t room, size_t *written);
+
+/* The table after the run has fallen back to its recovery line L: each count becomes L + 1; a message
+   stays where its send number is below L at its sender, and if its receipt number is above L at its
+   receiver it waits again. Those that stay keep their order and move up. Checks 1 to 9, 16. The answer
+   is as long as the table or shorter, by 8 bytes for each message that goes. */
+uint32_t keeper_fall_back(const uint8_t *table, size_t length, uint8_t *answer, size_t room,
+                          size_t *written);
+
+/* The keep sheet: the checkpoints and messages whose contents must be kept, since some future of the run
+   (any list of sends, saves and fall backs) needs them; the contents of all others can be discarded. No
+   entry of the table may be dropped for that.
+
+   What is kept comes from the N lines with one holding process each. Checkpoint c of i is kept where it
+   exists and one of these lines has c at i. A message is kept where it is waiting, and where its send
+   number is below one of these lines at its sender and its receipt number above that line at its
+   receiver.
+
+   Checks 1 to 9, 15, 16. The answer has 4 + 4K + 2Q bytes:
+
+       bytes from      what
+       0               K, the number of kept checkpoints
+       2               Q, the number of kept messages
+       4               K processes
+       4 + 2K          K checkpoint numbers, parallel to the processes; by process and then by number,
+                       none twice
+       4 + 4K          Q positions of messages, rising
+
+   Under KEEPER_OK, and under KEEPER_ANSWER_TOO_SHORT too, the first N * N numbers of the scratch are the
+   N lines, N numbers each, that of holding process 0 first, as numbers of this machine. Under any other
+   refusal, and beyond N * N always, the scratch is unchanged. `numbers` counts its 16-bit numbers. */
+uint32_t keeper_keep_sheet(const uint8_t *table, size_t length, uint16_t *scratch, size_t numbers,
+                           uint8_t *answer, size_t room, size_t *written);
+
+#ifdef __cplusplus
+}
+#endif
+
+#endif

@@ -1,0 +1,86 @@
+/* run_table.h: the reader of run tables. Link librun_table.a (-lrun_table); nothing else is needed.
+
+   A run table describes a run of N processes that take checkpoints and send each other messages. It is
+   made of unsigned 16-bit numbers, low byte first:
+
+       bytes from      what
+       0               N, the number of processes, 1 to 32
+       2               M, the number of messages, 0 to 4,096
+       4               N counts: how many checkpoints each process has, 1 to 4,096. They are numbered
+                       from 0, so checkpoint c exists where c is below the count
+       4 + 2N          M sends: the sender, and the number of its latest checkpoint before sending
+       4 + 2N + 4M     M receipts: the receiver, and the number of its first checkpoint after receiving;
+                       0 says that the message is waiting: not received yet, or only since the
+                       receiver's latest checkpoint
+
+   A table has exactly 4 + 2N + 8M bytes. Message k is entry k of sends and receipts; k, from 0, is its
+   position. Two equal entries are two messages.
+
+   What holds of every call: the table is `length` bytes at `table`, which may stand at any address and
+   may be NULL where the length is 0. Any bytes may be given. The call reads nothing else, writes nothing
+   and always returns: proved, as is the number that it returns, given that the pointer and the length
+   are right. It keeps nothing from one call to the next, so that several threads may call at once. */
+#ifndef RUN_TABLE_H
+#define RUN_TABLE_H
+
+#include <stddef.h>
+#include <stdint.h>
+
+#ifdef __cplusplus
+extern "C" {
+#endif
+
+/* The limits, and the bytes of a table with n processes and m messages. */
+#define RUN_TABLE_MOST_PROCESSES 32
+#define RUN_TABLE_MOST_MESSAGES 4096
+#define RUN_TABLE_MOST_CHECKPOINTS 4096
+#define RUN_TABLE_LARGEST 32836
+#define RUN_TABLE_SIZE(n, m) (4 + 2 * (size_t)(n) + 8 * (size_t)(m))
+
+/* The checks of a table, in their order; the keeper's calls answer the same numbers. */
+enum run_table_refusal {
+    RUN_TABLE_OK = 0,
+    RUN_TABLE_TOO_SHORT = 1,                  /* the table has fewer than 4 bytes */
+    RUN_TABLE_PROCESSES_OUT_OF_RANGE = 2,     /* N is 0 or above 32 */
+    RUN_TABLE_TOO_MANY_MESSAGES = 3,          /* M is above 4,096 */
+    RUN_TABLE_WRONG_LENGTH = 4,               /* the length is not 4 + 2N + 8M */
+    RUN_TABLE_COUNT_OUT_OF_RANGE = 5,         /* a count is 0 or above 4,096 */
+    RUN_TABLE_UNKNOWN_PROCESS_IN_MESSAGE = 6, /* a sender or receiver is N or above */
+    RUN_TABLE_MESSAGE_TO_ITS_SENDER = 7,      /* a message has the same sender and receiver */
+    RUN_TABLE_SEND_NUMBER_TOO_HIGH = 8,       /* a send number is not below the sender's count */
+    RUN_TABLE_RECEIPT_NUMBER_TOO_HIGH = 9     /* a receipt number is not below the receiver's count */
+};
+
+/* The number of the first check that catches, 1 to 9, or RUN_TABLE_OK where none does: the table is
+   accepted. A check covers the whole table before the next begins. */
+uint32_t run_table_check(const uint8_t *table, size_t length);
+
+/* The lookups answer for a refused table too: each byte beyond the end is read as 0, N and M are what
+   then stands in their places, whatever their size, and the parts follow from these two. */
+
+/* N. */
+uint16_t run_table_processes(const uint8_t *table, size_t length);
+
+/* M. */
+uint16_t run_table_messages(const uint8_t *table, size_t length);
+
+/* The count of process p; 0 where p is N or above. */
+uint16_t run_table_count(const uint8_t *table, size_t length, size_t p);
+
+/* Of message k; 0 where k is M or above: its sender, */
+uint16_t run_table_sender(const uint8_t *table, size_t length, size_t k);
+
+/* the number of the sender's latest checkpoint before sending it, */
+uint16_t run_table_sent(const uint8_t *table, size_t length, size_t k);
+
+/* its receiver, */
+uint16_t run_table_receiver(const uint8_t *table, size_t length, size_t k);
+
+/* and the number of the receiver's first checkpoint after receiving it; 0 while it is waiting. */
+uint16_t run_table_received(const uint8_t *table, size_t length, size_t k);
+
+#ifdef __cplusplus
+}
+#endif
+
+#endif
