@@ -1,64 +1,105 @@
-/* Links librun_table.a alone and calls each of its functions on example A, with guard bytes round the
-   table. A `&[u8]` passes as a pointer and a length. */
-#include <stdint.h>
-#include <stdio.h>
-#include <string.h>
+/* Links librun_table.a alone and calls each of its functions, on example A and on refused tables, with
+   guard bytes round the table. C and C++. */
+#include "run_table.h"
 
-uint32_t run_table_check(const uint8_t *table, size_t length);
-uint16_t run_table_processes(const uint8_t *table, size_t length);
-uint16_t run_table_messages(const uint8_t *table, size_t length);
-uint16_t run_table_count(const uint8_t *table, size_t length, size_t p);
-uint16_t run_table_sender(const uint8_t *table, size_t length, size_t k);
-uint16_t run_table_sent(const uint8_t *table, size_t length, size_t k);
-uint16_t run_table_receiver(const uint8_t *table, size_t length, size_t k);
-uint16_t run_table_received(const uint8_t *table, size_t length, size_t k);
+#include "tables.h"
+
+#include <stdio.h>
 
 static int failures;
 
-static void same(const char *what, unsigned got, unsigned expected)
+static void same(const char *what, unsigned long got, unsigned long expected)
 {
     if (got != expected) {
-        printf("run_table_link: %s: got %u, expected %u\n", what, got, expected);
+        printf("run_table_link: %s: got %lu, expected %lu\n", what, got, expected);
         failures++;
     }
 }
 
-/* N = 2, M = 5, counts 3 3; then the sends, then the receipts. */
-static const uint16_t example_a[24] = {
-    2, 5, 3, 3,
-    0, 0, 1, 0, 1, 1, 0, 2, 1, 2,
-    1, 2, 0, 1, 0, 2, 1, 2, 0, 0,
-};
+static void sizes(void)
+{
+    same("RUN_TABLE_OK", RUN_TABLE_OK, 0);
+    same("RUN_TABLE_TOO_SHORT", RUN_TABLE_TOO_SHORT, 1);
+    same("RUN_TABLE_PROCESSES_OUT_OF_RANGE", RUN_TABLE_PROCESSES_OUT_OF_RANGE, 2);
+    same("RUN_TABLE_TOO_MANY_MESSAGES", RUN_TABLE_TOO_MANY_MESSAGES, 3);
+    same("RUN_TABLE_WRONG_LENGTH", RUN_TABLE_WRONG_LENGTH, 4);
+    same("RUN_TABLE_COUNT_OUT_OF_RANGE", RUN_TABLE_COUNT_OUT_OF_RANGE, 5);
+    same("RUN_TABLE_UNKNOWN_PROCESS_IN_MESSAGE", RUN_TABLE_UNKNOWN_PROCESS_IN_MESSAGE, 6);
+    same("RUN_TABLE_MESSAGE_TO_ITS_SENDER", RUN_TABLE_MESSAGE_TO_ITS_SENDER, 7);
+    same("RUN_TABLE_SEND_NUMBER_TOO_HIGH", RUN_TABLE_SEND_NUMBER_TOO_HIGH, 8);
+    same("RUN_TABLE_RECEIPT_NUMBER_TOO_HIGH", RUN_TABLE_RECEIPT_NUMBER_TOO_HIGH, 9);
+    same("RUN_TABLE_MOST_PROCESSES", RUN_TABLE_MOST_PROCESSES, 32);
+    same("RUN_TABLE_MOST_MESSAGES", RUN_TABLE_MOST_MESSAGES, 4096);
+    same("RUN_TABLE_MOST_CHECKPOINTS", RUN_TABLE_MOST_CHECKPOINTS, 4096);
+    same("RUN_TABLE_LARGEST", RUN_TABLE_LARGEST, 4 + 2 * 32 + 8 * 4096);
+    same("RUN_TABLE_SIZE", RUN_TABLE_SIZE(1 + 1, 2 + 3), A_SIZE);
+    same("RUN_TABLE_SIZE of the limits", RUN_TABLE_SIZE(RUN_TABLE_MOST_PROCESSES, RUN_TABLE_MOST_MESSAGES),
+         RUN_TABLE_LARGEST);
+}
+
+/* Every function on the bytes, and N, M and the first number of each kind against those expected. */
+static void no_table(const uint8_t *table, size_t length, unsigned n, unsigned m)
+{
+    same("N of no table", run_table_processes(table, length), n);
+    same("M of no table", run_table_messages(table, length), m);
+    same("count of no table", run_table_count(table, length, 0), 0);
+    same("sender of no table", run_table_sender(table, length, 0), 0);
+    same("sent of no table", run_table_sent(table, length, 0), 0);
+    same("receiver of no table", run_table_receiver(table, length, 0), 0);
+    same("received of no table", run_table_received(table, length, 0), 0);
+}
 
 int main(void)
 {
-    uint8_t bytes[16 + 48 + 16];
-    uint8_t *table = bytes + 16;
+    uint8_t bytes[17 + 64 + 16], kept[64];
+    uint8_t *table = bytes + 17;
+    size_t i, k;
     memset(bytes, 0xA5, sizeof bytes);
-    for (int i = 0; i < 24; i++) {
-        table[2 * i] = (uint8_t)(example_a[i] & 0xFF);
-        table[2 * i + 1] = (uint8_t)(example_a[i] >> 8);
-    }
-    same("check", run_table_check(table, 48), 0);
-    same("check of 47 bytes", run_table_check(table, 47), 4);
-    same("check of 49 bytes", run_table_check(table, 49), 4);
-    same("check of no bytes", run_table_check(table, 0), 1);
+    memset(kept, 0xA5, sizeof kept);
+    put_numbers(table, example_a, A_NUMBERS);
+    put_numbers(kept, example_a, A_NUMBERS);
+    sizes();
+    same("check", run_table_check(table, 48), RUN_TABLE_OK);
     same("processes", run_table_processes(table, 48), 2);
     same("messages", run_table_messages(table, 48), 5);
+    same("count 0", run_table_count(table, 48, 0), 3);
     same("count 1", run_table_count(table, 48, 1), 3);
     same("count 2", run_table_count(table, 48, 2), 0);
     same("count far beyond", run_table_count(table, 48, SIZE_MAX), 0);
-    for (size_t k = 0; k < 5; k++) {
+    for (k = 0; k < 5; k++) {
         same("sender", run_table_sender(table, 48, k), example_a[4 + 2 * k]);
         same("sent", run_table_sent(table, 48, k), example_a[4 + 2 * k + 1]);
         same("receiver", run_table_receiver(table, 48, k), example_a[14 + 2 * k]);
         same("received", run_table_received(table, 48, k), example_a[14 + 2 * k + 1]);
     }
-    same("sender 5", run_table_sender(table, 48, 5), 0);
-    same("received far beyond", run_table_received(table, 48, SIZE_MAX), 0);
-    for (int i = 0; i < 16; i++) {
+    for (k = 5; k < 8; k++) {
+        size_t beyond = k == 7 ? SIZE_MAX : k;
+        same("sender beyond", run_table_sender(table, 48, beyond), 0);
+        same("sent beyond", run_table_sent(table, 48, beyond), 0);
+        same("receiver beyond", run_table_receiver(table, 48, beyond), 0);
+        same("received beyond", run_table_received(table, 48, beyond), 0);
+    }
+    /* Cut in the middle of the last receipt: what stands beyond the end is 0, 0xA5 there or not. */
+    same("receiver of 45 bytes", run_table_receiver(table, 45, 4), 0);
+    same("sent of 27 bytes", run_table_sent(table, 27, 4), 2);
+    same("sent of 26 bytes", run_table_sent(table, 26, 4), 0);
+    no_table(table, 0, 0, 0);
+    no_table(NULL, 0, 0, 0);
+    no_table(table, 3, 2, 5);
+    same("memory", memcmp(table, kept, 64) != 0, 0);
+    for (i = 0; i < REFUSED_TABLES; i++) {
+        size_t length = put_refused(kept, &refused_tables[i]);
+        memset(table, 0xA5, 64);
+        memcpy(table, kept, length);
+        memset(kept + length, 0xA5, 64 - length);
+        same(refused_tables[i].what, run_table_check(table, length), refused_tables[i].refusal);
+        if (length == 0)
+            same("NULL", run_table_check(NULL, 0), RUN_TABLE_TOO_SHORT);
+        same("memory of a refused table", memcmp(table, kept, 64) != 0, 0);
+    }
+    for (i = 0; i < 16; i++) {
         same("guard before", bytes[i], 0xA5);
-        same("guard after", bytes[16 + 48 + i], 0xA5);
+        same("guard after", bytes[17 + 64 + i], 0xA5);
     }
     if (failures == 0)
         printf("run_table_link: ok\n");

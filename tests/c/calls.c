@@ -1,0 +1,536 @@
+/* Calls every function of libkeeper.a and liblisting_text.a and compares what each returns and all that
+   it was lent, before and after, with what the headers say. Every buffer stands between guard bytes.
+   C and C++. */
+#include "keeper.h"
+#include "listing_text.h"
+
+#include "tables.h"
+
+#include <stdio.h>
+#include <stdlib.h>
+
+static int failures;
+static unsigned long asked;
+
+static void failed(const char *what, const char *how)
+{
+    printf("calls: %s: %s\n", what, how);
+    failures++;
+}
+
+static void same(const char *what, unsigned long got, unsigned long expected)
+{
+    if (got != expected) {
+        printf("calls: %s: got %lu, expected %lu\n", what, got, expected);
+        failures++;
+    }
+}
+
+/* ---- lent memory: `size` bytes between guards; odd places are at an odd address */
+#define GUARD 64
+
+struct lent {
+    uint8_t *all;
+    uint8_t *at;
+    size_t size;
+    uint8_t fill;
+};
+
+static struct lent lend(const void *contents, size_t size, size_t odd, uint8_t fill)
+{
+    struct lent l;
+    l.all = (uint8_t *)malloc(GUARD + odd + size + GUARD);
+    if (l.all == NULL) {
+        printf("calls: no memory\n");
+        exit(2);
+    }
+    l.at = l.all + GUARD + odd;
+    l.size = size;
+    l.fill = fill;
+    memset(l.all, fill, GUARD + odd + size + GUARD);
+    if (contents != NULL && size > 0)
+        memcpy(l.at, contents, size);
+    return l;
+}
+
+/* Whether the memory holds `count` bytes of these contents, the fill beyond them, and its guards. */
+static int holds(const struct lent *l, const void *contents, size_t count)
+{
+    const uint8_t *p;
+    if (count > l->size || (count > 0 && memcmp(l->at, contents, count) != 0))
+        return 0;
+    for (p = l->all; p < l->at; p++)
+        if (*p != l->fill)
+            return 0;
+    for (p = l->at + count; p < l->at + l->size + GUARD; p++)
+        if (*p != l->fill)
+            return 0;
+    return 1;
+}
+
+/* ---- one call */
+enum call { CHECK_TABLE, RECOVERY_LINE, LINE_OF_SET, SEND, SAVE, FALL_BACK, KEEP_SHEET, LISTING };
+
+static const char *const names[] = {
+    "keeper_check_table", "keeper_recovery_line", "keeper_line_of_set", "keeper_send",
+    "keeper_save", "keeper_fall_back", "keeper_keep_sheet", "keeper_listing",
+};
+
+struct question {
+    enum call call;
+    const uint8_t *table;
+    size_t length;
+    uint32_t set;
+    uint16_t from; /* a save's process too */
+    uint16_t to;
+    const uint16_t *list;
+    size_t list_length;
+    size_t numbers;
+    size_t room;
+};
+
+/* What must come back: on KEEPER_OK the bytes; and the lines where the scratch holds them. */
+struct answer {
+    uint32_t number;
+    const uint8_t *bytes;
+    size_t size;
+    const uint16_t *lines;
+    size_t line_numbers;
+};
+
+static uint32_t call(const struct question *q, uint8_t *table, uint16_t *list, uint16_t *scratch, uint8_t *answer,
+                     size_t *written)
+{
+    switch (q->call) {
+    case CHECK_TABLE:
+        return keeper_check_table(table, q->length);
+    case RECOVERY_LINE:
+        return keeper_recovery_line(table, q->length, answer, q->room, written);
+    case LINE_OF_SET:
+        return keeper_line_of_set(table, q->length, q->set, answer, q->room, written);
+    case SEND:
+        return keeper_send(table, q->length, q->from, q->to, answer, q->room, written);
+    case SAVE:
+        return keeper_save(table, q->length, q->from, list, q->list_length, answer, q->room, written);
+    case FALL_BACK:
+        return keeper_fall_back(table, q->length, answer, q->room, written);
+    case KEEP_SHEET:
+        return keeper_keep_sheet(table, q->length, scratch, q->numbers, answer, q->room, written);
+    case LISTING:
+        return keeper_listing(table, q->length, answer, q->room, written);
+    }
+    return 99;
+}
+
+/* A pointer to the memory, or NULL where it is empty and that is asked for. */
+static uint8_t *pointer(const struct lent *l, int null)
+{
+    return null && l->size == 0 ? NULL : l->at;
+}
+
+/* Asks once; empty memory is NULL or not, and `fill` is what stands in all that the call might write. */
+static void ask_once(const char *what, const struct question *q, const struct answer *a, uint8_t fill, int null)
+{
+    struct lent table = lend(q->table, q->length, 1, fill);
+    struct lent list = lend(q->list, 2 * q->list_length, 0, fill);
+    struct lent scratch = lend(NULL, 2 * q->numbers, 0, fill);
+    struct lent answer = lend(NULL, q->room, 1, fill);
+    struct lent written = lend(NULL, sizeof(size_t), 0, fill);
+    int ok = a->number == KEEPER_OK && q->call != CHECK_TABLE;
+    int lines = q->call == KEEP_SHEET && (a->number == KEEPER_OK || a->number == KEEPER_ANSWER_TOO_SHORT);
+    char where[200];
+    uint32_t number = call(q, pointer(&table, null), (uint16_t *)(void *)pointer(&list, null),
+                           (uint16_t *)(void *)pointer(&scratch, null), pointer(&answer, null),
+                           (size_t *)(void *)written.at);
+    asked++;
+    snprintf(where, sizeof where, "%s: %s, room %lu", names[q->call], what, (unsigned long)q->room);
+    same(where, number, a->number);
+    if (!holds(&table, q->table, q->length))
+        failed(where, "the table was changed, or its guards");
+    if (!holds(&list, q->list, 2 * q->list_length))
+        failed(where, "the list was changed, or its guards");
+    if (!holds(&scratch, a->lines, lines ? 2 * a->line_numbers : 0))
+        failed(where, "the scratch does not hold what it should, or its guards were changed");
+    if (!holds(&answer, a->bytes, ok ? a->size : 0))
+        failed(where, "the answer buffer does not hold what it should, or its guards were changed");
+    if (!holds(&written, &a->size, ok ? sizeof(size_t) : 0))
+        failed(where, "*written is not what it should be, or its guards were changed");
+    free(table.all);
+    free(list.all);
+    free(scratch.all);
+    free(answer.all);
+    free(written.all);
+}
+
+static void ask(const char *what, const struct question *q, const struct answer *a)
+{
+    ask_once(what, q, a, 0xA5, 0);
+    ask_once(what, q, a, 0x5A, 1);
+}
+
+/* A refusal, which changes nothing; for a keep sheet under 16, `ask` with the lines. */
+static void refuses(const char *what, const struct question *q, uint32_t number)
+{
+    struct answer a = { number, NULL, 0, NULL, 0 };
+    ask(what, q, &a);
+}
+
+/* A question that succeeds: with room that is exact, one byte more and much more; and 16 with one byte
+   less and with none. A scratch is exact, one number more, one less and none. */
+static void answers(const char *what, struct question q, struct answer a)
+{
+    struct answer sixteen = a;
+    sixteen.number = KEEPER_ANSWER_TOO_SHORT;
+    if (q.call == KEEP_SHEET) {
+        q.numbers = a.line_numbers - 1;
+        q.room = a.size;
+        refuses(what, &q, KEEPER_SCRATCH_TOO_SHORT);
+        q.room = 0;
+        refuses(what, &q, KEEPER_SCRATCH_TOO_SHORT);
+        q.numbers = 0;
+        refuses(what, &q, KEEPER_SCRATCH_TOO_SHORT);
+        q.numbers = a.line_numbers + 1;
+        q.room = a.size;
+        ask(what, &q, &a);
+        q.numbers = a.line_numbers;
+    }
+    q.room = a.size;
+    ask(what, &q, &a);
+    q.room = a.size + 1;
+    ask(what, &q, &a);
+    q.room = a.size + 5000;
+    ask(what, &q, &a);
+    q.room = a.size - 1;
+    ask(what, &q, &sixteen);
+    q.room = a.size / 2;
+    ask(what, &q, &sixteen);
+    q.room = 0;
+    ask(what, &q, &sixteen);
+}
+
+static struct question about(enum call call, const uint8_t *table, size_t length)
+{
+    struct question q = { call, table, length, 0, 0, 1, NULL, 0, KEEPER_SCRATCH_NUMBERS, KEEPER_LISTING_ROOM };
+    return q;
+}
+
+/* ---- example A */
+static uint8_t a_bytes[A_SIZE];
+
+static void of_numbers(const char *what, struct question q, const uint16_t *numbers, size_t count)
+{
+    uint8_t bytes[128];
+    struct answer a = { KEEPER_OK, bytes, 0, NULL, 0 };
+    a.size = put_numbers(bytes, numbers, count);
+    answers(what, q, a);
+}
+
+static void example_a_lines(void)
+{
+    static const uint16_t line[] = { 1, 1 }, hold_0[] = { 1, 1 }, hold_1[] = { 3, 2 }, counts[] = { 3, 3 };
+    struct question q = about(RECOVERY_LINE, a_bytes, A_SIZE);
+    of_numbers("A", q, line, 2);
+    q.call = LINE_OF_SET;
+    of_numbers("A, nobody holds", q, counts, 2);
+    q.set = 1;
+    of_numbers("A, 0 holds", q, hold_0, 2);
+    q.set = 2;
+    of_numbers("A, 1 holds", q, hold_1, 2);
+    q.set = 3;
+    of_numbers("A, both hold", q, line, 2);
+    for (q.room = 0; q.room <= 4; q.room += 4) {
+        q.set = 4;
+        refuses("A, bit 2", &q, KEEPER_UNKNOWN_PROCESS_IN_SET);
+        q.set = 7;
+        refuses("A, bits 0 to 2", &q, KEEPER_UNKNOWN_PROCESS_IN_SET);
+        q.set = 0x80000000u;
+        refuses("A, bit 31", &q, KEEPER_UNKNOWN_PROCESS_IN_SET);
+        q.set = 0x00010001u;
+        refuses("A, bits 0 and 16", &q, KEEPER_UNKNOWN_PROCESS_IN_SET);
+    }
+}
+
+static void example_a_steps(void)
+{
+    static const uint16_t sent[] = { 2, 6, 3, 3, 0, 0, 1, 0, 1, 1, 0, 2, 1, 2, 0, 2,
+                                     1, 2, 0, 1, 0, 2, 1, 2, 0, 0, 1, 0 };
+    static const uint16_t saved_0[] = { 2, 5, 4, 3, 0, 0, 1, 0, 1, 1, 0, 2, 1, 2, 1, 2, 0, 1, 0, 2, 1, 2, 0, 3 };
+    static const uint16_t saved_1[] = { 2, 5, 3, 4, 0, 0, 1, 0, 1, 1, 0, 2, 1, 2, 1, 2, 0, 1, 0, 2, 1, 2, 0, 0 };
+    static const uint16_t fallen[] = { 2, 2, 2, 2, 0, 0, 1, 0, 1, 0, 0, 1 };
+    static const uint16_t four[] = { 4 }, twice[] = { 4, 4 }, falling[] = { 4, 3 }, beyond[] = { 5 }, far[] = { 4, 65535 },
+                          received[] = { 0 };
+    struct question q = about(SEND, a_bytes, A_SIZE);
+    of_numbers("A, 0 to 1", q, sent, 28);
+    q.call = FALL_BACK;
+    of_numbers("A", q, fallen, 12);
+    q.call = SAVE;
+    q.from = 1;
+    of_numbers("A, 1 with no list", q, saved_1, 24);
+    q.from = 0;
+    q.list = four;
+    q.list_length = 1;
+    of_numbers("A, 0 with message 4", q, saved_0, 24);
+    for (q.room = 0; q.room <= 64; q.room += 64) {
+        q.call = SEND;
+        q.from = 2, q.to = 0;
+        refuses("A, 2 to 0", &q, KEEPER_UNKNOWN_PROCESS);
+        q.from = 0, q.to = 2;
+        refuses("A, 0 to 2", &q, KEEPER_UNKNOWN_PROCESS);
+        q.from = 2, q.to = 2;
+        refuses("A, 2 to 2", &q, KEEPER_UNKNOWN_PROCESS);
+        q.from = 256, q.to = 65535;
+        refuses("A, 256 to 65535", &q, KEEPER_UNKNOWN_PROCESS);
+        q.from = 1, q.to = 1;
+        refuses("A, 1 to 1", &q, KEEPER_SEND_TO_ITSELF);
+        q.call = SAVE;
+        q.from = 2, q.list = four, q.list_length = 1;
+        refuses("A, 2", &q, KEEPER_UNKNOWN_PROCESS);
+        q.from = 65535, q.list = beyond;
+        refuses("A, 65535", &q, KEEPER_UNKNOWN_PROCESS);
+        q.from = 1, q.list = four;
+        refuses("A, message 4 waits for 0", &q, KEEPER_BAD_LIST);
+        q.from = 0, q.list = beyond;
+        refuses("A, position 5", &q, KEEPER_BAD_LIST);
+        q.list = received;
+        q.from = 1;
+        refuses("A, message 0 is received", &q, KEEPER_BAD_LIST);
+        q.from = 0, q.list = twice, q.list_length = 2;
+        refuses("A, message 4 twice", &q, KEEPER_BAD_LIST);
+        q.list = falling;
+        refuses("A, falling", &q, KEEPER_BAD_LIST);
+        q.list = far;
+        refuses("A, position 65535", &q, KEEPER_BAD_LIST);
+    }
+}
+
+static void example_a_sheet(void)
+{
+    static const uint16_t lines[] = { 1, 1, 3, 2 };
+    static const uint8_t sheet[] = { 3, 0, 2, 0, 0, 0, 1, 0, 1, 0, 1, 0, 1, 0, 2, 0, 0, 0, 4, 0 };
+    static const char text[] = "line 1 1\nhold 0 1 1\nhold 1 3 2\ncheckpoint 0 1\ncheckpoint 1 1\ncheckpoint 1 2\n"
+                               "message 0\nmessage 4\nshare 50\n";
+    struct answer a = { KEEPER_OK, sheet, sizeof sheet, lines, 4 };
+    struct answer t = { KEEPER_OK, (const uint8_t *)text, sizeof text - 1, NULL, 0 };
+    struct question check = about(CHECK_TABLE, a_bytes, A_SIZE);
+    same("size of A's sheet", KEEPER_SHEET_SIZE(3, 2), sizeof sheet);
+    answers("A", about(KEEP_SHEET, a_bytes, A_SIZE), a);
+    answers("A", about(LISTING, a_bytes, A_SIZE), t);
+    refuses("A", &check, KEEPER_OK);
+}
+
+/* ---- refused tables, in every call: with arguments and room that are right, and with none that is */
+static void refused_in_every_call(void)
+{
+    static const uint16_t bad_list[] = { 65535, 0 };
+    uint8_t table[64];
+    char text[32];
+    size_t i;
+    int c;
+    for (i = 0; i < REFUSED_TABLES; i++) {
+        const struct refused *r = &refused_tables[i];
+        size_t length = put_refused(table, r);
+        struct question q;
+        struct answer t;
+        for (c = CHECK_TABLE; c <= KEEP_SHEET; c++) {
+            q = about((enum call)c, table, length);
+            refuses(r->what, &q, r->refusal);
+            q.set = 0xFFFFFFFFu;
+            q.from = 65535;
+            q.to = 65535;
+            q.list = bad_list;
+            q.list_length = 2;
+            q.numbers = 0;
+            q.room = 0;
+            refuses(r->what, &q, r->refusal);
+        }
+        snprintf(text, sizeof text, "refused %u\n", (unsigned)r->refusal);
+        t.number = KEEPER_OK;
+        t.bytes = (const uint8_t *)text;
+        t.size = strlen(text);
+        t.lines = NULL;
+        t.line_numbers = 0;
+        answers(r->what, about(LISTING, table, length), t);
+    }
+}
+
+/* ---- the largest tables: N = 32, counts 1, every message (0,0) to (1,0), waiting or received at 1 */
+static uint8_t large[KEEPER_LARGEST_TABLE], other[KEEPER_LARGEST_TABLE];
+
+static void put_number(uint8_t *to, size_t place, uint16_t number)
+{
+    put_numbers(to + 2 * place, &number, 1);
+}
+
+static size_t put_large(uint8_t *to, size_t messages, uint16_t count_1, uint16_t receipt)
+{
+    size_t i;
+    put_number(to, 0, 32);
+    put_number(to, 1, (uint16_t)messages);
+    for (i = 0; i < 32; i++)
+        put_number(to, 2 + i, i == 1 ? count_1 : 1);
+    for (i = 0; i < messages; i++) {
+        put_number(to, 34 + 2 * i, 0);
+        put_number(to, 35 + 2 * i, 0);
+        put_number(to, 34 + 2 * messages + 2 * i, 1);
+        put_number(to, 35 + 2 * messages + 2 * i, receipt);
+    }
+    return KEEPER_TABLE_SIZE(32, messages);
+}
+
+static void largest(void)
+{
+    static uint16_t list[KEEPER_MOST_MESSAGES], lines[KEEPER_SCRATCH_NUMBERS], line[32];
+    static uint8_t sheet[KEEPER_SHEET_ROOM];
+    static char text[KEEPER_LISTING_ROOM];
+    size_t size = put_large(large, 4096, 1, 0), p, i, n = 0;
+    struct answer a = { KEEPER_OK, other, 0, NULL, 0 };
+    struct question q = about(SEND, large, size);
+    same("largest table", size, KEEPER_LARGEST_TABLE);
+    /* 14 comes after 10 and 11 and before 16. */
+    refuses("4,096 messages", &q, KEEPER_TABLE_FULL);
+    q.room = 0;
+    refuses("4,096 messages", &q, KEEPER_TABLE_FULL);
+    q.to = 0;
+    refuses("4,096 messages, to itself", &q, KEEPER_SEND_TO_ITSELF);
+    q.to = 32;
+    refuses("4,096 messages, to 32", &q, KEEPER_UNKNOWN_PROCESS);
+    /* The send that fills a table. */
+    size = put_large(other, 4095, 1, 0);
+    q = about(SEND, other, size);
+    a.bytes = large;
+    a.size = KEEPER_LARGEST_TABLE;
+    answers("4,095 messages", q, a);
+    /* A save that receives them all. */
+    for (i = 0; i < 4096; i++)
+        list[i] = (uint16_t)i;
+    put_large(other, 4096, 2, 1);
+    q = about(SAVE, large, KEEPER_LARGEST_TABLE);
+    q.from = 1;
+    q.list = list;
+    q.list_length = 4096;
+    a.bytes = other;
+    answers("4,096 messages received", q, a);
+    /* Sets of 32: no bit is too high. */
+    q = about(LINE_OF_SET, large, KEEPER_LARGEST_TABLE);
+    q.set = 0xFFFFFFFFu;
+    of_numbers("all 32 hold", q, line, 32);
+    of_numbers("all wait", about(RECOVERY_LINE, large, KEEPER_LARGEST_TABLE), line, 32);
+    for (p = 0; p < 32; p++)
+        line[p] = p != 31;
+    q.set = 0x80000000u;
+    of_numbers("31 holds", q, line, 32);
+    same("largest line", KEEPER_LINE_SIZE(32), KEEPER_LARGEST_LINE);
+    /* A fall back drops every message: an answer much shorter than the table. */
+    a.size = put_large(other, 0, 1, 0);
+    answers("all wait", about(FALL_BACK, large, KEEPER_LARGEST_TABLE), a);
+    /* 32 kept checkpoints and 4,096 kept messages. */
+    n += (size_t)sprintf(text + n, "line");
+    for (p = 0; p < 32; p++)
+        n += (size_t)sprintf(text + n, " 0");
+    for (p = 0; p < 32; p++) {
+        n += (size_t)sprintf(text + n, "\nhold %u", (unsigned)p);
+        for (i = 0; i < 32; i++) {
+            lines[32 * p + i] = i != p;
+            n += (size_t)sprintf(text + n, " %u", i != p);
+        }
+        put_number(sheet, 2 + p, (uint16_t)p);
+        put_number(sheet, 34 + p, 0);
+    }
+    for (p = 0; p < 32; p++)
+        n += (size_t)sprintf(text + n, "\ncheckpoint %u 0", (unsigned)p);
+    for (i = 0; i < 4096; i++) {
+        n += (size_t)sprintf(text + n, "\nmessage %u", (unsigned)i);
+        put_number(sheet, 66 + i, (uint16_t)i);
+    }
+    n += (size_t)sprintf(text + n, "\nshare 100\n");
+    put_number(sheet, 0, 32);
+    put_number(sheet, 1, 4096);
+    a.bytes = sheet;
+    a.size = KEEPER_SHEET_SIZE(32, 4096);
+    a.lines = lines;
+    a.line_numbers = KEEPER_SCRATCH_SIZE(32);
+    same("largest scratch", a.line_numbers, KEEPER_SCRATCH_NUMBERS);
+    answers("all wait", about(KEEP_SHEET, large, KEEPER_LARGEST_TABLE), a);
+    a.bytes = (const uint8_t *)text;
+    a.size = n;
+    a.lines = NULL;
+    a.line_numbers = 0;
+    answers("all wait", about(LISTING, large, KEEPER_LARGEST_TABLE), a);
+}
+
+/* ---- counts of 4,095 and 4,096 */
+static void full_counts(void)
+{
+    static const uint16_t first[] = { 0 }, second[] = { 1 };
+    uint16_t numbers[] = { 2, 1, 4096, 1, 1, 0, 0, 0 };
+    uint16_t after[] = { 2, 1, 4096, 1, 1, 0, 0, 4095 };
+    uint16_t after_1[] = { 2, 1, 4095, 2, 1, 0, 0, 0 };
+    uint8_t table[16];
+    struct question q = about(SAVE, table, put_numbers(table, numbers, 8));
+    refuses("count 4,096, no list", &q, KEEPER_TABLE_FULL);
+    q.list = first;
+    q.list_length = 1;
+    refuses("count 4,096", &q, KEEPER_TABLE_FULL);
+    q.room = 0;
+    refuses("count 4,096", &q, KEEPER_TABLE_FULL);
+    q.list = second;
+    refuses("count 4,096, bad list", &q, KEEPER_BAD_LIST);
+    q.from = 2;
+    refuses("count 4,096, process 2", &q, KEEPER_UNKNOWN_PROCESS);
+    numbers[2] = 4095;
+    put_numbers(table, numbers, 8);
+    q.from = 0;
+    q.list = first;
+    of_numbers("count 4,095", q, after, 8);
+    q.from = 1;
+    q.list_length = 0;
+    of_numbers("count 1", q, after_1, 8);
+}
+
+/* ---- names and sizes */
+static void sizes(void)
+{
+    static const uint32_t refusals[] = {
+        KEEPER_OK, KEEPER_TABLE_TOO_SHORT, KEEPER_PROCESSES_OUT_OF_RANGE, KEEPER_TOO_MANY_MESSAGES,
+        KEEPER_WRONG_LENGTH, KEEPER_COUNT_OUT_OF_RANGE, KEEPER_UNKNOWN_PROCESS_IN_MESSAGE,
+        KEEPER_MESSAGE_TO_ITS_SENDER, KEEPER_SEND_NUMBER_TOO_HIGH, KEEPER_RECEIPT_NUMBER_TOO_HIGH,
+        KEEPER_UNKNOWN_PROCESS, KEEPER_SEND_TO_ITSELF, KEEPER_UNKNOWN_PROCESS_IN_SET, KEEPER_BAD_LIST,
+        KEEPER_TABLE_FULL, KEEPER_SCRATCH_TOO_SHORT, KEEPER_ANSWER_TOO_SHORT,
+    };
+    size_t i;
+    same("refusals", sizeof refusals / sizeof refusals[0], 17);
+    for (i = 0; i < 17; i++)
+        same("refusal", refusals[i], (unsigned long)i);
+    same("KEEPER_MOST_PROCESSES", KEEPER_MOST_PROCESSES, 32);
+    same("KEEPER_MOST_MESSAGES", KEEPER_MOST_MESSAGES, 4096);
+    same("KEEPER_MOST_CHECKPOINTS", KEEPER_MOST_CHECKPOINTS, 4096);
+    same("KEEPER_LARGEST_TABLE", KEEPER_LARGEST_TABLE, KEEPER_TABLE_SIZE(KEEPER_MOST_PROCESSES, KEEPER_MOST_MESSAGES));
+    same("KEEPER_LARGEST_TABLE", KEEPER_LARGEST_TABLE, 32836);
+    same("KEEPER_LARGEST_LINE", KEEPER_LARGEST_LINE, 64);
+    same("KEEPER_SCRATCH_NUMBERS", KEEPER_SCRATCH_NUMBERS, 1024);
+    same("KEEPER_SHEET_ROOM", KEEPER_SHEET_ROOM, KEEPER_SHEET_SIZE(KEEPER_SCRATCH_NUMBERS, KEEPER_MOST_MESSAGES));
+    same("KEEPER_SHEET_ROOM", KEEPER_SHEET_ROOM, 12292);
+    same("KEEPER_LISTING_ROOM", KEEPER_LISTING_ROOM, 80000);
+    same("KEEPER_TABLE_SIZE", KEEPER_TABLE_SIZE(1 + 1, 2 + 3), 48);
+    same("KEEPER_LINE_SIZE", KEEPER_LINE_SIZE(1 + 1), 4);
+    same("KEEPER_SCRATCH_SIZE", KEEPER_SCRATCH_SIZE(1 + 2), 9);
+    same("KEEPER_SHEET_SIZE", KEEPER_SHEET_SIZE(1 + 2, 1 + 1), 20);
+}
+
+int main(void)
+{
+    put_numbers(a_bytes, example_a, A_NUMBERS);
+    sizes();
+    example_a_lines();
+    example_a_steps();
+    example_a_sheet();
+    refused_in_every_call();
+    largest();
+    full_counts();
+    if (failures != 0) {
+        printf("calls: %d failures\n", failures);
+        return 1;
+    }
+    printf("calls: ok, %lu calls\n", asked);
+    return 0;
+}

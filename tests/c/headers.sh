@@ -1,0 +1,182 @@
+#!/bin/sh
+# sh tests/c/headers.sh ARCHIVES
+#
+# ARCHIVES is the folder of librun_table.a, libkeeper.a and liblisting_text.a. For each of the three:
+#   - its header compiles alone and twice over, as C99, C11 and (where g++ is there) C++11;
+#   - the functions that the header declares are those that the archive defines, both ways;
+#   - each declaration is that of the source: result, types, names and order of the parameters;
+#   - the manual (docs/MANUAL.md) and the page of section 3 give the same functions with the same parameters;
+#   - the archive needs nothing of others but the C library's memory functions, and has no data of its own
+#     that could change, which is what the headers say.
+# Stops at the first header that is not so, with the difference.
+
+if [ $# -ne 1 ] || [ ! -d "$1" ]; then
+    echo "usage: sh tests/c/headers.sh ARCHIVES" >&2
+    exit 2
+fi
+archives=$1
+root=$(dirname "$0")/../..
+work=$(mktemp -d) || exit 1
+trap 'rm -rf "$work"' EXIT
+trap 'exit 1' HUP INT TERM
+
+fail() {
+    echo "headers: $*"
+    exit 1
+}
+
+# One way to write a declaration: single spaces, none beside a bracket, a star beside its name.
+layout='
+function laid(text) {
+    gsub(/[ \t\r\n]+/, " ", text)
+    gsub(/ ?\( ?/, "(", text)
+    gsub(/ ?\) ?/, ")", text)
+    gsub(/ ?, ?/, ", ", text)
+    gsub(/ ?\* ?/, " *", text)
+    sub(/^ /, "", text)
+    sub(/ $/, "", text)
+    return text
+}'
+
+# The declarations of a header.
+declared() {
+    awk "$layout"'
+    /^[ \t]*#/ { next }
+    { text = text $0 "\n" }
+    END {
+        while ((at = index(text, "/*")) > 0) {
+            rest = substr(text, at + 2)
+            text = substr(text, 1, at - 1) " " substr(rest, index(rest, "*/") + 2)
+        }
+        gsub(/extern "C" \{/, "", text)
+        n = split(text, part, ";")
+        for (i = 1; i <= n; i++)
+            if (part[i] ~ /\)[ \t\n]*$/)
+                print laid(part[i])
+    }' "$1" | sort
+}
+
+# The declarations that the exported functions of a source have in C. A slice is a pointer and a length,
+# whose name follows from the slice's name.
+exported() {
+    cat "$1"/src/*.rt | awk "$layout"'
+    function c_type(type) {
+        if (type == "u8" || type == "u16" || type == "u32" || type == "u64") return "uint" substr(type, 2) "_t"
+        if (type == "usize") return "size_t"
+        print "no C type for " type; exit 1
+    }
+    function c_length(name) {
+        if (name == "table") return "length"
+        if (name == "answer" || name == "text") return "room"
+        if (name == "scratch") return "numbers"
+        if (name == "list") return "list_length"
+        print "no name for the length of " name; exit 1
+    }
+    function c_parameter(name, type) {
+        if (type ~ /^&\[/) return "const " c_type(substr(type, 3, length(type) - 3)) " *" name ", size_t " c_length(name)
+        if (type ~ /^&mut \[/) return c_type(substr(type, 7, length(type) - 7)) " *" name ", size_t " c_length(name)
+        if (type ~ /^&mut /) return c_type(substr(type, 6)) " *" name
+        return c_type(type) " " name
+    }
+    { sub(/\/\/.*/, ""); text = text $0 " " }
+    END {
+        n = split(text, part, /pub extern "C" fn /)
+        for (i = 2; i <= n; i++) {
+            close_at = index(part[i], ")")
+            head = substr(part[i], 1, close_at - 1)
+            open_at = index(head, "(")
+            name = substr(head, 1, open_at - 1)
+            m = split(substr(head, open_at + 1), parameter, ",")
+            list = ""
+            for (k = 1; k <= m; k++) {
+                p = laid(parameter[k])
+                if (p == "") continue
+                colon = index(p, ":")
+                list = list (list == "" ? "" : ", ") c_parameter(substr(p, 1, colon - 1), laid(substr(p, colon + 1)))
+            }
+            rest = substr(part[i], close_at + 1)
+            result = "void"
+            if (match(rest, /^ *-> *[a-z0-9]+/)) {
+                result = substr(rest, 1, RLENGTH)
+                sub(/^ *-> */, "", result)
+                result = c_type(result)
+            }
+            print laid(result " " name "(" (list == "" ? "void" : list) ")")
+        }
+    }' | sort
+}
+
+# The declarations of the synopsis of a page in mdoc, those whose name begins so.
+in_page() {
+    awk -v prefix="$2" "$layout"'
+    $1 == ".Ft" { result = substr($0, 5) }
+    $1 == ".Fo" { name = $2; list = "" }
+    $1 == ".Fa" { p = substr($0, 5); gsub(/"/, "", p); list = list (list == "" ? "" : ", ") p }
+    $1 == ".Fc" { if (name ~ "^(" prefix ")$") print laid(result " " name "(" list ")") }
+    ' "$1" | sort
+}
+
+# Declarations as the manual shortens them: slices and their lengths by name alone.
+shortened() {
+    sed -e 's/const uint[0-9]*_t \*//g' -e 's/uint[0-9]*_t \*//g' \
+        -e 's/size_t \(length\|room\|numbers\|list_length\)\([,)]\)/\1\2/g' "$1" | sort
+}
+
+names_of() {
+    sed 's/(.*//; s/.* //' "$1" | sort
+}
+
+for crate in run_table keeper listing_text; do
+    header=$root/include/$crate.h
+    archive=$archives/lib$crate.a
+    [ -f "$archive" ] || fail "$archive: there is no such file"
+
+    printf '#include "%s.h"\n#include "%s.h"\nint main(void) { return 0; }\n' $crate $crate >"$work/alone.c"
+    for standard in c99 c11; do
+        gcc -std=$standard -Wall -Wextra -Werror -pedantic -I"$root/include" -fsyntax-only "$work/alone.c" || fail "$crate.h is not $standard"
+    done
+    if command -v g++ >/dev/null 2>&1; then
+        g++ -x c++ -std=c++11 -Wall -Wextra -Werror -pedantic -I"$root/include" -fsyntax-only "$work/alone.c" || fail "$crate.h is not C++"
+    fi
+
+    declared "$header" >"$work/declared"
+    [ -s "$work/declared" ] || fail "$crate.h declares nothing"
+    names_of "$work/declared" >"$work/names"
+
+    nm -g --defined-only --format=posix "$archive" | awk 'NF > 1 { print $1 }' | sort >"$work/defined"
+    diff "$work/names" "$work/defined" >"$work/diff" || fail "$crate.h (<) and what lib$crate.a defines (>):
+$(cat "$work/diff")"
+    nm --format=posix "$archive" | awk 'NF > 1 && $2 ~ /^[BbCcDdGgSs]$/ { print $1 }' >"$work/data"
+    [ ! -s "$work/data" ] || fail "lib$crate.a has data of its own: $(cat "$work/data")"
+    nm -u --format=posix "$archive" | awk 'NF > 1 && $1 !~ /^mem(cpy|set|move|cmp)$/ { print $1 }' >"$work/needed"
+    [ ! -s "$work/needed" ] || fail "lib$crate.a needs: $(cat "$work/needed")"
+
+    exported "$root/crates/$crate" >"$work/exported"
+    diff "$work/declared" "$work/exported" >"$work/diff" || fail "$crate.h (<) and the source of $crate (>):
+$(cat "$work/diff")"
+
+    shortened "$work/declared" >"$work/short"
+    pattern=$(tr '\n' '|' <"$work/names" | sed 's/|$//')
+    sed -n 's/^| `\([a-z0-9_]* [a-z0-9_]*(.*)\)` |.*/\1/p' "$root/docs/MANUAL.md" | grep -E " ($pattern)\\(" | sort >"$work/manual"
+    diff "$work/short" "$work/manual" >"$work/diff" || fail "$crate.h (<) and docs/MANUAL.md (>):
+$(cat "$work/diff")"
+
+    page=$root/man/$crate.3
+    [ -f "$page" ] || page=$root/man/keeper.3
+    in_page "$page" "$pattern" >"$work/page"
+    diff "$work/declared" "$work/page" >"$work/diff" || fail "$crate.h (<) and man/$(basename "$page") (>):
+$(cat "$work/diff")"
+done
+
+# Nothing stands in the manual or on a page that no header declares.
+for crate in run_table keeper listing_text; do declared "$root/include/$crate.h"; done | sort >"$work/declared"
+names_of "$work/declared" >"$work/names"
+{
+    sed -n 's/^| `[a-z0-9_]* \([a-z0-9_]*\)(.*/\1/p' "$root/docs/MANUAL.md"
+    sed -n 's/^\.Fo \(.*\)/\1/p' "$root"/man/*.3
+} | sort -u >"$work/told"
+diff "$work/names" "$work/told" >"$work/diff" || fail "the headers (<), the manual and the pages (>):
+$(cat "$work/diff")"
+
+command -v g++ >/dev/null 2>&1 || echo "headers: g++ is missing, so that they were not compiled as C++"
+echo "headers: $(wc -l <"$work/names" | tr -d ' ') functions declared as the archives define them, as the sources, the manual and the man pages have them"
