@@ -4,6 +4,7 @@
 # make differential-tests  the library beside the second implementation: CALLS=n for more calls, SCOPES=more for larger scopes
 # make fuzz     runs the fuzzer for FUZZ_SECONDS (60); needs clang
 # make check    proves what has changed and runs the test programs: quicker, and no verdict
+# make install  headers, archives, pkg-config files, the listing program, man pages: PREFIX=/usr/local, DESTDIR
 SHELL := /bin/sh
 .DEFAULT_GOAL := help
 .PHONY: help list program test check format reference-tests c-tests corpus-tests
@@ -52,12 +53,60 @@ reference-tests: need-cargo
 	    echo "$$c: the expected output is the second implementation's"; \
 	done
 
-# The archive of the table reader, linked by a C program that compares the lookups' answers.
-c-tests: need-rt need-gcc
-	@rt staticlib run_table
+# The archives of the libraries. Each is proved as it is written, every time, so it is done again only
+# where a source is newer.
+.PHONY: archives
+ARCHIVES = run_table keeper listing_text
+ARCHIVE_FILES = $(ARCHIVES:%=target/staticlib/lib%.a)
+archives: $(ARCHIVE_FILES)
+
+$(ARCHIVE_FILES): target/staticlib/lib%.a: crates.txt $(shell find crates -name '*.rt' -o -name '*.antt') | need-rt
 	@mkdir -p target/tests
-	@gcc -std=c11 -Wall -Wextra -Werror -O1 -o target/tests/run_table_link tests/c/run_table_link.c target/staticlib/librun_table.a
-	@target/tests/run_table_link
+	@echo "proving and building lib$*.a" >&2
+	@rt staticlib $* >target/tests/$*.archive.log 2>&1 || { cat target/tests/$*.archive.log; exit 1; }
+	@touch $@
+
+# The headers against the archives and the sources, and C programs that make every call.
+c-tests: need-gcc archives
+	@sh tests/c/run.sh target/staticlib target/tests
+
+# What C programs and people need of the library, under PREFIX. DESTDIR goes before each path and into no file.
+.PHONY: install uninstall install-test
+PREFIX = /usr/local
+BINDIR = $(PREFIX)/bin
+INCLUDEDIR = $(PREFIX)/include
+LIBDIR = $(PREFIX)/lib
+MANDIR = $(PREFIX)/share/man
+INSTALL = install
+install: archives program
+	@case '$(PREFIX)' in /*) ;; *) echo "PREFIX=$(PREFIX) is not a path from the root" >&2; exit 1;; esac
+	@$(INSTALL) -d $(addprefix '$(DESTDIR),$(addsuffix ',$(BINDIR) $(INCLUDEDIR) $(LIBDIR)/pkgconfig $(MANDIR)/man1 $(MANDIR)/man3 $(MANDIR)/man5))
+	@$(INSTALL) -m 755 target/bin/listing '$(DESTDIR)$(BINDIR)/listing'
+	@for a in $(ARCHIVES); do \
+	    $(INSTALL) -m 644 include/$$a.h '$(DESTDIR)$(INCLUDEDIR)' && \
+	    $(INSTALL) -m 644 target/staticlib/lib$$a.a '$(DESTDIR)$(LIBDIR)' && \
+	    sed -e 's,@PREFIX@,$(PREFIX),' -e 's,@LIBDIR@,$(patsubst $(PREFIX)/%,$${prefix}/%,$(LIBDIR)),' \
+	        -e 's,@INCLUDEDIR@,$(patsubst $(PREFIX)/%,$${prefix}/%,$(INCLUDEDIR)),' pkgconfig/$$a.pc.in >target/tests/$$a.pc && \
+	    $(INSTALL) -m 644 target/tests/$$a.pc '$(DESTDIR)$(LIBDIR)/pkgconfig' || exit 1; \
+	done
+	@for page in man/*.[135]; do \
+	    $(INSTALL) -m 644 $$page '$(DESTDIR)$(MANDIR)'/man$${page##*.} || exit 1; \
+	done
+
+# Takes the files away and leaves the folders.
+uninstall:
+	@rm -f '$(DESTDIR)$(BINDIR)/listing'
+	@for a in $(ARCHIVES); do \
+	    rm -f '$(DESTDIR)$(INCLUDEDIR)'/$$a.h '$(DESTDIR)$(LIBDIR)'/lib$$a.a '$(DESTDIR)$(LIBDIR)'/pkgconfig/$$a.pc || exit 1; \
+	done
+	@for page in man/*.[135]; do \
+	    rm -f '$(DESTDIR)$(MANDIR)'/man$${page##*.}/$${page##*/} || exit 1; \
+	done
+
+# Installs into a temporary folder, uses what stands there, and uninstalls.
+test: install-test
+install-test: need-gcc archives program
+	@MAKE='$(MAKE)' sh tests/install/run.sh
 
 # The listing program over the corpus of tables, whose listings are the second implementation's.
 corpus-tests: program
