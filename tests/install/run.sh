@@ -132,7 +132,7 @@ awk '/^\.Bd -literal/ { inside = 1; next } /^\.Ed/ { inside = 0 } inside { gsub(
 grep '^\$ ' "$work/session" | sed 's/^\$ //' >"$work/commands"
 [ -s "$work/commands" ] || fail "listing.1 has no examples"
 while read -r command; do
-    echo "\$ $command" | sed 's/\\/\\/g'
+    printf '$ %s\n' "$command"
     PATH=$prefix/bin:$PATH sh -c "$command"
 done <"$work/commands" >"$work/session.run"
 diff "$work/session" "$work/session.run" || fail "listing.1: its examples are not what happens (>)"
