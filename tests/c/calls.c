@@ -257,8 +257,8 @@ static void example_a_steps(void)
     static const uint16_t saved_0[] = { 2, 5, 4, 3, 0, 0, 1, 0, 1, 1, 0, 2, 1, 2, 1, 2, 0, 1, 0, 2, 1, 2, 0, 3 };
     static const uint16_t saved_1[] = { 2, 5, 3, 4, 0, 0, 1, 0, 1, 1, 0, 2, 1, 2, 1, 2, 0, 1, 0, 2, 1, 2, 0, 0 };
     static const uint16_t fallen[] = { 2, 2, 2, 2, 0, 0, 1, 0, 1, 0, 0, 1 };
-    static const uint16_t four[] = { 4 }, twice[] = { 4, 4 }, falling[] = { 4, 3 }, beyond[] = { 5 }, far[] = { 4, 65535 },
-                          received[] = { 0 };
+    static const uint16_t four[] = { 4 }, twice[] = { 4, 4 }, falling[] = { 4, 3 }, beyond[] = { 5 }, cut[] = { 260 },
+                          far[] = { 4, 65535 }, received[] = { 0 };
     struct question q = about(SEND, a_bytes, A_SIZE);
     of_numbers("A, 0 to 1", q, sent, 28);
     q.call = FALL_BACK;
@@ -278,19 +278,27 @@ static void example_a_steps(void)
         refuses("A, 0 to 2", &q, KEEPER_UNKNOWN_PROCESS);
         q.from = 2, q.to = 2;
         refuses("A, 2 to 2", &q, KEEPER_UNKNOWN_PROCESS);
-        q.from = 256, q.to = 65535;
-        refuses("A, 256 to 65535", &q, KEEPER_UNKNOWN_PROCESS);
+        q.from = 256, q.to = 1;
+        refuses("A, 256 to 1", &q, KEEPER_UNKNOWN_PROCESS);
+        q.from = 0, q.to = 257;
+        refuses("A, 0 to 257", &q, KEEPER_UNKNOWN_PROCESS);
+        q.from = 65535, q.to = 65535;
+        refuses("A, 65535 to 65535", &q, KEEPER_UNKNOWN_PROCESS);
         q.from = 1, q.to = 1;
         refuses("A, 1 to 1", &q, KEEPER_SEND_TO_ITSELF);
         q.call = SAVE;
         q.from = 2, q.list = four, q.list_length = 1;
         refuses("A, 2", &q, KEEPER_UNKNOWN_PROCESS);
+        q.from = 256;
+        refuses("A, 256", &q, KEEPER_UNKNOWN_PROCESS);
         q.from = 65535, q.list = beyond;
         refuses("A, 65535", &q, KEEPER_UNKNOWN_PROCESS);
         q.from = 1, q.list = four;
         refuses("A, message 4 waits for 0", &q, KEEPER_BAD_LIST);
         q.from = 0, q.list = beyond;
         refuses("A, position 5", &q, KEEPER_BAD_LIST);
+        q.list = cut;
+        refuses("A, position 260", &q, KEEPER_BAD_LIST);
         q.list = received;
         q.from = 1;
         refuses("A, message 0 is received", &q, KEEPER_BAD_LIST);

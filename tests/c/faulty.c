@@ -1,0 +1,131 @@
+/* The keeper's calls with a fault each: calls.c, compiled to call these, must fail for every number of
+   FAULT but 0. `sh tests/c/must_fail.sh` runs it. */
+#include "keeper.h"
+#include "listing_text.h"
+
+#include <stdio.h>
+#include <stdlib.h>
+#include <string.h>
+
+uint32_t faulty_check_table(const uint8_t *table, size_t length);
+uint32_t faulty_recovery_line(const uint8_t *table, size_t length, uint8_t *answer, size_t room, size_t *written);
+uint32_t faulty_line_of_set(const uint8_t *table, size_t length, uint32_t set, uint8_t *answer, size_t room, size_t *written);
+uint32_t faulty_send(const uint8_t *table, size_t length, uint16_t from, uint16_t to, uint8_t *answer, size_t room,
+                     size_t *written);
+uint32_t faulty_save(const uint8_t *table, size_t length, uint16_t process, const uint16_t *list, size_t list_length,
+                     uint8_t *answer, size_t room, size_t *written);
+uint32_t faulty_fall_back(const uint8_t *table, size_t length, uint8_t *answer, size_t room, size_t *written);
+uint32_t faulty_keep_sheet(const uint8_t *table, size_t length, uint16_t *scratch, size_t numbers, uint8_t *answer, size_t room,
+                           size_t *written);
+uint32_t faulty_listing(const uint8_t *table, size_t length, uint8_t *text, size_t room, size_t *written);
+
+/* Whether this fault is the one asked for. */
+static int fault(int number)
+{
+    const char *asked = getenv("FAULT");
+    return asked != NULL && atoi(asked) == number;
+}
+
+uint32_t faulty_check_table(const uint8_t *table, size_t length)
+{
+    uint32_t r = keeper_check_table(table, length);
+    if (fault(1) && length == 0) return KEEPER_WRONG_LENGTH;
+    if (fault(2) && r == KEEPER_WRONG_LENGTH) return KEEPER_OK;
+    if (fault(3) && r == KEEPER_RECEIPT_NUMBER_TOO_HIGH) return KEEPER_SEND_NUMBER_TOO_HIGH;
+    if (fault(4) && length == 48) ((uint8_t *)(uintptr_t)table)[47] ^= 1;
+    if (fault(5) && length > 0) ((uint8_t *)(uintptr_t)table)[length] = 0;
+    return r;
+}
+
+uint32_t faulty_recovery_line(const uint8_t *table, size_t length, uint8_t *answer, size_t room, size_t *written)
+{
+    uint32_t r = keeper_recovery_line(table, length, answer, room, written);
+    if (fault(6) && r == KEEPER_OK) answer[*written] = 0;
+    if (fault(7) && r == KEEPER_OK) answer[-1] = 0;
+    if (fault(8) && r == KEEPER_OK) memset(answer, 0, *written);
+    if (fault(9) && r == KEEPER_OK) *written += 1;
+    if (fault(10) && r == KEEPER_TABLE_TOO_SHORT) *written = 0;
+    if (fault(11) && r == KEEPER_WRONG_LENGTH && room > 0) answer[room - 1] = 0;
+    return r;
+}
+
+uint32_t faulty_line_of_set(const uint8_t *table, size_t length, uint32_t set, uint8_t *answer, size_t room, size_t *written)
+{
+    if (fault(12)) set &= 0x7FFFFFFFu;
+    if (fault(13) && keeper_check_table(table, length) == KEEPER_OK && (set >> 31) != 0) return KEEPER_UNKNOWN_PROCESS_IN_SET;
+    if (fault(14) && room == 0 && keeper_check_table(table, length) == KEEPER_OK) return KEEPER_ANSWER_TOO_SHORT;
+    if (fault(15)) set = ~set & 3u;
+    if (fault(16) && length >= 4 && (set >> table[0]) != 0) return KEEPER_UNKNOWN_PROCESS_IN_SET;
+    return keeper_line_of_set(table, length, set, answer, room, written);
+}
+
+uint32_t faulty_send(const uint8_t *table, size_t length, uint16_t from, uint16_t to, uint8_t *answer, size_t room, size_t *written)
+{
+    uint32_t r;
+    if (fault(17)) { uint16_t other = from; from = to; to = other; }
+    if (fault(18) && from == to && keeper_check_table(table, length) == KEEPER_OK) return KEEPER_SEND_TO_ITSELF;
+    if (fault(19)) from &= 0xFF;
+    r = keeper_send(table, length, from, to, answer, room, written);
+    if (fault(20) && r == KEEPER_TABLE_FULL && room == 0) return KEEPER_ANSWER_TOO_SHORT;
+    if (fault(21) && r == KEEPER_OK && room == *written) return KEEPER_ANSWER_TOO_SHORT;
+    if (fault(22) && r == KEEPER_ANSWER_TOO_SHORT && room > 0) answer[0] = 2;
+    if (fault(23) && r == KEEPER_UNKNOWN_PROCESS) *written = 0;
+    return r;
+}
+
+uint32_t faulty_save(const uint8_t *table, size_t length, uint16_t process, const uint16_t *list, size_t list_length,
+                     uint8_t *answer, size_t room, size_t *written)
+{
+    uint32_t r;
+    if (fault(24)) list_length = 0;
+    if (fault(47)) process &= 0xFF;
+    r = keeper_save(table, length, process, list, list_length, answer, room, written);
+    if (fault(25) && r == KEEPER_OK && list_length > 0) ((uint16_t *)(uintptr_t)list)[0] ^= 1;
+    if (fault(26) && r == KEEPER_BAD_LIST && length == 16) return KEEPER_TABLE_FULL;
+    if (fault(27) && r == KEEPER_TABLE_FULL) return KEEPER_OK;
+    if (fault(28) && r == KEEPER_TABLE_TOO_SHORT) return KEEPER_WRONG_LENGTH;
+    if (fault(29) && r == KEEPER_OK) memcpy(answer, table, length);
+    if (fault(30) && list == NULL && r == KEEPER_OK) return KEEPER_BAD_LIST;
+    return r;
+}
+
+uint32_t faulty_fall_back(const uint8_t *table, size_t length, uint8_t *answer, size_t room, size_t *written)
+{
+    uint32_t r = keeper_fall_back(table, length, answer, room, written);
+    if (fault(31) && r == KEEPER_OK && room < length) return KEEPER_ANSWER_TOO_SHORT;
+    if (fault(32) && r == KEEPER_OK) memcpy(answer, table, *written);
+    if (fault(33) && r == KEEPER_OK) memset(answer + *written, 0, room - *written);
+    return r;
+}
+
+uint32_t faulty_keep_sheet(const uint8_t *table, size_t length, uint16_t *scratch, size_t numbers, uint8_t *answer, size_t room,
+                           size_t *written)
+{
+    static uint16_t other[KEEPER_SCRATCH_NUMBERS];
+    uint32_t r;
+    if (fault(34) && numbers <= KEEPER_SCRATCH_NUMBERS) {
+        r = keeper_keep_sheet(table, length, other, numbers, answer, room, written);
+        if (r == KEEPER_OK) memcpy(scratch, other, 2 * numbers);
+        return r;
+    }
+    r = keeper_keep_sheet(table, length, scratch, numbers, answer, room, written);
+    if (fault(35) && r == KEEPER_OK) scratch[numbers - 1] = 0;
+    if (fault(36) && r == KEEPER_OK && numbers > 4) scratch[numbers] = 0;
+    if (fault(37) && r == KEEPER_SCRATCH_TOO_SHORT && numbers > 0) scratch[0] = 0;
+    if (fault(38) && r == KEEPER_SCRATCH_TOO_SHORT && room == 0) return KEEPER_ANSWER_TOO_SHORT;
+    if (fault(39) && r == KEEPER_OK && numbers < KEEPER_SCRATCH_NUMBERS) return KEEPER_SCRATCH_TOO_SHORT;
+    if (fault(40) && r == KEEPER_OK) answer[2] ^= 1;
+    if (fault(41) && r == KEEPER_OK) answer[*written - 1] ^= 1;
+    if (fault(42) && r == KEEPER_WRONG_LENGTH && numbers > 0) scratch[numbers - 1] = 0;
+    return r;
+}
+
+uint32_t faulty_listing(const uint8_t *table, size_t length, uint8_t *text, size_t room, size_t *written)
+{
+    uint32_t r = keeper_listing(table, length, text, room, written);
+    if (fault(43) && r == KEEPER_OK && *written < room) text[*written] = 0;
+    if (fault(44) && r == KEEPER_OK && keeper_check_table(table, length) != KEEPER_OK) return keeper_check_table(table, length);
+    if (fault(45) && r == KEEPER_OK) *written -= 1;
+    if (fault(46) && r == KEEPER_ANSWER_TOO_SHORT && room > 0) text[0] = 'l';
+    return r;
+}
