@@ -66,9 +66,10 @@ $(ARCHIVE_FILES): target/staticlib/lib%.a: crates.txt $(shell find crates -name 
 	@rt staticlib $* >target/tests/$*.archive.log 2>&1 || { cat target/tests/$*.archive.log; exit 1; }
 	@touch $@
 
-# The headers against the archives and the sources, and C programs that make every call.
+# The headers against the archives and the sources, and C programs that make every call; that both can fail.
 c-tests: need-gcc archives
 	@sh tests/c/run.sh target/staticlib target/tests
+	@sh tests/c/must_fail.sh target/staticlib target/tests
 
 # What C programs and people need of the library, under PREFIX. DESTDIR goes before each path and into no file.
 .PHONY: install uninstall install-test
