@@ -1,0 +1,190 @@
+//! Running the command, the corpus, and tables made at random.
+#![allow(dead_code)]
+
+use std::fs;
+use std::io::Write;
+use std::path::PathBuf;
+use std::process::{Command, Stdio};
+
+/// What a run of the command left.
+#[derive(Debug, PartialEq, Eq)]
+pub struct Ran {
+    pub status: i32,
+    pub output: Vec<u8>,
+    pub errors: String,
+}
+
+/// Runs the command with bytes on standard input.
+pub fn keeper(arguments: &[&str], input: &[u8]) -> Ran {
+    let mut child = Command::new(env!("CARGO_BIN_EXE_keeper"))
+        .args(arguments)
+        .stdin(Stdio::piped())
+        .stdout(Stdio::piped())
+        .stderr(Stdio::piped())
+        .spawn()
+        .expect("the command starts");
+    let mut to = child.stdin.take().expect("piped");
+    let input = input.to_vec();
+    // The command may end without reading all.
+    let writer = std::thread::spawn(move || drop(to.write_all(&input)));
+    let left = child.wait_with_output().expect("the command ends");
+    writer.join().expect("the writer ends");
+    let ran = Ran {
+        status: left.status.code().expect("no signal"),
+        output: left.stdout,
+        errors: String::from_utf8(left.stderr).expect("messages are UTF-8"),
+    };
+    // Messages are one line each, and there is one just where not all was done.
+    assert_eq!(
+        ran.errors.lines().count(),
+        usize::from(ran.status != 0),
+        "{ran:?}"
+    );
+    assert!(
+        ran.errors.lines().all(|line| line.starts_with("keeper: ")),
+        "{ran:?}"
+    );
+    ran
+}
+
+/// Runs the command and wants it done: its output.
+pub fn done(arguments: &[&str], input: &[u8]) -> Vec<u8> {
+    let ran = keeper(arguments, input);
+    assert_eq!((ran.status, ran.errors.as_str()), (0, ""), "{arguments:?}");
+    ran.output
+}
+
+/// Runs the command and wants it not done, with that exit status, that message
+/// behind `keeper: ` and no output.
+pub fn fails(arguments: &[&str], input: &[u8], status: i32, message: &str) {
+    let ran = keeper(arguments, input);
+    assert_eq!(ran.errors, format!("keeper: {message}\n"), "{arguments:?}");
+    assert_eq!((ran.status, ran.output), (status, vec![]), "{arguments:?}");
+}
+
+pub fn corpus_folder() -> PathBuf {
+    PathBuf::from(env!("CARGO_MANIFEST_DIR")).join("../../tests/corpus")
+}
+
+pub struct Case {
+    pub name: String,
+    pub path: String,
+    pub table: Vec<u8>,
+    pub listing: Vec<u8>,
+}
+
+/// The tables of the corpus with their listings, by name.
+pub fn corpus() -> Vec<Case> {
+    let mut cases = Vec::new();
+    for entry in fs::read_dir(corpus_folder()).expect("the corpus is there") {
+        let path = entry.expect("readable").path();
+        if path
+            .extension()
+            .is_some_and(|extension| extension == "table")
+        {
+            cases.push(Case {
+                name: path
+                    .file_stem()
+                    .expect("a name")
+                    .to_string_lossy()
+                    .into_owned(),
+                table: fs::read(&path).expect("readable"),
+                listing: fs::read(path.with_extension("listing")).expect("a listing"),
+                path: path.to_str().expect("UTF-8").to_string(),
+            });
+        }
+    }
+    cases.sort_by(|one, other| one.name.cmp(&other.name));
+    assert!(cases.len() >= 132, "{} tables", cases.len());
+    cases
+}
+
+/// The number of the refusal that a listing shows.
+pub fn refused(listing: &[u8]) -> Option<u32> {
+    let text = std::str::from_utf8(listing).expect("ASCII");
+    text.strip_prefix("refused ")
+        .map(|number| number.trim_end().parse().expect("a number"))
+}
+
+pub fn bytes(numbers: &[u16]) -> Vec<u8> {
+    numbers
+        .iter()
+        .flat_map(|number| number.to_le_bytes())
+        .collect()
+}
+
+/// Example A of the format's document.
+pub fn example_a() -> Vec<u8> {
+    bytes(&[
+        2, 5, 3, 3, 0, 0, 1, 0, 1, 1, 0, 2, 1, 2, 1, 2, 0, 1, 0, 2, 1, 2, 0, 0,
+    ])
+}
+
+/// Numbers that look random, the same in each run.
+pub struct Random(pub u64);
+
+impl Random {
+    /// A number below `bound`.
+    pub fn below(&mut self, bound: usize) -> usize {
+        self.0 = self
+            .0
+            .wrapping_mul(6364136223846793005)
+            .wrapping_add(1442695040888963407);
+        ((self.0 >> 33) as usize) % bound
+    }
+
+    /// An accepted table: any processes and numbers within their limits.
+    pub fn table(
+        &mut self,
+        most_processes: usize,
+        most_messages: usize,
+        most_count: usize,
+    ) -> Vec<u8> {
+        let n = 1 + self.below(most_processes);
+        let m = if n == 1 {
+            0
+        } else {
+            self.below(most_messages + 1)
+        };
+        let counts: Vec<usize> = (0..n).map(|_| 1 + self.below(most_count)).collect();
+        let (mut sends, mut receipts) = (Vec::new(), Vec::new());
+        for _ in 0..m {
+            let sender = self.below(n);
+            let receiver = (sender + 1 + self.below(n - 1)) % n;
+            sends.extend([sender, self.below(counts[sender])]);
+            receipts.extend([receiver, self.below(counts[receiver])]);
+        }
+        let numbers = [n, m]
+            .into_iter()
+            .chain(counts)
+            .chain(sends)
+            .chain(receipts);
+        bytes(&numbers.map(|number| number as u16).collect::<Vec<_>>())
+    }
+
+    /// A table that steps of a run have left: time can order its events.
+    pub fn history(&mut self, n: usize, steps: usize) -> Vec<u8> {
+        let mut table = bytes(&[&[n as u16, 0][..], &vec![1; n]].concat());
+        let mut answer = vec![0; keeper::LARGEST_TABLE];
+        for _ in 0..steps {
+            let process = self.below(n);
+            let written = if n > 1 && self.below(3) < 2 {
+                let to = (process + 1 + self.below(n - 1)) % n;
+                keeper::send(&table, process as u16, to as u16, &mut answer)
+            } else {
+                let m = keeper_command::sys::messages(&table);
+                let mut list = Vec::new();
+                for k in 0..usize::from(m) {
+                    let waits = keeper_command::sys::received(&table, k) == 0;
+                    let here = usize::from(keeper_command::sys::receiver(&table, k)) == process;
+                    if waits && here && self.below(4) > 0 {
+                        list.push(k as u16);
+                    }
+                }
+                keeper::save(&table, process as u16, &list, &mut answer)
+            };
+            table = answer[..written.expect("within the limits")].to_vec();
+        }
+        table
+    }
+}
