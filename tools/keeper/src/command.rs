@@ -7,10 +7,11 @@ use std::process::ExitCode;
 
 use keeper::Refusal;
 
-use crate::{sys, text};
+use crate::run::Run;
+use crate::{draw, sys, text};
 
 const HELP: &str = "\
-keeper: run tables of checkpointed processes, their lines, steps and listings
+keeper: run tables of checkpointed processes, their lines, steps, listings and diagrams
 
 usage: keeper SUBCOMMAND [OPTION...] [ARGUMENT...] [FILE]
 
@@ -22,6 +23,7 @@ usage: keeper SUBCOMMAND [OPTION...] [ARGUMENT...] [FILE]
   save PROCESS [POSITION...]
                           the table after a checkpoint that receives those messages
   fall-back               the table after the run fell back to its recovery line
+  draw                    the run as a diagram in SVG
 
 FILE is read, or standard input where it is missing or `-`.
 
@@ -158,6 +160,24 @@ its recovery line.
   --text                  both
 ",
     },
+    Subcommand {
+        name: "draw",
+        run: draw,
+        numbers: (0, 0),
+        options: &["--text", "--text-in", "--hold", "--title"],
+        help: "\
+usage: keeper draw [--text] [--hold PROCESS] [--title TITLE] [-o FILE] [FILE]
+
+Reads a run table and writes the run as a space-time diagram in SVG: a lifeline
+for each process, checkpoints as dots and messages as arrows, with what is kept
+and the recovery line. Time runs to the right where some order of time fits the
+table; else places are by checkpoint number, and the legend says so.
+
+  --hold PROCESS          draw the line of this process alone holding as well
+  --title TITLE           a title
+  --text, --text-in       read a text instead of a table
+",
+    },
 ];
 
 /// Why nothing, or not all, was done: exit status 2 or 1.
@@ -178,6 +198,8 @@ struct Arguments {
     text_in: bool,
     text_out: bool,
     output: Option<OsString>,
+    hold: Option<u16>,
+    title: Option<String>,
     numbers: Vec<u16>,
     file: Option<OsString>,
 }
@@ -232,6 +254,7 @@ fn dispatch(mut arguments: Vec<OsString>) -> Result<(), Failure> {
 
 /// The arguments, or `None` where help is asked for.
 fn parse(subcommand: &Subcommand, arguments: Vec<OsString>) -> Result<Option<Arguments>, Failure> {
+    let takes = |option: &str| subcommand.options.contains(&option);
     let mut parsed = Arguments::default();
     let mut plain = Vec::new();
     let mut rest = arguments.into_iter();
@@ -248,18 +271,26 @@ fn parse(subcommand: &Subcommand, arguments: Vec<OsString>) -> Result<Option<Arg
         match shown.as_str() {
             "--help" | "-h" => return Ok(None),
             "-o" => {
-                let file = rest
-                    .next()
-                    .ok_or_else(|| usage(subcommand, "-o needs a file"))?;
-                if parsed.output.replace(file).is_some() {
-                    return Err(usage(subcommand, "-o stands twice"));
-                }
+                let file = value(subcommand, "-o", "a file", rest.next())?;
+                once(subcommand, "-o", &mut parsed.output, file)?;
             }
-            option if subcommand.options.contains(&option) => match option {
-                "--text-in" => parsed.text_in = true,
-                "--text-out" => parsed.text_out = true,
-                _ => (parsed.text_in, parsed.text_out) = (true, true),
-            },
+            "--hold" if takes("--hold") => {
+                let process = value(subcommand, "--hold", "a process", rest.next())?;
+                once(
+                    subcommand,
+                    "--hold",
+                    &mut parsed.hold,
+                    number(subcommand, &process)?,
+                )?;
+            }
+            "--title" if takes("--title") => {
+                let title = value(subcommand, "--title", "a title", rest.next())?;
+                let title = title.to_string_lossy().into_owned();
+                once(subcommand, "--title", &mut parsed.title, title)?;
+            }
+            "--text" if takes("--text") => (parsed.text_in, parsed.text_out) = (true, true),
+            "--text-in" if takes("--text-in") => parsed.text_in = true,
+            "--text-out" if takes("--text-out") => parsed.text_out = true,
             _ => {
                 return Err(usage(
                     subcommand,
@@ -293,6 +324,29 @@ fn parse(subcommand: &Subcommand, arguments: Vec<OsString>) -> Result<Option<Arg
         return Err(usage(subcommand, what));
     }
     Ok(Some(parsed))
+}
+
+/// The argument behind an option.
+fn value(
+    subcommand: &Subcommand,
+    option: &str,
+    what: &str,
+    argument: Option<OsString>,
+) -> Result<OsString, Failure> {
+    argument.ok_or_else(|| usage(subcommand, format_args!("{option} needs {what}")))
+}
+
+/// Sets what an option may set once.
+fn once<T>(
+    subcommand: &Subcommand,
+    option: &str,
+    to: &mut Option<T>,
+    value: T,
+) -> Result<(), Failure> {
+    match to.replace(value) {
+        None => Ok(()),
+        Some(_) => Err(usage(subcommand, format_args!("{option} stands twice"))),
+    }
 }
 
 fn is_number(argument: &OsStr) -> bool {
@@ -437,16 +491,21 @@ fn list(arguments: &Arguments) -> Result<(), Failure> {
     input.check()
 }
 
+/// A process of a set, which has 32 bits.
+fn holder(subcommand: &str, process: u16) -> Result<usize, Failure> {
+    if usize::from(process) < keeper::MOST_PROCESSES {
+        return Ok(process.into());
+    }
+    let what = format!("`{process}`: a process that holds is numbered 0 to 31");
+    Err(Failure::Trouble(format!(
+        "{what} (see `keeper {subcommand} --help`)"
+    )))
+}
+
 fn line(arguments: &Arguments) -> Result<(), Failure> {
     let mut set = 0;
     for process in &arguments.numbers {
-        if usize::from(*process) >= keeper::MOST_PROCESSES {
-            let what = format!(
-                "`{process}`: a process that holds is numbered 0 to 31 (see `keeper line --help`)"
-            );
-            return Err(Failure::Trouble(what));
-        }
-        set |= 1 << process;
+        set |= 1 << holder("line", *process)?;
     }
     let input = input(arguments)?;
     let mut line = [0; keeper::LARGEST_LINE];
@@ -500,4 +559,15 @@ fn save(arguments: &Arguments) -> Result<(), Failure> {
 
 fn fall_back(arguments: &Arguments) -> Result<(), Failure> {
     step(arguments, keeper::fall_back)
+}
+
+fn draw(arguments: &Arguments) -> Result<(), Failure> {
+    let hold = arguments
+        .hold
+        .map(|process| holder("draw", process))
+        .transpose()?;
+    let input = input(arguments)?;
+    let run = Run::read(&input.table, hold).map_err(|refusal| input.refused(refusal))?;
+    let diagram = draw::draw(&run, arguments.title.as_deref());
+    put(&arguments.output, diagram.as_bytes())
 }
