@@ -1,14 +1,16 @@
 # make list     the listing of a run table: make list TABLE=path, or of example A of the corpus
 # make test     everything that is checked; ends in `rt ci`, whose last line is the last line printed
-# make archives the static libraries: target/staticlib/libkeeper.a and librun_table.a
+# make archives the static libraries: target/staticlib/libkeeper.a, librun_table.a and liblisting_text.a
 # make differential-tests  the library beside the second implementation: CALLS=n for more calls, SCOPES=more for larger scopes
 # make fuzz     runs the fuzzer for FUZZ_SECONDS (60); needs clang
 # make check    proves what has changed and runs the test programs: quicker, and no verdict
-# make install  headers, archives, pkg-config files, the listing program, man pages: PREFIX=/usr/local, DESTDIR
+# make tools    builds the command keeper, target/cargo/release/keeper
+# make install  headers, archives, pkg-config files, programs and man pages: PREFIX=/usr/local, DESTDIR
 SHELL := /bin/sh
 .DEFAULT_GOAL := help
-.PHONY: help list program test check format reference-tests c-tests corpus-tests
-.PHONY: archives binding-tests differential-tests differential-faults fuzz fuzz-replay
+.PHONY: help list program test check format reference-tests corpus-tests
+.PHONY: archives c-tests install uninstall install-test tools tools-tests
+.PHONY: binding-tests differential-tests differential-faults fuzz fuzz-replay
 
 help:
 	@sed -n 's/^# \(make .*\)/\1/p' Makefile
@@ -30,7 +32,7 @@ program: need-rt
 	    { line[++n] = $$0 } \
 	    /^rt: .* proved \([0-9]/ { print >"/dev/stderr" }'
 
-test: need-rt need-gcc need-cargo format reference-tests c-tests corpus-tests binding-tests differential-tests fuzz-replay
+test: need-rt need-gcc need-cargo format reference-tests corpus-tests c-tests install-test binding-tests tools-tests differential-tests fuzz-replay
 	@rt ci
 
 check: need-rt
@@ -55,7 +57,6 @@ reference-tests: need-cargo
 
 # The archives of the libraries. Each is proved as it is written, every time, so it is done again only
 # where a source is newer.
-.PHONY: archives
 ARCHIVES = run_table keeper listing_text
 ARCHIVE_FILES = $(ARCHIVES:%=target/staticlib/lib%.a)
 archives: $(ARCHIVE_FILES)
@@ -72,7 +73,6 @@ c-tests: need-gcc archives
 	@sh tests/c/must_fail.sh target/staticlib target/tests
 
 # What C programs and people need of the library, under PREFIX. DESTDIR goes before each path and into no file.
-.PHONY: install uninstall install-test
 PREFIX = /usr/local
 BINDIR = $(PREFIX)/bin
 INCLUDEDIR = $(PREFIX)/include
@@ -105,21 +105,12 @@ uninstall:
 	done
 
 # Installs into a temporary folder, uses what stands there, and uninstalls.
-test: install-test
 install-test: need-gcc archives program
 	@MAKE='$(MAKE)' sh tests/install/run.sh
 
 # The listing program over the corpus of tables, whose listings are the second implementation's.
 corpus-tests: program
 	@sh tests/corpus/run.sh target/bin/listing
-
-# The archives that other programs link. `rt ci` removes target/, so what needs them runs before it.
-archives: need-rt
-	@mkdir -p target/tests
-	@for c in run_table keeper; do \
-	    rt staticlib $$c >target/tests/archive_$$c.log 2>&1 || { cat target/tests/archive_$$c.log; exit 1; }; \
-	    tail -n 1 target/tests/archive_$$c.log; \
-	done
 
 # The Rust binding: its doc tests on example A.
 binding-tests: archives need-cargo
@@ -153,3 +144,12 @@ fuzz: archives
 	@mkdir -p target/fuzz/corpus
 	@clang -std=c11 -Wall -Wextra -g -O2 -fsanitize=fuzzer,address,undefined -fno-sanitize-recover=undefined -o target/fuzz/fuzz $(FUZZ_SOURCES) || { echo "clang can't build with -fsanitize=fuzzer: its runtime is missing (Debian: libclang-rt-14-dev)" >&2; exit 1; }
 	@target/fuzz/fuzz -max_total_time=$(FUZZ_SECONDS) -max_len=1500 -print_final_stats=1 -artifact_prefix=target/fuzz/ target/fuzz/corpus fuzz/corpus
+
+# The command keeper over the proved archives, and its tests; the corpus once more, through the command.
+tools: need-cargo archives
+	@cd tools/keeper && $(CARGO) build --release --target-dir ../../target/cargo
+
+tools-tests: tools
+	@mkdir -p target/tests
+	@cd tools/keeper && $(CARGO) test --release --target-dir ../../target/cargo >../../target/tests/tools.log 2>&1 || { cat ../../target/tests/tools.log; exit 1; }
+	@awk '/^test result/ { n += $$4 } END { print n " tests of the command keeper passed" }' target/tests/tools.log
