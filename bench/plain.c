@@ -1,0 +1,171 @@
+/* Plain C: passes over the messages from the last to the first, from the ceiling of each line down, until
+   a pass lowers nothing. */
+#include "table.h"
+
+#define EVERYONE 0xFFFFFFFFu
+
+/* Lowers a line. Answers the number of passes; where nobody asks for it the compiler drops the count. */
+static inline size_t lower(uint16_t *line, struct parts t)
+{
+    size_t passes = 0;
+    int lowered;
+    do {
+        lowered = 0;
+        for (size_t k = t.m; k-- > 0;) {
+            uint16_t received = u16_at(t.receipts + 4 * k + 2);
+            if (received == 0)
+                continue;
+            if (u16_at(t.sends + 4 * k + 2) < line[u16_at(t.sends + 4 * k)])
+                continue;
+            uint16_t receiver = u16_at(t.receipts + 4 * k);
+            if (line[receiver] < received)
+                continue;
+            line[receiver] = (uint16_t)(received - 1);
+            lowered = 1;
+        }
+        passes++;
+    } while (lowered);
+    return passes;
+}
+
+/* The line of a set of processes that hold. */
+static inline size_t line_of_set(uint16_t *line, struct parts t, uint32_t set)
+{
+    for (size_t p = 0; p < t.n; p++)
+        line[p] = (uint16_t)(u16_at(t.counts + 2 * p) - (set >> p & 1));
+    return lower(line, t);
+}
+
+size_t plain_passes_of_recovery_line(const uint8_t *table)
+{
+    uint16_t line[MOST_PROCESSES];
+    return line_of_set(line, parts_of(table), EVERYONE);
+}
+
+size_t plain_passes_of_holders(const uint8_t *table)
+{
+    uint16_t line[MOST_PROCESSES];
+    struct parts t = parts_of(table);
+    size_t passes = 0;
+    for (size_t p = 0; p < t.n; p++)
+        passes += line_of_set(line, t, 1u << p);
+    return passes;
+}
+
+static inline uint32_t do_recovery_line(const uint8_t *table, uint8_t *answer, size_t room, size_t *written)
+{
+    struct parts t = parts_of(table);
+    uint16_t line[MOST_PROCESSES];
+    if (room < 2 * t.n)
+        return 16;
+    line_of_set(line, t, EVERYONE);
+    return put_line(line, t.n, answer, room, written);
+}
+
+static inline uint32_t do_send(const uint8_t *table, uint16_t from, uint16_t to, uint8_t *answer, size_t room, size_t *written)
+{
+    struct parts t = parts_of(table);
+    if (from >= t.n || to >= t.n)
+        return 10;
+    if (from == to)
+        return 11;
+    if (t.m >= MOST_MESSAGES)
+        return 14;
+    size_t size = 4 + 2 * t.n + 8 * t.m + 8;
+    if (room < size)
+        return 16;
+    uint8_t *send = answer + 4 + 2 * t.n + 4 * t.m;
+    memcpy(answer, table, 4 + 2 * t.n + 4 * t.m);
+    put_u16(answer + 2, (uint16_t)(t.m + 1));
+    put_u16(send, from);
+    put_u16(send + 2, (uint16_t)(u16_at(t.counts + 2 * from) - 1));
+    memcpy(send + 4, t.receipts, 4 * t.m);
+    put_u16(send + 4 + 4 * t.m, to);
+    put_u16(send + 4 + 4 * t.m + 2, 0);
+    *written = size;
+    return 0;
+}
+
+static inline uint32_t do_save(const uint8_t *table, uint16_t process, const uint16_t *list, size_t entries, uint8_t *answer, size_t room, size_t *written)
+{
+    struct parts t = parts_of(table);
+    if (process >= t.n)
+        return 10;
+    for (size_t a = 0; a < entries; a++) {
+        size_t k = list[a];
+        if (k >= t.m || (a > 0 && list[a] <= list[a - 1]))
+            return 13;
+        if (u16_at(t.receipts + 4 * k) != process || u16_at(t.receipts + 4 * k + 2) != 0)
+            return 13;
+    }
+    uint16_t count = u16_at(t.counts + 2 * process);
+    if (count >= MOST_STATES)
+        return 14;
+    size_t size = 4 + 2 * t.n + 8 * t.m;
+    if (room < size)
+        return 16;
+    memcpy(answer, table, size);
+    put_u16(answer + 4 + 2 * process, (uint16_t)(count + 1));
+    uint8_t *receipts = answer + 4 + 2 * t.n + 4 * t.m;
+    for (size_t a = 0; a < entries; a++)
+        put_u16(receipts + 4 * list[a] + 2, count);
+    *written = size;
+    return 0;
+}
+
+static inline uint32_t do_fall_back(const uint8_t *table, uint8_t *answer, size_t room, size_t *written)
+{
+    struct parts t = parts_of(table);
+    uint16_t line[MOST_PROCESSES];
+    line_of_set(line, t, EVERYONE);
+    return put_fall_back(t, line, answer, room, written);
+}
+
+static inline uint32_t do_keep_sheet(const uint8_t *table, uint16_t *scratch, size_t numbers, uint8_t *answer, size_t room, size_t *written)
+{
+    struct parts t = parts_of(table);
+    if (numbers < t.n * t.n)
+        return 15;
+    for (size_t p = 0; p < t.n; p++) {
+        uint16_t line[MOST_PROCESSES];
+        line_of_set(line, t, 1u << p);
+        memcpy(scratch + t.n * p, line, 2 * t.n);
+    }
+    return put_sheet(t, scratch, answer, room, written);
+}
+
+/* Each call with the checks of the table and without. */
+#define CHECKED(call) do { uint32_t refusal = check(table, length); return refusal != 0 ? refusal : (call); } while (0)
+#define BARE(call) do { (void)length; return (call); } while (0)
+#define CALLS(prefix, HOW) \
+    uint32_t prefix##_recovery_line(const uint8_t *table, size_t length, uint8_t *answer, size_t room, size_t *written) \
+    { HOW(do_recovery_line(table, answer, room, written)); } \
+    uint32_t prefix##_send(const uint8_t *table, size_t length, uint16_t from, uint16_t to, uint8_t *answer, size_t room, size_t *written) \
+    { HOW(do_send(table, from, to, answer, room, written)); } \
+    uint32_t prefix##_save(const uint8_t *table, size_t length, uint16_t process, const uint16_t *list, size_t entries, uint8_t *answer, size_t room, size_t *written) \
+    { HOW(do_save(table, process, list, entries, answer, room, written)); } \
+    uint32_t prefix##_fall_back(const uint8_t *table, size_t length, uint8_t *answer, size_t room, size_t *written) \
+    { HOW(do_fall_back(table, answer, room, written)); } \
+    uint32_t prefix##_keep_sheet(const uint8_t *table, size_t length, uint16_t *scratch, size_t numbers, uint8_t *answer, size_t room, size_t *written) \
+    { HOW(do_keep_sheet(table, scratch, numbers, answer, room, written)); }
+
+CALLS(plain, CHECKED)
+CALLS(bare, BARE)
+
+uint32_t plain_line_of_set(const uint8_t *table, size_t length, uint32_t set, uint8_t *answer, size_t room, size_t *written)
+{
+    uint32_t refusal = check(table, length);
+    if (refusal != 0)
+        return refusal;
+    struct parts t = parts_of(table);
+    uint16_t line[MOST_PROCESSES];
+    if (t.n < 32 && set >> t.n != 0)
+        return 12;
+    line_of_set(line, t, set);
+    return put_line(line, t.n, answer, room, written);
+}
+
+uint32_t plain_check_table(const uint8_t *table, size_t length)
+{
+    return check(table, length);
+}

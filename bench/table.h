@@ -1,0 +1,183 @@
+/* What the C versions share: the numbers and parts of a table, its checks, and what is written once the
+   lines are there. All of it is static, so that each version is compiled as one piece. */
+#ifndef TABLE_H
+#define TABLE_H
+
+#include <string.h>
+
+#include "calls.h"
+
+/* Low byte first, as the machine has it. */
+static inline uint16_t u16_at(const uint8_t *bytes)
+{
+    uint16_t value;
+    memcpy(&value, bytes, 2);
+    return value;
+}
+
+static inline void put_u16(uint8_t *bytes, uint16_t value)
+{
+    memcpy(bytes, &value, 2);
+}
+
+struct parts {
+    size_t n, m;
+    const uint8_t *counts, *sends, *receipts;
+};
+
+static inline struct parts parts_of(const uint8_t *table)
+{
+    struct parts t;
+    t.n = u16_at(table);
+    t.m = u16_at(table + 2);
+    t.counts = table + 4;
+    t.sends = t.counts + 2 * t.n;
+    t.receipts = t.sends + 4 * t.m;
+    return t;
+}
+
+/* Checks 1 to 9: the number of the first that catches, or 0. Each covers the whole table before the next
+   begins. */
+static uint32_t check(const uint8_t *table, size_t length)
+{
+    if (length < 4)
+        return 1;
+    struct parts t = parts_of(table);
+    if (t.n == 0 || t.n > MOST_PROCESSES)
+        return 2;
+    if (t.m > MOST_MESSAGES)
+        return 3;
+    if (length != 4 + 2 * t.n + 8 * t.m)
+        return 4;
+    for (size_t p = 0; p < t.n; p++) {
+        uint16_t count = u16_at(t.counts + 2 * p);
+        if (count == 0 || count > MOST_STATES)
+            return 5;
+    }
+    for (size_t k = 0; k < t.m; k++)
+        if (u16_at(t.sends + 4 * k) >= t.n)
+            return 6;
+    for (size_t k = 0; k < t.m; k++)
+        if (u16_at(t.receipts + 4 * k) >= t.n)
+            return 6;
+    for (size_t k = 0; k < t.m; k++)
+        if (u16_at(t.sends + 4 * k) == u16_at(t.receipts + 4 * k))
+            return 7;
+    for (size_t k = 0; k < t.m; k++)
+        if (u16_at(t.sends + 4 * k + 2) >= u16_at(t.counts + 2 * u16_at(t.sends + 4 * k)))
+            return 8;
+    for (size_t k = 0; k < t.m; k++)
+        if (u16_at(t.receipts + 4 * k + 2) >= u16_at(t.counts + 2 * u16_at(t.receipts + 4 * k)))
+            return 9;
+    return 0;
+}
+
+/* A line as an answer. */
+static inline uint32_t put_line(const uint16_t *line, size_t n, uint8_t *answer, size_t room, size_t *written)
+{
+    if (room < 2 * n)
+        return 16;
+    for (size_t p = 0; p < n; p++)
+        put_u16(answer + 2 * p, line[p]);
+    *written = 2 * n;
+    return 0;
+}
+
+/* The table after a fall back to a line. How many messages stay is counted first: a refusal writes
+   nothing. */
+static inline uint32_t put_fall_back(struct parts t, const uint16_t *line, uint8_t *answer, size_t room, size_t *written)
+{
+    size_t left = 0;
+    for (size_t k = 0; k < t.m; k++)
+        left += u16_at(t.sends + 4 * k + 2) < line[u16_at(t.sends + 4 * k)];
+    size_t size = 4 + 2 * t.n + 8 * left;
+    if (room < size)
+        return 16;
+    put_u16(answer, (uint16_t)t.n);
+    put_u16(answer + 2, (uint16_t)left);
+    for (size_t p = 0; p < t.n; p++)
+        put_u16(answer + 4 + 2 * p, (uint16_t)(line[p] + 1));
+    uint8_t *send = answer + 4 + 2 * t.n;
+    uint8_t *receipt = send + 4 * left;
+    for (size_t k = 0; k < t.m; k++) {
+        uint16_t sender = u16_at(t.sends + 4 * k), sent = u16_at(t.sends + 4 * k + 2);
+        if (sent >= line[sender])
+            continue;
+        uint16_t receiver = u16_at(t.receipts + 4 * k), received = u16_at(t.receipts + 4 * k + 2);
+        if (received > line[receiver])
+            received = 0;
+        put_u16(send, sender);
+        put_u16(send + 2, sent);
+        put_u16(receipt, receiver);
+        put_u16(receipt + 2, received);
+        send += 4;
+        receipt += 4;
+    }
+    *written = size;
+    return 0;
+}
+
+/* The smallest state from a start on, below a count, that some line has at process i; else the count. */
+static inline uint16_t next_kept(const uint16_t *lines, size_t n, size_t i, uint16_t from, uint16_t count)
+{
+    uint16_t least = count;
+    for (size_t k = 0; k < n; k++) {
+        uint16_t state = lines[n * k + i];
+        if (state >= from && state < least)
+            least = state;
+    }
+    return least;
+}
+
+/* Whether message k waits or crosses some line. */
+static inline int is_kept(const uint16_t *lines, struct parts t, size_t k)
+{
+    uint16_t received = u16_at(t.receipts + 4 * k + 2);
+    if (received == 0)
+        return 1;
+    uint16_t sent = u16_at(t.sends + 4 * k + 2);
+    const uint16_t *of_sender = lines + u16_at(t.sends + 4 * k);
+    const uint16_t *of_receiver = lines + u16_at(t.receipts + 4 * k);
+    for (size_t l = 0; l < t.n; l++)
+        if (sent < of_sender[t.n * l] && of_receiver[t.n * l] < received)
+            return 1;
+    return 0;
+}
+
+/* The keep sheet from the lines of single holders: K and Q are counted first, then all is written. */
+static inline uint32_t put_sheet(struct parts t, const uint16_t *lines, uint8_t *answer, size_t room, size_t *written)
+{
+    size_t kept = 0, logged = 0;
+    for (size_t i = 0; i < t.n; i++) {
+        uint16_t count = u16_at(t.counts + 2 * i);
+        for (uint16_t c = next_kept(lines, t.n, i, 0, count); c < count; c = next_kept(lines, t.n, i, (uint16_t)(c + 1), count))
+            kept++;
+    }
+    for (size_t k = 0; k < t.m; k++)
+        logged += (size_t)is_kept(lines, t, k);
+    size_t size = 4 + 4 * kept + 2 * logged;
+    if (room < size)
+        return 16;
+    put_u16(answer, (uint16_t)kept);
+    put_u16(answer + 2, (uint16_t)logged);
+    uint8_t *process = answer + 4;
+    uint8_t *state = process + 2 * kept;
+    for (size_t i = 0; i < t.n; i++) {
+        uint16_t count = u16_at(t.counts + 2 * i);
+        for (uint16_t c = next_kept(lines, t.n, i, 0, count); c < count; c = next_kept(lines, t.n, i, (uint16_t)(c + 1), count)) {
+            put_u16(process, (uint16_t)i);
+            put_u16(state, c);
+            process += 2;
+            state += 2;
+        }
+    }
+    for (size_t k = 0; k < t.m; k++)
+        if (is_kept(lines, t, k)) {
+            put_u16(state, (uint16_t)k);
+            state += 2;
+        }
+    *written = size;
+    return 0;
+}
+
+#endif
