@@ -1,0 +1,413 @@
+//! The keeper's calls in plain Rust: passes over the messages from the last to
+//! the first, from the ceiling of each line down, after the same checks of the
+//! table as the archive's. Safe code but for the slices that the C names take.
+
+const MOST_PROCESSES: usize = 32;
+const MOST_MESSAGES: usize = 4096;
+const MOST_STATES: u16 = 4096;
+const EVERYONE: u32 = u32::MAX;
+
+type Line = [u16; MOST_PROCESSES];
+
+fn u16_at(bytes: &[u8], at: usize) -> u16 {
+    u16::from_le_bytes([bytes[at], bytes[at + 1]])
+}
+
+fn put_u16(bytes: &mut [u8], at: usize, value: u16) {
+    bytes[at..at + 2].copy_from_slice(&value.to_le_bytes());
+}
+
+/// An entry: a process and the number of a state.
+fn entry(bytes: &[u8; 4]) -> (usize, u16) {
+    let [a, b, c, d] = *bytes;
+    (
+        usize::from(u16::from_le_bytes([a, b])),
+        u16::from_le_bytes([c, d]),
+    )
+}
+
+struct Parts<'a> {
+    n: usize,
+    m: usize,
+    counts: &'a [u8],
+    sends: &'a [[u8; 4]],
+    receipts: &'a [[u8; 4]],
+}
+
+impl<'a> Parts<'a> {
+    fn of(table: &'a [u8]) -> Parts<'a> {
+        let n = usize::from(u16_at(table, 0));
+        let m = usize::from(u16_at(table, 2));
+        let (counts, messages) = table[4..].split_at(2 * n);
+        let (messages, _) = messages.as_chunks::<4>();
+        let (sends, receipts) = messages.split_at(m);
+        Parts {
+            n,
+            m,
+            counts,
+            sends,
+            receipts,
+        }
+    }
+
+    fn count(&self, p: usize) -> u16 {
+        u16_at(self.counts, 2 * p)
+    }
+
+    /// The messages, each its send and its receipt.
+    fn messages(
+        &self,
+    ) -> impl DoubleEndedIterator<Item = ((usize, u16), (usize, u16))> + ExactSizeIterator + 'a
+    {
+        let sends = self.sends.iter().map(entry);
+        let receipts = self.receipts.iter().map(entry);
+        sends.zip(receipts)
+    }
+}
+
+fn check(table: &[u8]) -> u32 {
+    if table.len() < 4 {
+        return 1;
+    }
+    let n = usize::from(u16_at(table, 0));
+    let m = usize::from(u16_at(table, 2));
+    if n == 0 || n > MOST_PROCESSES {
+        return 2;
+    }
+    if m > MOST_MESSAGES {
+        return 3;
+    }
+    if table.len() != 4 + 2 * n + 8 * m {
+        return 4;
+    }
+    let parts = Parts::of(table);
+    let mut counts = [0u16; MOST_PROCESSES];
+    for (p, count) in counts.iter_mut().enumerate().take(n) {
+        *count = parts.count(p);
+    }
+    if counts[..n].iter().any(|&c| c == 0 || c > MOST_STATES) {
+        return 5;
+    }
+    let unknown = |part: &[[u8; 4]]| part.iter().any(|e| entry(e).0 >= n);
+    if unknown(parts.sends) || unknown(parts.receipts) {
+        return 6;
+    }
+    if parts.messages().any(|((j, _), (i, _))| j == i) {
+        return 7;
+    }
+    let not_below = |part: &[[u8; 4]]| {
+        part.iter().any(|e| {
+            let (process, number) = entry(e);
+            number >= counts[process]
+        })
+    };
+    if not_below(parts.sends) {
+        return 8;
+    }
+    if not_below(parts.receipts) {
+        return 9;
+    }
+    0
+}
+
+fn line_of_set(parts: &Parts, set: u32) -> Line {
+    let mut line = [0; MOST_PROCESSES];
+    for (p, place) in line.iter_mut().enumerate().take(parts.n) {
+        *place = parts.count(p) - (set >> p & 1) as u16;
+    }
+    loop {
+        let mut lowered = false;
+        for ((sender, sent), (receiver, received)) in parts.messages().rev() {
+            if received != 0 && sent >= line[sender] && received <= line[receiver] {
+                line[receiver] = received - 1;
+                lowered = true;
+            }
+        }
+        if !lowered {
+            return line;
+        }
+    }
+}
+
+fn recovery_line(table: &[u8], answer: &mut [u8], written: &mut usize) -> u32 {
+    let refusal = check(table);
+    if refusal != 0 {
+        return refusal;
+    }
+    let parts = Parts::of(table);
+    if answer.len() < 2 * parts.n {
+        return 16;
+    }
+    let line = line_of_set(&parts, EVERYONE);
+    for (place, number) in answer.chunks_exact_mut(2).zip(&line[..parts.n]) {
+        place.copy_from_slice(&number.to_le_bytes());
+    }
+    *written = 2 * parts.n;
+    0
+}
+
+fn send(table: &[u8], from: u16, to: u16, answer: &mut [u8], written: &mut usize) -> u32 {
+    let refusal = check(table);
+    if refusal != 0 {
+        return refusal;
+    }
+    let parts = Parts::of(table);
+    if usize::from(from) >= parts.n || usize::from(to) >= parts.n {
+        return 10;
+    }
+    if from == to {
+        return 11;
+    }
+    if parts.m >= MOST_MESSAGES {
+        return 14;
+    }
+    let size = table.len() + 8;
+    if answer.len() < size {
+        return 16;
+    }
+    let middle = 4 + 2 * parts.n + 4 * parts.m;
+    answer[..middle].copy_from_slice(&table[..middle]);
+    put_u16(answer, 2, parts.m as u16 + 1);
+    put_u16(answer, middle, from);
+    put_u16(answer, middle + 2, parts.count(usize::from(from)) - 1);
+    answer[middle + 4..size - 4].copy_from_slice(parts.receipts.as_flattened());
+    put_u16(answer, size - 4, to);
+    put_u16(answer, size - 2, 0);
+    *written = size;
+    0
+}
+
+fn save(table: &[u8], process: u16, list: &[u16], answer: &mut [u8], written: &mut usize) -> u32 {
+    let refusal = check(table);
+    if refusal != 0 {
+        return refusal;
+    }
+    let parts = Parts::of(table);
+    if usize::from(process) >= parts.n {
+        return 10;
+    }
+    let waits = |k: usize| entry(&parts.receipts[k]) == (usize::from(process), 0);
+    if list
+        .iter()
+        .any(|&k| usize::from(k) >= parts.m || !waits(usize::from(k)))
+        || list.windows(2).any(|two| two[0] >= two[1])
+    {
+        return 13;
+    }
+    let count = parts.count(usize::from(process));
+    if count >= MOST_STATES {
+        return 14;
+    }
+    let size = table.len();
+    if answer.len() < size {
+        return 16;
+    }
+    answer[..size].copy_from_slice(table);
+    put_u16(answer, 4 + 2 * usize::from(process), count + 1);
+    let receipts = &mut answer[4 + 2 * parts.n + 4 * parts.m..size];
+    for &k in list {
+        put_u16(receipts, 4 * usize::from(k) + 2, count);
+    }
+    *written = size;
+    0
+}
+
+fn fall_back(table: &[u8], answer: &mut [u8], written: &mut usize) -> u32 {
+    let refusal = check(table);
+    if refusal != 0 {
+        return refusal;
+    }
+    let parts = Parts::of(table);
+    let line = line_of_set(&parts, EVERYONE);
+    let stays = |&((j, y), _): &((usize, u16), (usize, u16))| y < line[j];
+    let left = parts.messages().filter(stays).count();
+    let size = 4 + 2 * parts.n + 8 * left;
+    if answer.len() < size {
+        return 16;
+    }
+    put_u16(answer, 0, parts.n as u16);
+    put_u16(answer, 2, left as u16);
+    for p in 0..parts.n {
+        put_u16(answer, 4 + 2 * p, line[p] + 1);
+    }
+    let (sends, receipts) = answer[4 + 2 * parts.n..size].split_at_mut(4 * left);
+    let places = sends.chunks_exact_mut(4).zip(receipts.chunks_exact_mut(4));
+    for (((j, y), (i, r)), (send, receipt)) in parts.messages().filter(stays).zip(places) {
+        put_u16(send, 0, j as u16);
+        put_u16(send, 2, y);
+        put_u16(receipt, 0, i as u16);
+        put_u16(receipt, 2, if r > line[i] { 0 } else { r });
+    }
+    *written = size;
+    0
+}
+
+/// The states of process i that some line has, below the count, rising.
+fn kept_states(lines: &[u16], n: usize, i: usize, count: u16) -> impl Iterator<Item = u16> + '_ {
+    let next = move |from: u16| {
+        let states = lines.chunks_exact(n).map(move |line| line[i]);
+        states.filter(|&c| c >= from && c < count).min()
+    };
+    std::iter::successors(next(0), move |&c| next(c + 1))
+}
+
+fn keep_sheet(table: &[u8], scratch: &mut [u16], answer: &mut [u8], written: &mut usize) -> u32 {
+    let refusal = check(table);
+    if refusal != 0 {
+        return refusal;
+    }
+    let parts = Parts::of(table);
+    let n = parts.n;
+    if scratch.len() < n * n {
+        return 15;
+    }
+    for (p, place) in scratch.chunks_exact_mut(n).take(n).enumerate() {
+        place.copy_from_slice(&line_of_set(&parts, 1 << p)[..n]);
+    }
+    let lines = &scratch[..n * n];
+    let is_kept = |((j, y), (i, r)): ((usize, u16), (usize, u16))| {
+        r == 0 || lines.chunks_exact(n).any(|line| y < line[j] && line[i] < r)
+    };
+    let kept: usize = (0..n)
+        .map(|i| kept_states(lines, n, i, parts.count(i)).count())
+        .sum();
+    let logged = parts.messages().filter(|&m| is_kept(m)).count();
+    let size = 4 + 4 * kept + 2 * logged;
+    if answer.len() < size {
+        return 16;
+    }
+    put_u16(answer, 0, kept as u16);
+    put_u16(answer, 2, logged as u16);
+    let (processes, rest) = answer[4..size].split_at_mut(2 * kept);
+    let (states, positions) = rest.split_at_mut(2 * kept);
+    let mut places = processes
+        .chunks_exact_mut(2)
+        .zip(states.chunks_exact_mut(2));
+    for i in 0..n {
+        for c in kept_states(lines, n, i, parts.count(i)) {
+            if let Some((process, state)) = places.next() {
+                put_u16(process, 0, i as u16);
+                put_u16(state, 0, c);
+            }
+        }
+    }
+    let mut places = positions.chunks_exact_mut(2);
+    for (k, message) in parts.messages().enumerate() {
+        if is_kept(message) {
+            if let Some(place) = places.next() {
+                put_u16(place, 0, k as u16);
+            }
+        }
+    }
+    *written = size;
+    0
+}
+
+// ---------------------------------------------------------------------------
+// The C names. Each caller lends what it says.
+
+use std::slice::{from_raw_parts, from_raw_parts_mut};
+
+/// # Safety
+/// The pointers are to as many bytes as the lengths say.
+#[no_mangle]
+pub unsafe extern "C" fn rust_check_table(table: *const u8, length: usize) -> u32 {
+    check(from_raw_parts(table, length))
+}
+
+/// # Safety
+/// As above.
+#[no_mangle]
+pub unsafe extern "C" fn rust_recovery_line(
+    table: *const u8,
+    length: usize,
+    answer: *mut u8,
+    room: usize,
+    written: &mut usize,
+) -> u32 {
+    recovery_line(
+        from_raw_parts(table, length),
+        from_raw_parts_mut(answer, room),
+        written,
+    )
+}
+
+/// # Safety
+/// As above.
+#[no_mangle]
+pub unsafe extern "C" fn rust_send(
+    table: *const u8,
+    length: usize,
+    from: u16,
+    to: u16,
+    answer: *mut u8,
+    room: usize,
+    written: &mut usize,
+) -> u32 {
+    send(
+        from_raw_parts(table, length),
+        from,
+        to,
+        from_raw_parts_mut(answer, room),
+        written,
+    )
+}
+
+/// # Safety
+/// As above.
+#[no_mangle]
+pub unsafe extern "C" fn rust_save(
+    table: *const u8,
+    length: usize,
+    process: u16,
+    list: *const u16,
+    entries: usize,
+    answer: *mut u8,
+    room: usize,
+    written: &mut usize,
+) -> u32 {
+    save(
+        from_raw_parts(table, length),
+        process,
+        from_raw_parts(list, entries),
+        from_raw_parts_mut(answer, room),
+        written,
+    )
+}
+
+/// # Safety
+/// As above.
+#[no_mangle]
+pub unsafe extern "C" fn rust_fall_back(
+    table: *const u8,
+    length: usize,
+    answer: *mut u8,
+    room: usize,
+    written: &mut usize,
+) -> u32 {
+    fall_back(
+        from_raw_parts(table, length),
+        from_raw_parts_mut(answer, room),
+        written,
+    )
+}
+
+/// # Safety
+/// As above.
+#[no_mangle]
+pub unsafe extern "C" fn rust_keep_sheet(
+    table: *const u8,
+    length: usize,
+    scratch: *mut u16,
+    numbers: usize,
+    answer: *mut u8,
+    room: usize,
+    written: &mut usize,
+) -> u32 {
+    keep_sheet(
+        from_raw_parts(table, length),
+        from_raw_parts_mut(scratch, numbers),
+        from_raw_parts_mut(answer, room),
+        written,
+    )
+}
