@@ -1,0 +1,799 @@
+/* The benchmark. `bench measure ROWS INSTRUCTIONS TEXT REPORT` measures every call of every implementation
+   on the tables that ROWS names and writes the report: TEXT with this run's tables in their places. `bench
+   instructions ROWS` makes each call once, for callgrind to count. A difference between two
+   implementations ends the run before anything is timed. Times are of the processor, not of the clock. */
+#define _GNU_SOURCE
+#include <stdarg.h>
+#include <stdbool.h>
+#include <stdio.h>
+#include <stdlib.h>
+#include <string.h>
+#include <time.h>
+
+#include "calls.h"
+
+#if __has_include(<valgrind/callgrind.h>)
+#include <valgrind/callgrind.h>
+#else
+#define CALLGRIND_ZERO_STATS ((void)0)
+#define CALLGRIND_DUMP_STATS_AT(label) ((void)(label))
+#endif
+
+enum { MOST_TABLE = 4 + 2 * MOST_PROCESSES + 8 * MOST_MESSAGES, MOST_ANSWER = MOST_TABLE + 64, MOST_ROWS = 64 };
+
+/* ------------------------------------------------------------------------------------------------- */
+/* The implementations. */
+
+enum { ARCHIVE, PLAIN, BARE, RUST, MARKS, RANGES, IMPLEMENTATIONS };
+
+struct implementation {
+    const char *name;
+    SHEET((*keep_sheet));
+    LINE((*recovery_line));
+    LINE((*fall_back));
+    SEND((*send));
+    SAVE((*save));
+};
+
+static const struct implementation implementations[IMPLEMENTATIONS] = {
+    {"archive", keeper_keep_sheet, keeper_recovery_line, keeper_fall_back, keeper_send, keeper_save},
+    {"C", plain_keep_sheet, plain_recovery_line, plain_fall_back, plain_send, plain_save},
+    {"C-without-checks", bare_keep_sheet, bare_recovery_line, bare_fall_back, bare_send, bare_save},
+    {"Rust", rust_keep_sheet, rust_recovery_line, rust_fall_back, rust_send, rust_save},
+    {"work-list-marks", marks_keep_sheet, marks_recovery_line, marks_fall_back, NULL, NULL},
+    {"work-list-ranges", ranges_keep_sheet, ranges_recovery_line, ranges_fall_back, NULL, NULL},
+};
+
+enum { SHEET_CALL, LINE_CALL, FALL_BACK_CALL, SEND_CALL, SAVE_CALL, CALLS };
+
+static const char *const call_names[CALLS] = {"keep-sheet", "recovery-line", "fall-back", "send", "save"};
+static const char *const call_titles[CALLS] = {"Keep sheet", "Recovery line", "Fall back", "Send", "Save"};
+
+/* ------------------------------------------------------------------------------------------------- */
+/* Rows. */
+
+struct times {
+    double median, least;
+};
+
+/* What a sheet's time is taken apart by, measured side by side: the checks, the recovery line, all lines of
+   single holders (each with its checks), and the sheet, of the archive, C and Rust. */
+enum {
+    CHECK_OF_ARCHIVE, CHECK_OF_C, CHECK_OF_RUST, LINE_OF_ARCHIVE, LINE_OF_C, LINE_OF_RUST,
+    LINES_OF_ARCHIVE, LINES_OF_C, SHEET_OF_ARCHIVE, SHEET_OF_C, PARTS
+};
+
+struct row {
+    char label[64], path[256];
+    bool history;                  /* a row of the second goal; its passes are few, so it is also looked at closely */
+    uint8_t table[MOST_TABLE], shorter[MOST_TABLE];
+    size_t length, shorter_length, n, m;
+    uint16_t saver, list[MOST_MESSAGES];
+    size_t entries;
+    size_t kept, logged, kept_before, logged_before;
+    double passes_of_holders, passes_of_recovery;
+    struct times times[CALLS][IMPLEMENTATIONS];
+    double ratio[CALLS][IMPLEMENTATIONS];          /* archive to this, the median of side by side */
+    double instructions[CALLS][IMPLEMENTATIONS];   /* 0: not counted */
+    double part[PARTS];            /* seconds, the least of each; 0: not measured */
+    double networkx;               /* seconds; 0: not measured */
+};
+
+static struct row rows[MOST_ROWS];
+static size_t row_count;
+
+static uint8_t answer[MOST_ANSWER];
+static uint16_t scratch[MOST_PROCESSES * MOST_PROCESSES];
+static size_t written;
+
+static void stop(const char *format, ...)
+{
+    va_list list;
+    va_start(list, format);
+    fprintf(stderr, "bench: ");
+    vfprintf(stderr, format, list);
+    fprintf(stderr, "\n");
+    va_end(list);
+    exit(1);
+}
+
+static uint16_t number_at(const uint8_t *bytes)
+{
+    return (uint16_t)(bytes[0] | bytes[1] << 8);
+}
+
+static uint32_t call(const struct row *row, int which, int call)
+{
+    const struct implementation *by = &implementations[which];
+    switch (call) {
+    case SHEET_CALL:
+        return by->keep_sheet(row->table, row->length, scratch, sizeof scratch / 2, answer, sizeof answer, &written);
+    case LINE_CALL:
+        return by->recovery_line(row->table, row->length, answer, sizeof answer, &written);
+    case FALL_BACK_CALL:
+        return by->fall_back(row->table, row->length, answer, sizeof answer, &written);
+    case SEND_CALL:
+        return by->send(row->shorter, row->shorter_length, 0, 1, answer, sizeof answer, &written);
+    default:
+        return by->save(row->table, row->length, row->saver, row->list, row->entries, answer, sizeof answer, &written);
+    }
+}
+
+static bool has(int which, int call)
+{
+    return implementations[which].send != NULL || call < SEND_CALL;
+}
+
+static void read_table(struct row *row)
+{
+    FILE *file = fopen(row->path, "rb");
+    if (file == NULL)
+        stop("%s can't be read", row->path);
+    row->length = fread(row->table, 1, sizeof row->table, file);
+    fclose(file);
+    if (keeper_check_table(row->table, row->length) != 0)
+        stop("%s: the table is refused", row->label);
+    const uint8_t *table = row->table;
+    row->n = number_at(table);
+    row->m = number_at(table + 2);
+    size_t sends = 4 + 2 * row->n, receipts = sends + 4 * row->m;
+    /* For a send: the table without its last message. */
+    memcpy(row->shorter, table, receipts - 4);
+    row->shorter[2] = (uint8_t)((row->m - 1) & 0xFF);
+    row->shorter[3] = (uint8_t)((row->m - 1) >> 8);
+    memcpy(row->shorter + receipts - 4, table + receipts, 4 * (row->m - 1));
+    row->shorter_length = row->length - 8;
+    /* For a save: the process that most messages wait for, and all of these. */
+    size_t waiting[MOST_PROCESSES] = {0};
+    for (size_t k = 0; k < row->m; k++)
+        if (number_at(table + receipts + 4 * k + 2) == 0)
+            waiting[number_at(table + receipts + 4 * k)]++;
+    for (size_t p = 0; p < row->n; p++)
+        if (waiting[p] > waiting[row->saver])
+            row->saver = (uint16_t)p;
+    for (size_t k = 0; k < row->m; k++)
+        if (number_at(table + receipts + 4 * k) == row->saver && number_at(table + receipts + 4 * k + 2) == 0)
+            row->list[row->entries++] = (uint16_t)k;
+}
+
+/* Every implementation gives the archive's number, length, answer and lines. */
+static void compare(struct row *row)
+{
+    static uint8_t first_answer[MOST_ANSWER];
+    static uint16_t first_scratch[MOST_PROCESSES * MOST_PROCESSES];
+    for (int c = 0; c < CALLS; c++) {
+        size_t first_written = 0;
+        for (int w = 0; w < IMPLEMENTATIONS; w++) {
+            if (!has(w, c))
+                continue;
+            memset(answer, 0xA5, sizeof answer);
+            memset(scratch, 0xA5, sizeof scratch);
+            written = SIZE_MAX;
+            uint32_t refusal = call(row, w, c);
+            if (refusal != 0)
+                stop("%s: %s of %s is refused by %u", row->label, call_names[c], implementations[w].name, refusal);
+            if (w == ARCHIVE) {
+                memcpy(first_answer, answer, sizeof answer);
+                memcpy(first_scratch, scratch, sizeof scratch);
+                first_written = written;
+                if (c == SHEET_CALL) {
+                    row->kept = number_at(answer);
+                    row->logged = number_at(answer + 2);
+                }
+                if (c == LINE_CALL) {
+                    /* The traditional rule keeps all that is not wholly before the recovery line. */
+                    const uint8_t *receipts = row->table + 4 + 2 * row->n + 4 * row->m;
+                    for (size_t p = 0; p < row->n; p++)
+                        row->kept_before += (size_t)(number_at(row->table + 4 + 2 * p) - number_at(answer + 2 * p));
+                    for (size_t k = 0; k < row->m; k++) {
+                        uint16_t received = number_at(receipts + 4 * k + 2);
+                        if (received == 0 || received > number_at(answer + 2 * number_at(receipts + 4 * k)))
+                            row->logged_before++;
+                    }
+                }
+                continue;
+            }
+            if (written != first_written || memcmp(answer, first_answer, sizeof answer) != 0)
+                stop("%s: %s of %s differs from the archive's", row->label, call_names[c], implementations[w].name);
+            if (memcmp(scratch, first_scratch, sizeof scratch) != 0)
+                stop("%s: the lines of %s differ from the archive's", row->label, implementations[w].name);
+        }
+    }
+}
+
+/* ------------------------------------------------------------------------------------------------- */
+/* Times. */
+
+static double now(void)
+{
+    struct timespec t;
+    clock_gettime(CLOCK_PROCESS_CPUTIME_ID, &t);
+    return (double)t.tv_sec + 1e-9 * (double)t.tv_nsec;
+}
+
+static int by_size(const void *a, const void *b)
+{
+    double x = *(const double *)a, y = *(const double *)b;
+    return (x > y) - (x < y);
+}
+
+static double median(double *values, size_t count)
+{
+    qsort(values, count, sizeof *values, by_size);
+    return count % 2 ? values[count / 2] : (values[count / 2 - 1] + values[count / 2]) / 2;
+}
+
+enum { LEAST_REPEATS = 5, MOST_REPEATS = 201 };
+
+typedef void task(void *context, int which);
+
+/* Measures the tasks side by side: each repetition runs a batch of each, and begins with another one.
+   Ratios are of batches of the same repetition, and the median of these is taken. */
+static void measure(task *run, void *context, const int *which, size_t tasks, double budget, struct times *times, double *ratio)
+{
+    static double seconds[PARTS][MOST_REPEATS], quotient[MOST_REPEATS];
+    size_t batch[PARTS];
+    double together = 0;
+    for (size_t t = 0; t < tasks; t++) {
+        run(context, which[t]);
+        double start = now();
+        run(context, which[t]);
+        double once = now() - start;
+        batch[t] = once > 1e-4 ? 1 : (size_t)(1e-4 / (once + 1e-8)) + 1;
+        together += once * (double)batch[t];
+    }
+    size_t repeats = (size_t)(budget / together);
+    repeats = repeats < LEAST_REPEATS ? LEAST_REPEATS : repeats > MOST_REPEATS ? MOST_REPEATS : repeats;
+    for (size_t r = 0; r < repeats; r++)
+        for (size_t a = 0; a < tasks; a++) {
+            size_t t = (a + r) % tasks;
+            double start = now();
+            for (size_t b = 0; b < batch[t]; b++)
+                run(context, which[t]);
+            seconds[t][r] = (now() - start) / (double)batch[t];
+        }
+    for (size_t t = 0; t < tasks; t++) {
+        for (size_t r = 0; r < repeats; r++)
+            quotient[r] = seconds[0][r] / seconds[t][r];
+        ratio[t] = median(quotient, repeats);
+    }
+    for (size_t t = 0; t < tasks; t++) {
+        times[t].median = median(seconds[t], repeats);
+        times[t].least = seconds[t][0];
+    }
+}
+
+struct call_context {
+    const struct row *row;
+    int call;
+};
+
+static void run_call(void *context, int which)
+{
+    struct call_context *c = context;
+    call(c->row, which, c->call);
+}
+
+static volatile uint32_t sink;
+
+static void run_part(void *context, int which)
+{
+    const struct row *row = context;
+    switch (which) {
+    case CHECK_OF_ARCHIVE: sink = keeper_check_table(row->table, row->length); break;
+    case CHECK_OF_C: sink = plain_check_table(row->table, row->length); break;
+    case CHECK_OF_RUST: sink = rust_check_table(row->table, row->length); break;
+    case LINE_OF_ARCHIVE: call(row, ARCHIVE, LINE_CALL); break;
+    case LINE_OF_C: call(row, PLAIN, LINE_CALL); break;
+    case LINE_OF_RUST: call(row, RUST, LINE_CALL); break;
+    case LINES_OF_ARCHIVE:
+        for (size_t p = 0; p < row->n; p++)
+            keeper_line_of_set(row->table, row->length, 1u << p, answer, sizeof answer, &written);
+        break;
+    case LINES_OF_C:
+        for (size_t p = 0; p < row->n; p++)
+            plain_line_of_set(row->table, row->length, 1u << p, answer, sizeof answer, &written);
+        break;
+    case SHEET_OF_ARCHIVE: call(row, ARCHIVE, SHEET_CALL); break;
+    default: call(row, PLAIN, SHEET_CALL);
+    }
+}
+
+static void measure_row(struct row *row, double budget)
+{
+    for (int c = 0; c < CALLS; c++) {
+        int which[IMPLEMENTATIONS];
+        size_t tasks = 0;
+        for (int w = 0; w < IMPLEMENTATIONS; w++)
+            if (has(w, c))
+                which[tasks++] = w;
+        struct call_context context = {row, c};
+        struct times times[IMPLEMENTATIONS];
+        double ratio[IMPLEMENTATIONS];
+        measure(run_call, &context, which, tasks, c == SHEET_CALL ? 3 * budget : budget, times, ratio);
+        for (size_t t = 0; t < tasks; t++) {
+            row->times[c][which[t]] = times[t];
+            row->ratio[c][which[t]] = ratio[t];
+        }
+    }
+    int parts[PARTS];
+    struct times times[PARTS];
+    double ratio[PARTS];
+    size_t tasks = row->history ? PARTS : LINES_OF_ARCHIVE;
+    for (size_t t = 0; t < tasks; t++)
+        parts[t] = (int)t;
+    measure(run_part, row, parts, tasks, 4 * budget, times, ratio);
+    for (size_t t = 0; t < tasks; t++)
+        row->part[t] = times[t].least;
+}
+
+/* ------------------------------------------------------------------------------------------------- */
+/* The stack. The bytes below the stack pointer are painted, the call is made, and the deepest byte that is
+   no longer paint is looked for: what the call used, with its return address and the arguments that do not
+   fit in registers. Two paints, so that a byte that happens to be paint is not missed. */
+
+enum { PAINTED = 32768 };
+
+enum { CHECK_EXPORT, LINE_EXPORT, SET_EXPORT, SEND_EXPORT, SAVE_EXPORT, FALL_BACK_EXPORT, SHEET_EXPORT, EXPORTS };
+
+static const char *const export_names[EXPORTS] = {
+    "keeper_check_table", "keeper_recovery_line", "keeper_line_of_set", "keeper_send", "keeper_save",
+    "keeper_fall_back", "keeper_keep_sheet",
+};
+
+__attribute__((noinline)) static size_t stack_of(int export, const uint8_t *table, size_t length, uint16_t process, const uint16_t *list, size_t entries, uint8_t paint)
+{
+    volatile uint8_t *top;
+    __asm__ volatile("mov %%rsp, %0" : "=r"(top) : : "memory");
+    for (size_t a = 1; a <= PAINTED; a++)
+        top[-(ptrdiff_t)a] = paint;
+    __asm__ volatile("" : : : "memory");
+    switch (export) {
+    case CHECK_EXPORT: sink = keeper_check_table(table, length); break;
+    case LINE_EXPORT: sink = keeper_recovery_line(table, length, answer, sizeof answer, &written); break;
+    case SET_EXPORT: sink = keeper_line_of_set(table, length, 1, answer, sizeof answer, &written); break;
+    case SEND_EXPORT: sink = keeper_send(table, length, 0, 1, answer, sizeof answer, &written); break;
+    case SAVE_EXPORT: sink = keeper_save(table, length, process, list, entries, answer, sizeof answer, &written); break;
+    case FALL_BACK_EXPORT: sink = keeper_fall_back(table, length, answer, sizeof answer, &written); break;
+    default: sink = keeper_keep_sheet(table, length, scratch, sizeof scratch / 2, answer, sizeof answer, &written);
+    }
+    __asm__ volatile("" : : : "memory");
+    size_t depth = PAINTED;
+    while (depth > 0 && top[-(ptrdiff_t)depth] == paint)
+        depth--;
+    return depth;
+}
+
+/* The least and the most over the rows, the rows cut by a message, a table of one process, and a refused
+   one. */
+static void measure_stack(size_t least[EXPORTS], size_t most[EXPORTS])
+{
+    static const uint8_t one[6] = {1, 0, 0, 0, 1, 0}, refused[3];
+    for (int e = 0; e < EXPORTS; e++) {
+        least[e] = SIZE_MAX;
+        most[e] = 0;
+        for (size_t r = 0; r < row_count + 2; r++)
+            for (int cut = 0; cut < 2; cut++) {
+                const struct row *row = &rows[r < row_count ? r : 0];
+                const uint8_t *table = r == row_count ? one : r > row_count ? refused : cut ? row->shorter : row->table;
+                size_t length = r == row_count ? sizeof one : r > row_count ? sizeof refused : cut ? row->shorter_length : row->length;
+                size_t a = stack_of(e, table, length, row->saver, row->list, cut ? 0 : row->entries, 0xA5);
+                size_t b = stack_of(e, table, length, row->saver, row->list, cut ? 0 : row->entries, 0x5A);
+                size_t depth = a > b ? a : b;
+                least[e] = depth < least[e] ? depth : least[e];
+                most[e] = depth > most[e] ? depth : most[e];
+            }
+    }
+}
+
+/* ------------------------------------------------------------------------------------------------- */
+/* Instructions, counted by callgrind. */
+
+static void count_instructions(void)
+{
+    for (size_t r = 0; r < row_count; r++) {
+        if (!rows[r].history)
+            continue;
+        for (int c = 0; c < CALLS; c++)
+            for (int w = 0; w < IMPLEMENTATIONS; w++) {
+                if (!has(w, c))
+                    continue;
+                static char label[64];
+                snprintf(label, sizeof label, "row %zu %d %d", r, c, w);
+                CALLGRIND_ZERO_STATS;
+                call(&rows[r], w, c);
+                CALLGRIND_DUMP_STATS_AT(label);
+            }
+    }
+}
+
+/* Lines `row ROW CALL IMPLEMENTATION COUNT`. */
+static bool read_instructions(const char *path)
+{
+    FILE *file = fopen(path, "r");
+    if (file == NULL)
+        return false;
+    size_t r;
+    int c, w;
+    double count;
+    bool some = false;
+    while (fscanf(file, " row %zu %d %d %lf", &r, &c, &w, &count) == 4)
+        if (r < row_count && c >= 0 && c < CALLS && w >= 0 && w < IMPLEMENTATIONS) {
+            rows[r].instructions[c][w] = count;
+            some = true;
+        }
+    fclose(file);
+    return some;
+}
+
+/* ------------------------------------------------------------------------------------------------- */
+/* Figure 3 on networkx, by a command that takes the tables' paths. */
+
+static bool measure_networkx(const char *command)
+{
+    if (command == NULL || command[0] == 0)
+        return false;
+    static char line[1 << 16];
+    char *words = malloc(strlen(command) + row_count * 300 + 1);
+    char *end = words + sprintf(words, "%s", command);
+    for (size_t r = 0; r < row_count; r++)
+        end += sprintf(end, " '%s'", rows[r].path);
+    FILE *pipe = popen(words, "r");
+    if (pipe == NULL)
+        stop("Figure 3 on networkx can't be run");
+    for (size_t r = 0; r < row_count; r++) {
+        double seconds;
+        int at;
+        if (fgets(line, sizeof line, pipe) == NULL || sscanf(line, "%lf %n", &seconds, &at) != 1)
+            stop("%s: Figure 3 on networkx gave no answer", rows[r].label);
+        call(&rows[r], ARCHIVE, SHEET_CALL);
+        bool same = strlen(line + at) == 2 * written + 1;
+        for (size_t b = 0; same && b < written; b++) {
+            char byte[3];
+            sprintf(byte, "%02x", answer[b]);
+            same = memcmp(byte, line + at + 2 * b, 2) == 0;
+        }
+        if (!same)
+            stop("%s: the sheet by Figure 3 on networkx differs from the archive's", rows[r].label);
+        rows[r].networkx = seconds;
+    }
+    pclose(pipe);
+    free(words);
+    return true;
+}
+
+/* ------------------------------------------------------------------------------------------------- */
+/* The report. */
+
+static FILE *report;
+
+#define SAY(...) fprintf(report, __VA_ARGS__)
+
+static const char *fact(const char *name)
+{
+    const char *value = getenv(name);
+    return value != NULL && value[0] != 0 ? value : "not known";
+}
+
+/* A number with as many places as it needs. */
+static const char *brief(double value)
+{
+    static char texts[8][32];
+    static int next;
+    char *text = texts[next++ % 8];
+    if (value >= 9.995e3) {
+        /* Commas between thousands. */
+        char digits[32];
+        int length = snprintf(digits, sizeof digits, "%.0f", value), out = 0;
+        for (int a = 0; a < length; a++) {
+            if (a > 0 && (length - a) % 3 == 0)
+                text[out++] = ',';
+            text[out++] = digits[a];
+        }
+        text[out] = 0;
+    } else
+        snprintf(text, 32, value >= 99.95 ? "%.0f" : value >= 9.995 ? "%.1f" : "%.2f", value);
+    return text;
+}
+
+static void say_tables(void)
+{
+    SAY("| table | N | M | passes a line | passes, recovery line | K | Q | K, traditional | Q, traditional |\n");
+    SAY("|---|---|---|---|---|---|---|---|---|\n");
+    for (size_t r = 0; r < row_count; r++) {
+        const struct row *row = &rows[r];
+        SAY("| %s | %zu | %zu | %.1f | %.0f | %zu | %zu | %zu | %zu |\n", row->label, row->n, row->m,
+            row->passes_of_holders, row->passes_of_recovery, row->kept, row->logged, row->kept_before, row->logged_before);
+    }
+}
+
+static void say_call(int c, bool instructions, bool networkx)
+{
+    bool lists = has(MARKS, c);
+    SAY("| table | N | M | archive, µs | C, µs |%s / C | / C, fastest | / C without checks | / Rust |%s%s%s\n",
+        lists ? " work list, µs |" : "", lists ? " / work list | / its marks |" : "",
+        instructions ? " instructions / C |" : "", c == SHEET_CALL ? " networkx, ms |" : "");
+    SAY("|---|---|---|---|---|%s---|---|---|---|%s%s%s\n", lists ? "---|" : "", lists ? "---|---|" : "",
+        instructions ? "---|" : "", c == SHEET_CALL ? "---|" : "");
+    for (size_t r = 0; r < row_count; r++) {
+        const struct row *row = &rows[r];
+        const struct times *t = row->times[c];
+        SAY("| %s | %zu | %zu | %s | %s |", row->label, row->n, row->m, brief(1e6 * t[ARCHIVE].median), brief(1e6 * t[PLAIN].median));
+        if (lists)
+            SAY(" %s |", brief(1e6 * t[RANGES].median));
+        SAY(" %.2f | %.2f | %s | %.2f |", row->ratio[c][PLAIN], t[ARCHIVE].least / t[PLAIN].least,
+            brief(row->ratio[c][BARE]), row->ratio[c][RUST]);
+        if (lists)
+            SAY(" %s | %s |", brief(row->ratio[c][RANGES]), brief(row->ratio[c][MARKS]));
+        if (instructions && row->instructions[c][PLAIN] > 0)
+            SAY(" %.2f |", row->instructions[c][ARCHIVE] / row->instructions[c][PLAIN]);
+        else if (instructions)
+            SAY(" |");
+        if (c == SHEET_CALL) {
+            if (networkx)
+                SAY(" %s |", brief(1e3 * row->networkx));
+            else
+                SAY(" not there |");
+        }
+        SAY("\n");
+    }
+}
+
+/* Whether a ratio is at most 1.0, at the two places that the tables show. */
+static bool is_met(double ratio)
+{
+    return ratio < 1.005;
+}
+
+/* On how many rows a ratio is at most 1.0, its range, and the rows where it is more, where these are few. */
+static void say_goal(int c, int against, bool histories_alone)
+{
+    size_t met = 0, of = 0;
+    double lowest = 1e9, highest = 0;
+    for (size_t r = 0; r < row_count; r++) {
+        if (histories_alone && !rows[r].history)
+            continue;
+        double ratio = rows[r].ratio[c][against];
+        of++;
+        met += is_met(ratio);
+        lowest = ratio < lowest ? ratio : lowest;
+        highest = ratio > highest ? ratio : highest;
+    }
+    SAY(" %zu of %zu | %.2f to %.2f |", met, of, lowest, highest);
+    if (met == of)
+        SAY(" met |\n");
+    else if (met == 0)
+        SAY(" missed on every row |\n");
+    else if (of - met > 6)
+        SAY(" missed: the table below says where |\n");
+    else {
+        SAY(" missed on");
+        for (size_t r = 0, said = 0; r < row_count; r++)
+            if ((!histories_alone || rows[r].history) && !is_met(rows[r].ratio[c][against]))
+                SAY("%s %s, N = %zu, M = %zu", said++ ? ";" : "", rows[r].label, rows[r].n, rows[r].m);
+        SAY(" |\n");
+    }
+}
+
+/* The nanoseconds that a pass takes for one message, from the recovery line's time without the checks. */
+static double pass_cost(const struct row *row, int line, int check)
+{
+    return 1e9 * (row->part[line] - row->part[check]) / (row->passes_of_recovery * (double)row->m);
+}
+
+/* The time of all lines of single holders, and of a sheet without its checks and lines. */
+static double lines_part(const struct row *row, bool archive)
+{
+    return row->part[archive ? LINES_OF_ARCHIVE : LINES_OF_C] - (double)row->n * row->part[archive ? CHECK_OF_ARCHIVE : CHECK_OF_C];
+}
+
+static double rest_part(const struct row *row, bool archive)
+{
+    return row->part[archive ? SHEET_OF_ARCHIVE : SHEET_OF_C] - row->part[archive ? CHECK_OF_ARCHIVE : CHECK_OF_C] - lines_part(row, archive);
+}
+
+static void say_parts(void)
+{
+    SAY("| table | N | M | checks | C | lines | C | rest | C | ns a message and pass | C | Rust |\n");
+    SAY("|---|---|---|---|---|---|---|---|---|---|---|---|\n");
+    for (size_t r = 0; r < row_count; r++) {
+        const struct row *row = &rows[r];
+        SAY("| %s | %zu | %zu | %s | %s |", row->label, row->n, row->m, brief(1e6 * row->part[CHECK_OF_ARCHIVE]), brief(1e6 * row->part[CHECK_OF_C]));
+        if (row->history)
+            SAY(" %s | %s | %s | %s |", brief(1e6 * lines_part(row, true)), brief(1e6 * lines_part(row, false)),
+                brief(1e6 * rest_part(row, true)), brief(1e6 * rest_part(row, false)));
+        else
+            SAY(" | | | |");
+        SAY(" %.2f | %.2f | %.2f |\n", pass_cost(row, LINE_OF_ARCHIVE, CHECK_OF_ARCHIVE), pass_cost(row, LINE_OF_C, CHECK_OF_C), pass_cost(row, LINE_OF_RUST, CHECK_OF_RUST));
+    }
+}
+
+/* The least and the most of a figure over the rows that have it. */
+struct range {
+    double least, most;
+};
+
+static struct range range_of(double (*figure)(const struct row *))
+{
+    struct range range = {1e99, 0};
+    for (size_t r = 0; r < row_count; r++) {
+        double value = figure(&rows[r]);
+        if (value <= 0)
+            continue;
+        range.least = value < range.least ? value : range.least;
+        range.most = value > range.most ? value : range.most;
+    }
+    return range;
+}
+
+static double check_of_most(const struct row *row) { return row->m == MOST_MESSAGES ? 1e6 * row->part[CHECK_OF_ARCHIVE] : 0; }
+static double c_check_of_most(const struct row *row) { return row->m == MOST_MESSAGES ? 1e6 * row->part[CHECK_OF_C] : 0; }
+static double send_of_most(const struct row *row) { return row->m == MOST_MESSAGES ? 1e6 * row->times[SEND_CALL][ARCHIVE].median : 0; }
+static double send_without_checks(const struct row *row) { return row->m == MOST_MESSAGES ? 1e6 * row->times[SEND_CALL][BARE].median : 0; }
+static double rest_ratio(const struct row *row) { return row->history ? rest_part(row, true) / rest_part(row, false) : 0; }
+static double lines_ratio(const struct row *row) { return row->history ? lines_part(row, true) / lines_part(row, false) : 0; }
+static double rest_share(const struct row *row) { return row->history ? 100 * rest_part(row, true) / row->part[SHEET_OF_ARCHIVE] : 0; }
+static double pass_of_archive(const struct row *row) { return pass_cost(row, LINE_OF_ARCHIVE, CHECK_OF_ARCHIVE); }
+static double pass_of_c(const struct row *row) { return pass_cost(row, LINE_OF_C, CHECK_OF_C); }
+static double pass_of_rust(const struct row *row) { return pass_cost(row, LINE_OF_RUST, CHECK_OF_RUST); }
+static double counted(const struct row *row, int c) { return row->instructions[c][PLAIN] > 0 ? row->instructions[c][ARCHIVE] / row->instructions[c][PLAIN] : 0; }
+static double counted_sheet(const struct row *row) { return counted(row, SHEET_CALL); }
+static double counted_line(const struct row *row) { return counted(row, LINE_CALL); }
+static double counted_fall_back(const struct row *row) { return counted(row, FALL_BACK_CALL); }
+static double counted_send(const struct row *row) { return counted(row, SEND_CALL); }
+static double counted_save(const struct row *row) { return counted(row, SAVE_CALL); }
+
+/* Figures that the text takes, by name. */
+static const struct {
+    const char *name;
+    double (*figure)(const struct row *);
+    const char *unit;
+} figures[] = {
+    {"checks", check_of_most, " µs"},
+    {"checks-of-c", c_check_of_most, " µs"},
+    {"send", send_of_most, " µs"},
+    {"send-without-checks", send_without_checks, " µs"},
+    {"rest-ratio", rest_ratio, ""},
+    {"lines-ratio", lines_ratio, ""},
+    {"rest-share", rest_share, "%"},
+    {"pass", pass_of_archive, " ns"},
+    {"pass-of-c", pass_of_c, " ns"},
+    {"pass-of-rust", pass_of_rust, " ns"},
+    {"instructions-sheet", counted_sheet, ""},
+    {"instructions-line", counted_line, ""},
+    {"instructions-fall-back", counted_fall_back, ""},
+    {"instructions-send", counted_send, ""},
+    {"instructions-save", counted_save, ""},
+};
+
+/* A line of text, each {name} in it replaced by the figure's range in this run. */
+static void say_line(const char *line)
+{
+    for (const char *at = line; *at != 0; at++) {
+        if (*at != '{') {
+            fputc(*at, report);
+            continue;
+        }
+        size_t length = strcspn(at + 1, "}"), f = 0, known = sizeof figures / sizeof figures[0];
+        while (f < known && (strlen(figures[f].name) != length || strncmp(figures[f].name, at + 1, length) != 0))
+            f++;
+        if (f == known)
+            stop("the report has no figure %.*s", (int)length, at + 1);
+        struct range range = range_of(figures[f].figure);
+        if (range.most > 0)
+            SAY("%s to %s%s", brief(range.least), brief(range.most), figures[f].unit);
+        else
+            SAY("(not counted)");
+        at += length + 1;
+    }
+}
+
+/* The text that says what was compared and why a goal is missed; a table of this run goes where a line
+   `@NAME` is. */
+static void say_report(const char *text, bool instructions, bool networkx)
+{
+    FILE *file = fopen(text, "r");
+    if (file == NULL)
+        stop("%s can't be read", text);
+    size_t least[EXPORTS], most[EXPORTS];
+    measure_stack(least, most);
+    static char line[4096];
+    while (fgets(line, sizeof line, file) != NULL) {
+        if (line[0] != '@') {
+            say_line(line);
+            continue;
+        }
+        line[strcspn(line, "\n")] = 0;
+        const char *name = line + 1;
+        if (strcmp(name, "machine") == 0) {
+            SAY("| | |\n|---|---|\n| processor | %s, %s cores |\n| kit | %s |\n| C | %s, -O3 |\n| Rust | %s, opt-level 3 |\n",
+                fact("BENCH_CPU"), fact("BENCH_CORES"), fact("BENCH_KIT"), fact("BENCH_GCC"), fact("BENCH_RUSTC"));
+            SAY("| networkx | %s |\n| instructions | %s |\n| date | %s |\n", networkx ? fact("BENCH_NETWORKX") : "not there: no figures",
+                instructions ? fact("BENCH_VALGRIND") : "valgrind is not there: no figures", fact("BENCH_DATE"));
+        } else if (strcmp(name, "tables") == 0)
+            say_tables();
+        else if (strcmp(name, "parts") == 0)
+            say_parts();
+        else if (strncmp(name, "call ", 5) == 0)
+            say_call(atoi(name + 5), instructions, networkx);
+        else if (strcmp(name, "goals") == 0) {
+            SAY("| call | at most 1.0 times | rows met | ratios | |\n|---|---|---|---|---|\n");
+            for (int c = 0; c < CALLS; c++) {
+                SAY("| %s | plain C |", call_titles[c]);
+                say_goal(c, PLAIN, false);
+            }
+            for (int c = 0; c < SEND_CALL; c++) {
+                SAY("| %s | the work list |", call_titles[c]);
+                say_goal(c, RANGES, true);
+                SAY("| %s | the work list with marks |", call_titles[c]);
+                say_goal(c, MARKS, true);
+            }
+            for (int c = 0; c < CALLS; c++) {
+                SAY("| %s | Rust (no goal) |", call_titles[c]);
+                say_goal(c, RUST, false);
+            }
+        } else if (strcmp(name, "stack") == 0) {
+            SAY("| call | least, bytes | most, bytes |\n|---|---|---|\n");
+            for (int e = 0; e < EXPORTS; e++)
+                SAY("| `%s` | %zu | %zu |\n", export_names[e], least[e], most[e]);
+        } else
+            stop("%s: no such place in the report", name);
+    }
+    fclose(file);
+}
+
+/* Lines `LABEL<tab>0 or 1<tab>PATH`; 1 says that the second goal is about the row. */
+static void read_rows(const char *path)
+{
+    FILE *file = fopen(path, "r");
+    if (file == NULL)
+        stop("%s can't be read", path);
+    int history;
+    while (row_count < MOST_ROWS) {
+        struct row *row = &rows[row_count];
+        if (fscanf(file, " %63[^\t] %d %255s", row->label, &history, row->path) != 3)
+            break;
+        row->history = history;
+        row_count++;
+    }
+    fclose(file);
+    for (size_t r = 0; r < row_count; r++)
+        read_table(&rows[r]);
+}
+
+static void compare_rows(void)
+{
+    for (size_t r = 0; r < row_count; r++) {
+        compare(&rows[r]);
+        rows[r].passes_of_recovery = (double)plain_passes_of_recovery_line(rows[r].table);
+        rows[r].passes_of_holders = (double)plain_passes_of_holders(rows[r].table) / (double)rows[r].n;
+    }
+}
+
+int main(int argc, char **argv)
+{
+    if (argc == 3 && strcmp(argv[1], "instructions") == 0) {
+        read_rows(argv[2]);
+        count_instructions();
+        return 0;
+    }
+    if (argc != 6 || strcmp(argv[1], "measure") != 0)
+        stop("usage: bench measure ROWS INSTRUCTIONS TEXT REPORT, or bench instructions ROWS");
+    read_rows(argv[2]);
+    compare_rows();
+    fprintf(stderr, "bench: all implementations agree on %zu tables\n", row_count);
+    bool instructions = read_instructions(argv[3]);
+    for (size_t r = 0; r < row_count; r++) {
+        measure_row(&rows[r], 0.08);
+        fprintf(stderr, "bench: %s, N = %zu, M = %zu: keep sheet %.1f µs, %.2f of C\n", rows[r].label, rows[r].n, rows[r].m,
+            1e6 * rows[r].times[SHEET_CALL][ARCHIVE].median, rows[r].ratio[SHEET_CALL][PLAIN]);
+    }
+    bool networkx = measure_networkx(getenv("BENCH_FIGURE3"));
+    report = fopen(argv[5], "w");
+    if (report == NULL)
+        stop("%s can't be written", argv[5]);
+    say_report(argv[4], instructions, networkx);
+    if (fclose(report) != 0)
+        stop("%s can't be written", argv[5]);
+    return 0;
+}

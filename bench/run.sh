@@ -1,0 +1,79 @@
+#!/bin/sh
+# The benchmark: makes the tables, builds what is compared, counts instructions where valgrind is there,
+# measures, and writes docs/BENCHMARKS.md. Run from the repository's root, with the archive in place.
+set -eu
+out=target/bench
+rm -rf "$out"
+mkdir -p "$out/tables" "$out/callgrind"
+
+say() { echo "bench: $*" >&2; }
+
+say "building"
+cargo --quiet build --release --manifest-path tests/reference/Cargo.toml --target-dir target/cargo
+cargo --quiet build --release --manifest-path bench/rust/Cargo.toml --target-dir target/cargo
+gcc -std=gnu11 -Wall -Wextra -Werror -O3 -o "$out/bench" bench/bench.c bench/plain.c bench/worklist.c \
+    target/staticlib/libkeeper.a target/cargo/release/libpasses.a -lpthread -ldl -lm
+
+# A row: its label, whether the second goal is about it, kind, seed, N, M.
+row() {
+    file="$out/tables/$3-$4-$5-$6.table"
+    target/cargo/release/reference gen "$3" "$4" "$5" "$6" >"$file"
+    printf '%s\t%s\t%s\n' "$1" "$2" "$file" >>"$out/rows"
+}
+row 'random history' 1 history 1 2 512
+row 'random history' 1 history 1 2 4096
+row 'random history' 1 history 1 8 512
+row 'random history' 1 history 1 8 4096
+row 'random history, another' 1 history 4 8 4096
+row 'random history' 1 history 1 32 512
+row 'random history' 1 history 1 32 4096
+row 'random history, another' 1 history 4 32 4096
+row 'clustered' 1 clustered 1 2 4096
+row 'clustered' 1 clustered 1 8 4096
+row 'clustered' 1 clustered 1 32 512
+row 'clustered' 1 clustered 1 32 4096
+row 'domino, time order' 1 domino-time 1 2 512
+row 'domino, time order' 1 domino-time 1 2 4096
+row 'domino, reverse' 0 domino-reverse 1 2 4096
+row 'ring domino, time order' 0 ring-time 1 8 4096
+row 'ring domino, reverse' 0 ring-reverse 1 8 4096
+row 'ring domino, shuffled' 0 ring-shuffled 1 8 4096
+row 'ring domino, time order' 0 ring-time 1 32 4096
+row 'ring domino, reverse' 0 ring-reverse 1 32 4096
+row 'ring domino, by sender' 0 ring-by-sender 1 32 4096
+row 'ring domino, every second' 0 ring-every-second 1 32 4096
+row 'ring domino, shuffled' 0 ring-shuffled 1 32 4096
+
+if command -v valgrind >/dev/null 2>&1; then
+    say "counting instructions"
+    valgrind --tool=callgrind --callgrind-out-file="$out/callgrind/out" "$out/bench" instructions "$out/rows" \
+        >"$out/callgrind.log" 2>&1 || { cat "$out/callgrind.log" >&2; exit 1; }
+    awk 'FNR == 1 { label = "" }
+         /^desc: Trigger: Client Request: row / { label = $5 " " $6 " " $7 " " $8 }
+         /^totals: / && label != "" { print label, $2 }' "$out"/callgrind/out.* >"$out/instructions"
+    BENCH_VALGRIND="counted by callgrind, $(valgrind --version)"
+    export BENCH_VALGRIND
+else
+    say "valgrind is not there: no instruction counts"
+fi
+
+BENCH_FIGURE3=
+if python3 -c 'import networkx' >/dev/null 2>&1; then
+    BENCH_FIGURE3='python3 bench/figure3.py'
+    BENCH_NETWORKX="$(python3 -c 'import networkx, platform; print(networkx.__version__ + " on Python " + platform.python_version())')"
+    export BENCH_NETWORKX
+else
+    say "python3 with networkx is not there: no figures of it"
+fi
+BENCH_CPU="$(sed -n 's/^model name[^:]*: *//p' /proc/cpuinfo | head -n 1)"
+BENCH_CORES="$(getconf _NPROCESSORS_ONLN)"
+BENCH_KIT="$(rt version)"
+BENCH_GCC="$(gcc --version | head -n 1)"
+BENCH_RUSTC="$(rustc --version)"
+BENCH_DATE="$(date -u +%Y-%m-%d)"
+export BENCH_FIGURE3 BENCH_CPU BENCH_CORES BENCH_KIT BENCH_GCC BENCH_RUSTC BENCH_DATE
+
+say "measuring"
+"$out/bench" measure "$out/rows" "$out/instructions" bench/report.md "$out/BENCHMARKS.md"
+cp "$out/BENCHMARKS.md" docs/BENCHMARKS.md
+cat docs/BENCHMARKS.md
