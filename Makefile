@@ -5,12 +5,13 @@
 # make fuzz     runs the fuzzer for FUZZ_SECONDS (60); needs clang
 # make check    proves what has changed and runs the test programs: quicker, and no verdict
 # make tools    builds the command keeper, target/cargo/release/keeper
+# make bench    the archive's times beside plain C, Rust and work lists, written to docs/BENCHMARKS.md
 # make install  headers, archives, pkg-config files, programs and man pages: PREFIX=/usr/local, DESTDIR
 SHELL := /bin/sh
 .DEFAULT_GOAL := help
 .PHONY: help list program test check format reference-tests corpus-tests
 .PHONY: archives c-tests install uninstall install-test tools tools-tests
-.PHONY: binding-tests differential-tests differential-faults fuzz fuzz-replay
+.PHONY: binding-tests differential-tests differential-faults fuzz fuzz-tools fuzz-replay bench
 
 help:
 	@sed -n 's/^# \(make .*\)/\1/p' Makefile
@@ -119,8 +120,8 @@ binding-tests: archives need-cargo
 
 # Every call of the library beside the second implementation: tables by chance, at the limits, damaged, chains
 # of steps; then every table of small scopes. A difference prints the table, the call and both answers.
-CALLS =
-SEED =
+CALLS = 250000
+SEED = 20260101
 SCOPES =
 differential-tests: archives need-cargo
 	@cd tests/differential && $(CARGO) test --release --target-dir ../../target/cargo >../../target/tests/differential.log 2>&1 || { cat ../../target/tests/differential.log; exit 1; }
@@ -139,8 +140,10 @@ fuzz-replay: archives need-gcc
 	@gcc -std=c11 -Wall -Wextra -Werror -O2 -o target/tests/fuzz_replay fuzz/replay.c $(FUZZ_SOURCES)
 	@target/tests/fuzz_replay fuzz/corpus/*
 
-fuzz: archives
+fuzz-tools:
 	@command -v clang >/dev/null 2>&1 || { echo "clang is missing: the fuzzer needs clang with libFuzzer (Debian: clang and libclang-rt-14-dev); make fuzz-replay needs gcc alone" >&2; exit 1; }
+
+fuzz: fuzz-tools archives
 	@mkdir -p target/fuzz/corpus
 	@clang -std=c11 -Wall -Wextra -g -O2 -fsanitize=fuzzer,address,undefined -fno-sanitize-recover=undefined -o target/fuzz/fuzz $(FUZZ_SOURCES) || { echo "clang can't build with -fsanitize=fuzzer: its runtime is missing (Debian: libclang-rt-14-dev)" >&2; exit 1; }
 	@target/fuzz/fuzz -max_total_time=$(FUZZ_SECONDS) -max_len=1500 -print_final_stats=1 -artifact_prefix=target/fuzz/ target/fuzz/corpus fuzz/corpus
@@ -153,3 +156,8 @@ tools-tests: tools
 	@mkdir -p target/tests
 	@cd tools/keeper && $(CARGO) test --release --target-dir ../../target/cargo >../../target/tests/tools.log 2>&1 || { cat ../../target/tests/tools.log; exit 1; }
 	@awk '/^test result/ { n += $$4 } END { print n " tests of the command keeper passed" }' target/tests/tools.log
+
+# Times of the archive's calls, some two or three minutes; no part of `make test`. valgrind, and python3 with
+# networkx, add columns where they are there.
+bench: need-gcc need-cargo archives
+	@sh bench/run.sh
