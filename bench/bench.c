@@ -1,7 +1,9 @@
-/* The benchmark. `bench measure ROWS INSTRUCTIONS TEXT REPORT` measures every call of every implementation
-   on the tables that ROWS names and writes the report: TEXT with this run's tables in their places. `bench
-   instructions ROWS` makes each call once, for callgrind to count. A difference between two
-   implementations ends the run before anything is timed. Times are of the processor, not of the clock. */
+/* The benchmark. `bench measure ROWS FIGURES` measures every call of every implementation on the tables that
+   ROWS names, and leaves what it found in the file FIGURES: once for each place at which the code is
+   linked. `bench report ROWS INSTRUCTIONS TEXT REPORT FIGURES...` takes these together and writes the
+   report: TEXT with the tables of the run in their places. `bench instructions ROWS` makes each call once,
+   for callgrind to count. A difference between two implementations ends the run before anything is timed.
+   Times are of the processor, not of the clock. */
 #define _GNU_SOURCE
 #include <stdarg.h>
 #include <stdbool.h>
@@ -72,10 +74,13 @@ struct row {
     size_t entries;
     size_t kept, logged, kept_before, logged_before;
     double passes_of_holders, passes_of_recovery;
-    struct times times[CALLS][IMPLEMENTATIONS];
-    double ratio[CALLS][IMPLEMENTATIONS];          /* archive to this, the median of side by side */
+    /* What is measured: numbers of one kind alone, so that they can be taken together one by one. */
+    struct figures {
+        struct times times[CALLS][IMPLEMENTATIONS];
+        double ratio[CALLS][IMPLEMENTATIONS];      /* archive to this, the median of side by side */
+        double part[PARTS];        /* seconds, the least of each; 0: not measured */
+    } here;
     double instructions[CALLS][IMPLEMENTATIONS];   /* 0: not counted */
-    double part[PARTS];            /* seconds, the least of each; 0: not measured */
     double networkx;               /* seconds; 0: not measured */
 };
 
@@ -223,7 +228,7 @@ static double median(double *values, size_t count)
     return count % 2 ? values[count / 2] : (values[count / 2 - 1] + values[count / 2]) / 2;
 }
 
-enum { LEAST_REPEATS = 5, MOST_REPEATS = 201 };
+enum { LEAST_REPEATS = 2, MOST_REPEATS = 51 };
 
 typedef void task(void *context, int which);
 
@@ -235,10 +240,14 @@ static void measure(task *run, void *context, const int *which, size_t tasks, do
     size_t batch[PARTS];
     double together = 0;
     for (size_t t = 0; t < tasks; t++) {
-        run(context, which[t]);
         double start = now();
         run(context, which[t]);
         double once = now() - start;
+        if (once < 1e-3) {
+            start = now();
+            run(context, which[t]);
+            once = now() - start;
+        }
         batch[t] = once > 1e-4 ? 1 : (size_t)(1e-4 / (once + 1e-8)) + 1;
         together += once * (double)batch[t];
     }
@@ -312,19 +321,48 @@ static void measure_row(struct row *row, double budget)
         double ratio[IMPLEMENTATIONS];
         measure(run_call, &context, which, tasks, c == SHEET_CALL ? 3 * budget : budget, times, ratio);
         for (size_t t = 0; t < tasks; t++) {
-            row->times[c][which[t]] = times[t];
-            row->ratio[c][which[t]] = ratio[t];
+            row->here.times[c][which[t]] = times[t];
+            row->here.ratio[c][which[t]] = ratio[t];
         }
     }
     int parts[PARTS];
     struct times times[PARTS];
     double ratio[PARTS];
-    size_t tasks = row->history ? PARTS : LINES_OF_ARCHIVE;
+    size_t tasks = row->history ? PARTS : LINE_OF_ARCHIVE;
     for (size_t t = 0; t < tasks; t++)
         parts[t] = (int)t;
     measure(run_part, row, parts, tasks, 4 * budget, times, ratio);
     for (size_t t = 0; t < tasks; t++)
-        row->part[t] = times[t].least;
+        row->here.part[t] = times[t].least;
+    if (!row->history) {
+        row->here.part[LINE_OF_ARCHIVE] = row->here.times[LINE_CALL][ARCHIVE].least;
+        row->here.part[LINE_OF_C] = row->here.times[LINE_CALL][PLAIN].least;
+        row->here.part[LINE_OF_RUST] = row->here.times[LINE_CALL][RUST].least;
+    }
+}
+
+/* What was measured at each place of the code, taken together: of each figure the median. */
+static void take_together(char **paths, int places)
+{
+    enum { MOST_PLACES = 8, NUMBERS = sizeof(struct figures) / sizeof(double) };
+    static union { struct figures figures; double number[NUMBERS]; } all[MOST_PLACES][MOST_ROWS], together;
+    if (places > MOST_PLACES)
+        stop("at most %d files of figures", MOST_PLACES);
+    for (int f = 0; f < places; f++) {
+        FILE *file = fopen(paths[f], "rb");
+        if (file == NULL || fread(all[f], sizeof all[f][0], row_count, file) != row_count)
+            stop("%s can't be read", paths[f]);
+        fclose(file);
+    }
+    for (size_t r = 0; r < row_count; r++) {
+        for (int d = 0; d < NUMBERS; d++) {
+            double values[MOST_PLACES];
+            for (int f = 0; f < places; f++)
+                values[f] = all[f][r].number[d];
+            together.number[d] = median(values, (size_t)places);
+        }
+        rows[r].here = together.figures;
+    }
 }
 
 /* ------------------------------------------------------------------------------------------------- */
@@ -517,14 +555,14 @@ static void say_call(int c, bool instructions, bool networkx)
         instructions ? "---|" : "", c == SHEET_CALL ? "---|" : "");
     for (size_t r = 0; r < row_count; r++) {
         const struct row *row = &rows[r];
-        const struct times *t = row->times[c];
+        const struct times *t = row->here.times[c];
         SAY("| %s | %zu | %zu | %s | %s |", row->label, row->n, row->m, brief(1e6 * t[ARCHIVE].median), brief(1e6 * t[PLAIN].median));
         if (lists)
             SAY(" %s |", brief(1e6 * t[RANGES].median));
-        SAY(" %.2f | %.2f | %s | %.2f |", row->ratio[c][PLAIN], t[ARCHIVE].least / t[PLAIN].least,
-            brief(row->ratio[c][BARE]), row->ratio[c][RUST]);
+        SAY(" %.2f | %.2f | %s | %.2f |", row->here.ratio[c][PLAIN], t[ARCHIVE].least / t[PLAIN].least,
+            brief(row->here.ratio[c][BARE]), row->here.ratio[c][RUST]);
         if (lists)
-            SAY(" %s | %s |", brief(row->ratio[c][RANGES]), brief(row->ratio[c][MARKS]));
+            SAY(" %s | %s |", brief(row->here.ratio[c][RANGES]), brief(row->here.ratio[c][MARKS]));
         if (instructions && row->instructions[c][PLAIN] > 0)
             SAY(" %.2f |", row->instructions[c][ARCHIVE] / row->instructions[c][PLAIN]);
         else if (instructions)
@@ -546,30 +584,32 @@ static bool is_met(double ratio)
 }
 
 /* On how many rows a ratio is at most 1.0, its range, and the rows where it is more, where these are few. */
-static void say_goal(int c, int against, bool histories_alone)
+static void say_goal(int c, int against, bool histories_alone, bool goal)
 {
     size_t met = 0, of = 0;
     double lowest = 1e9, highest = 0;
     for (size_t r = 0; r < row_count; r++) {
         if (histories_alone && !rows[r].history)
             continue;
-        double ratio = rows[r].ratio[c][against];
+        double ratio = rows[r].here.ratio[c][against];
         of++;
         met += is_met(ratio);
         lowest = ratio < lowest ? ratio : lowest;
         highest = ratio > highest ? ratio : highest;
     }
     SAY(" %zu of %zu | %.2f to %.2f |", met, of, lowest, highest);
-    if (met == of)
+    if (!goal)
+        SAY(" no goal |\n");
+    else if (met == of)
         SAY(" met |\n");
     else if (met == 0)
         SAY(" missed on every row |\n");
     else if (of - met > 6)
-        SAY(" missed: the table below says where |\n");
+        SAY(" missed: the call's table says where |\n");
     else {
         SAY(" missed on");
         for (size_t r = 0, said = 0; r < row_count; r++)
-            if ((!histories_alone || rows[r].history) && !is_met(rows[r].ratio[c][against]))
+            if ((!histories_alone || rows[r].history) && !is_met(rows[r].here.ratio[c][against]))
                 SAY("%s %s, N = %zu, M = %zu", said++ ? ";" : "", rows[r].label, rows[r].n, rows[r].m);
         SAY(" |\n");
     }
@@ -578,18 +618,18 @@ static void say_goal(int c, int against, bool histories_alone)
 /* The nanoseconds that a pass takes for one message, from the recovery line's time without the checks. */
 static double pass_cost(const struct row *row, int line, int check)
 {
-    return 1e9 * (row->part[line] - row->part[check]) / (row->passes_of_recovery * (double)row->m);
+    return 1e9 * (row->here.part[line] - row->here.part[check]) / (row->passes_of_recovery * (double)row->m);
 }
 
 /* The time of all lines of single holders, and of a sheet without its checks and lines. */
 static double lines_part(const struct row *row, bool archive)
 {
-    return row->part[archive ? LINES_OF_ARCHIVE : LINES_OF_C] - (double)row->n * row->part[archive ? CHECK_OF_ARCHIVE : CHECK_OF_C];
+    return row->here.part[archive ? LINES_OF_ARCHIVE : LINES_OF_C] - (double)row->n * row->here.part[archive ? CHECK_OF_ARCHIVE : CHECK_OF_C];
 }
 
 static double rest_part(const struct row *row, bool archive)
 {
-    return row->part[archive ? SHEET_OF_ARCHIVE : SHEET_OF_C] - row->part[archive ? CHECK_OF_ARCHIVE : CHECK_OF_C] - lines_part(row, archive);
+    return row->here.part[archive ? SHEET_OF_ARCHIVE : SHEET_OF_C] - row->here.part[archive ? CHECK_OF_ARCHIVE : CHECK_OF_C] - lines_part(row, archive);
 }
 
 static void say_parts(void)
@@ -598,7 +638,7 @@ static void say_parts(void)
     SAY("|---|---|---|---|---|---|---|---|---|---|---|---|\n");
     for (size_t r = 0; r < row_count; r++) {
         const struct row *row = &rows[r];
-        SAY("| %s | %zu | %zu | %s | %s |", row->label, row->n, row->m, brief(1e6 * row->part[CHECK_OF_ARCHIVE]), brief(1e6 * row->part[CHECK_OF_C]));
+        SAY("| %s | %zu | %zu | %s | %s |", row->label, row->n, row->m, brief(1e6 * row->here.part[CHECK_OF_ARCHIVE]), brief(1e6 * row->here.part[CHECK_OF_C]));
         if (row->history)
             SAY(" %s | %s | %s | %s |", brief(1e6 * lines_part(row, true)), brief(1e6 * lines_part(row, false)),
                 brief(1e6 * rest_part(row, true)), brief(1e6 * rest_part(row, false)));
@@ -626,13 +666,13 @@ static struct range range_of(double (*figure)(const struct row *))
     return range;
 }
 
-static double check_of_most(const struct row *row) { return row->m == MOST_MESSAGES ? 1e6 * row->part[CHECK_OF_ARCHIVE] : 0; }
-static double c_check_of_most(const struct row *row) { return row->m == MOST_MESSAGES ? 1e6 * row->part[CHECK_OF_C] : 0; }
-static double send_of_most(const struct row *row) { return row->m == MOST_MESSAGES ? 1e6 * row->times[SEND_CALL][ARCHIVE].median : 0; }
-static double send_without_checks(const struct row *row) { return row->m == MOST_MESSAGES ? 1e6 * row->times[SEND_CALL][BARE].median : 0; }
+static double check_of_most(const struct row *row) { return row->m == MOST_MESSAGES ? 1e6 * row->here.part[CHECK_OF_ARCHIVE] : 0; }
+static double c_check_of_most(const struct row *row) { return row->m == MOST_MESSAGES ? 1e6 * row->here.part[CHECK_OF_C] : 0; }
+static double send_of_most(const struct row *row) { return row->m == MOST_MESSAGES ? 1e6 * row->here.times[SEND_CALL][ARCHIVE].median : 0; }
+static double send_without_checks(const struct row *row) { return row->m == MOST_MESSAGES ? 1e6 * row->here.times[SEND_CALL][BARE].median : 0; }
 static double rest_ratio(const struct row *row) { return row->history ? rest_part(row, true) / rest_part(row, false) : 0; }
 static double lines_ratio(const struct row *row) { return row->history ? lines_part(row, true) / lines_part(row, false) : 0; }
-static double rest_share(const struct row *row) { return row->history ? 100 * rest_part(row, true) / row->part[SHEET_OF_ARCHIVE] : 0; }
+static double rest_share(const struct row *row) { return row->history ? 100 * rest_part(row, true) / row->here.part[SHEET_OF_ARCHIVE] : 0; }
 static double pass_of_archive(const struct row *row) { return pass_cost(row, LINE_OF_ARCHIVE, CHECK_OF_ARCHIVE); }
 static double pass_of_c(const struct row *row) { return pass_cost(row, LINE_OF_C, CHECK_OF_C); }
 static double pass_of_rust(const struct row *row) { return pass_cost(row, LINE_OF_RUST, CHECK_OF_RUST); }
@@ -720,17 +760,17 @@ static void say_report(const char *text, bool instructions, bool networkx)
             SAY("| call | at most 1.0 times | rows met | ratios | |\n|---|---|---|---|---|\n");
             for (int c = 0; c < CALLS; c++) {
                 SAY("| %s | plain C |", call_titles[c]);
-                say_goal(c, PLAIN, false);
+                say_goal(c, PLAIN, false, true);
             }
             for (int c = 0; c < SEND_CALL; c++) {
                 SAY("| %s | the work list |", call_titles[c]);
-                say_goal(c, RANGES, true);
+                say_goal(c, RANGES, true, true);
                 SAY("| %s | the work list with marks |", call_titles[c]);
-                say_goal(c, MARKS, true);
+                say_goal(c, MARKS, true, true);
             }
             for (int c = 0; c < CALLS; c++) {
-                SAY("| %s | Rust (no goal) |", call_titles[c]);
-                say_goal(c, RUST, false);
+                SAY("| %s | Rust |", call_titles[c]);
+                say_goal(c, RUST, false, false);
             }
         } else if (strcmp(name, "stack") == 0) {
             SAY("| call | least, bytes | most, bytes |\n|---|---|---|\n");
@@ -777,17 +817,27 @@ int main(int argc, char **argv)
         count_instructions();
         return 0;
     }
-    if (argc != 6 || strcmp(argv[1], "measure") != 0)
-        stop("usage: bench measure ROWS INSTRUCTIONS TEXT REPORT, or bench instructions ROWS");
+    if (argc == 4 && strcmp(argv[1], "measure") == 0) {
+        read_rows(argv[2]);
+        compare_rows();
+        fprintf(stderr, "bench: all implementations agree on %zu tables\n", row_count);
+        FILE *file = fopen(argv[3], "wb");
+        if (file == NULL)
+            stop("%s can't be written", argv[3]);
+        for (size_t r = 0; r < row_count; r++) {
+            measure_row(&rows[r], 0.02);
+            fwrite(&rows[r].here, sizeof rows[r].here, 1, file);
+        }
+        if (fclose(file) != 0)
+            stop("%s can't be written", argv[3]);
+        return 0;
+    }
+    if (argc < 7 || strcmp(argv[1], "report") != 0)
+        stop("usage: bench measure ROWS FIGURES, bench report ROWS INSTRUCTIONS TEXT REPORT FIGURES..., or bench instructions ROWS");
     read_rows(argv[2]);
     compare_rows();
-    fprintf(stderr, "bench: all implementations agree on %zu tables\n", row_count);
+    take_together(argv + 6, argc - 6);
     bool instructions = read_instructions(argv[3]);
-    for (size_t r = 0; r < row_count; r++) {
-        measure_row(&rows[r], 0.08);
-        fprintf(stderr, "bench: %s, N = %zu, M = %zu: keep sheet %.1f µs, %.2f of C\n", rows[r].label, rows[r].n, rows[r].m,
-            1e6 * rows[r].times[SHEET_CALL][ARCHIVE].median, rows[r].ratio[SHEET_CALL][PLAIN]);
-    }
     bool networkx = measure_networkx(getenv("BENCH_FIGURE3"));
     report = fopen(argv[5], "w");
     if (report == NULL)

@@ -11,8 +11,20 @@ say() { echo "bench: $*" >&2; }
 say "building"
 cargo --quiet build --release --manifest-path tests/reference/Cargo.toml --target-dir target/cargo
 cargo --quiet build --release --manifest-path bench/rust/Cargo.toml --target-dir target/cargo
-gcc -std=gnu11 -Wall -Wextra -Werror -O3 -o "$out/bench" bench/bench.c bench/plain.c bench/worklist.c \
-    target/staticlib/libkeeper.a target/cargo/release/libpasses.a -lpthread -ldl -lm
+for part in bench plain worklist; do
+    gcc -std=gnu11 -Wall -Wextra -Werror -O3 -c -o "$out/$part.o" "bench/$part.c"
+done
+# The same code at four places: what is linked after a pad stands 16 bytes further for each 16 bytes of it.
+place() {
+    gcc -c -DPAD="$2" -o "$out/pad-c-$1.o" bench/pad.S
+    gcc -c -DPAD="$3" -o "$out/pad-archive-$1.o" bench/pad.S
+    gcc -o "$out/bench-$1" "$out/bench.o" "$out/pad-c-$1.o" "$out/plain.o" "$out/worklist.o" "$out/pad-archive-$1.o" \
+        target/staticlib/libkeeper.a target/cargo/release/libpasses.a -lpthread -ldl -lm
+}
+place 1 0 0
+place 2 16 16
+place 3 32 48
+place 4 48 0
 
 # A row: its label, whether the second goal is about it, kind, seed, N, M.
 row() {
@@ -46,7 +58,7 @@ row 'ring domino, shuffled' 0 ring-shuffled 1 32 4096
 
 if command -v valgrind >/dev/null 2>&1; then
     say "counting instructions"
-    valgrind --tool=callgrind --callgrind-out-file="$out/callgrind/out" "$out/bench" instructions "$out/rows" \
+    valgrind --tool=callgrind --callgrind-out-file="$out/callgrind/out" "$out/bench-1" instructions "$out/rows" \
         >"$out/callgrind.log" 2>&1 || { cat "$out/callgrind.log" >&2; exit 1; }
     awk 'FNR == 1 { label = "" }
          /^desc: Trigger: Client Request: row / { label = $5 " " $6 " " $7 " " $8 }
@@ -73,7 +85,11 @@ BENCH_RUSTC="$(rustc --version)"
 BENCH_DATE="$(date -u +%Y-%m-%d)"
 export BENCH_FIGURE3 BENCH_CPU BENCH_CORES BENCH_KIT BENCH_GCC BENCH_RUSTC BENCH_DATE
 
-say "measuring"
-"$out/bench" measure "$out/rows" "$out/instructions" bench/report.md "$out/BENCHMARKS.md"
+for place in 1 2 3 4; do
+    say "measuring, $place of 4"
+    "$out/bench-$place" measure "$out/rows" "$out/figures-$place"
+done
+say "writing the report"
+"$out/bench-1" report "$out/rows" "$out/instructions" bench/report.md "$out/BENCHMARKS.md" "$out"/figures-[1-4]
 cp "$out/BENCHMARKS.md" docs/BENCHMARKS.md
 cat docs/BENCHMARKS.md
