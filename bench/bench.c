@@ -1,9 +1,9 @@
-/* The benchmark. `bench measure ROWS FIGURES` measures every call of every implementation on the tables that
-   ROWS names, and leaves what it found in the file FIGURES: once for each place at which the code is
-   linked. `bench report ROWS INSTRUCTIONS TEXT REPORT FIGURES...` takes these together and writes the
-   report: TEXT with the tables of the run in their places. `bench instructions ROWS` makes each call once,
-   for callgrind to count. A difference between two implementations ends the run before anything is timed.
-   Times are of the processor, not of the clock. */
+/* The benchmark, over the tables that the file ROWS names. `bench compare ROWS` ends with 1 where two
+   implementations differ, and is run before anything is timed. `bench instructions ROWS` makes each call
+   once, for callgrind to count. `bench measure ROWS FIGURES` measures every call of every implementation and
+   leaves what it found in the file FIGURES: once for each place at which the code is linked. `bench report
+   ROWS INSTRUCTIONS TEXT REPORT FIGURES...` takes these together and writes the report: TEXT with the tables
+   of the run in their places. Times are of the processor, not of the clock. */
 #define _GNU_SOURCE
 #include <stdarg.h>
 #include <stdbool.h>
@@ -817,10 +817,14 @@ int main(int argc, char **argv)
         count_instructions();
         return 0;
     }
-    if (argc == 4 && strcmp(argv[1], "measure") == 0) {
+    if (argc == 3 && strcmp(argv[1], "compare") == 0) {
         read_rows(argv[2]);
         compare_rows();
         fprintf(stderr, "bench: all implementations agree on %zu tables\n", row_count);
+        return 0;
+    }
+    if (argc == 4 && strcmp(argv[1], "measure") == 0) {
+        read_rows(argv[2]);
         FILE *file = fopen(argv[3], "wb");
         if (file == NULL)
             stop("%s can't be written", argv[3]);
@@ -833,7 +837,7 @@ int main(int argc, char **argv)
         return 0;
     }
     if (argc < 7 || strcmp(argv[1], "report") != 0)
-        stop("usage: bench measure ROWS FIGURES, bench report ROWS INSTRUCTIONS TEXT REPORT FIGURES..., or bench instructions ROWS");
+        stop("usage: bench compare ROWS, bench instructions ROWS, bench measure ROWS FIGURES, or bench report ROWS INSTRUCTIONS TEXT REPORT FIGURES...");
     read_rows(argv[2]);
     compare_rows();
     take_together(argv + 6, argc - 6);

@@ -56,6 +56,9 @@ row 'ring domino, by sender' 0 ring-by-sender 1 32 4096
 row 'ring domino, every second' 0 ring-every-second 1 32 4096
 row 'ring domino, shuffled' 0 ring-shuffled 1 32 4096
 
+say "comparing the answers"
+"$out/bench-1" compare "$out/rows"
+
 if command -v valgrind >/dev/null 2>&1; then
     say "counting instructions"
     valgrind --tool=callgrind --callgrind-out-file="$out/callgrind/out" "$out/bench-1" instructions "$out/rows" \
