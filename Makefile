@@ -80,10 +80,11 @@ INCLUDEDIR = $(PREFIX)/include
 LIBDIR = $(PREFIX)/lib
 MANDIR = $(PREFIX)/share/man
 INSTALL = install
-install: archives program
+install: archives program tools
 	@case '$(PREFIX)' in /*) ;; *) echo "PREFIX=$(PREFIX) is not a path from the root" >&2; exit 1;; esac
 	@$(INSTALL) -d $(addprefix '$(DESTDIR),$(addsuffix ',$(BINDIR) $(INCLUDEDIR) $(LIBDIR)/pkgconfig $(MANDIR)/man1 $(MANDIR)/man3 $(MANDIR)/man5))
 	@$(INSTALL) -m 755 target/bin/listing '$(DESTDIR)$(BINDIR)/listing'
+	@$(INSTALL) -m 755 target/cargo/release/keeper '$(DESTDIR)$(BINDIR)/keeper'
 	@for a in $(ARCHIVES); do \
 	    $(INSTALL) -m 644 include/$$a.h '$(DESTDIR)$(INCLUDEDIR)' && \
 	    $(INSTALL) -m 644 target/staticlib/lib$$a.a '$(DESTDIR)$(LIBDIR)' && \
@@ -97,7 +98,7 @@ install: archives program
 
 # Takes the files away and leaves the folders.
 uninstall:
-	@rm -f '$(DESTDIR)$(BINDIR)/listing'
+	@rm -f '$(DESTDIR)$(BINDIR)/listing' '$(DESTDIR)$(BINDIR)/keeper'
 	@for a in $(ARCHIVES); do \
 	    rm -f '$(DESTDIR)$(INCLUDEDIR)'/$$a.h '$(DESTDIR)$(LIBDIR)'/lib$$a.a '$(DESTDIR)$(LIBDIR)'/pkgconfig/$$a.pc || exit 1; \
 	done
@@ -106,7 +107,7 @@ uninstall:
 	done
 
 # Installs into a temporary folder, uses what stands there, and uninstalls.
-install-test: need-gcc archives program
+install-test: need-gcc archives program tools
 	@MAKE='$(MAKE)' sh tests/install/run.sh
 
 # The listing program over the corpus of tables, whose listings are the second implementation's.

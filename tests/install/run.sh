@@ -2,8 +2,8 @@
 # sh tests/install/run.sh
 #
 # Installs into a temporary folder by `make install` (MAKE names another make), and there: compiles the
-# examples of the man pages by the flags of the pkg-config files and runs them, runs the listing program and
-# the examples of its page, has the pages formatted with all warnings on, and uninstalls. Then the same with
+# examples of the man pages by the flags of the pkg-config files and runs them, runs the programs and
+# the examples of their pages, has the pages formatted with all warnings on, and uninstalls. Then the same with
 # DESTDIR. Says which tools were missing.
 
 root=$(cd "$(dirname "$0")/../.." && pwd) || exit 1
@@ -32,6 +32,7 @@ files_of() {
 }
 
 cat >"$work/expected" <<'END'
+bin/keeper
 bin/listing
 include/keeper.h
 include/listing_text.h
@@ -42,6 +43,7 @@ lib/librun_table.a
 lib/pkgconfig/keeper.pc
 lib/pkgconfig/listing_text.pc
 lib/pkgconfig/run_table.pc
+share/man/man1/keeper.1
 share/man/man1/listing.1
 share/man/man3/keeper.3
 share/man/man3/run_table.3
@@ -126,16 +128,20 @@ END
 cp "$root/tests/corpus/example_a.listing" "$work/listing_text.expected"
 compile_and_run listing_text
 
-# ---- the program, and the examples of its page
+# ---- the programs, and the examples of their pages: each shows a session
 "$prefix/bin/listing" <"$root/tests/corpus/example_a.table" | diff "$root/tests/corpus/example_a.listing" - || fail "listing: not the listing of example A"
-awk '/^\.Bd -literal/ { inside = 1; next } /^\.Ed/ { inside = 0 } inside { gsub(/\\e/, "\\"); print }' "$prefix/share/man/man1/listing.1" >"$work/session"
-grep '^\$ ' "$work/session" | sed 's/^\$ //' >"$work/commands"
-[ -s "$work/commands" ] || fail "listing.1 has no examples"
-while read -r command; do
-    printf '$ %s\n' "$command"
-    PATH=$prefix/bin:$PATH sh -c "$command"
-done <"$work/commands" >"$work/session.run"
-diff "$work/session" "$work/session.run" || fail "listing.1: its examples are not what happens (>)"
+"$prefix/bin/keeper" list "$root/tests/corpus/example_a.table" | diff "$root/tests/corpus/example_a.listing" - || fail "keeper list: not the listing of example A"
+for program in listing keeper; do
+    awk '/^\.Bd -literal/ { inside = 1; next } /^\.Ed/ { inside = 0 } inside { gsub(/\\e/, "\\"); print }' "$prefix/share/man/man1/$program.1" |
+        sed -n '/^\$ /,$p' >"$work/session"
+    grep '^\$ ' "$work/session" | sed 's/^\$ //' >"$work/commands"
+    [ -s "$work/commands" ] || fail "$program.1 has no examples"
+    while read -r command; do
+        printf '$ %s\n' "$command"
+        PATH=$prefix/bin:$PATH sh -c "$command"
+    done <"$work/commands" >"$work/session.run"
+    diff "$work/session" "$work/session.run" || fail "$program.1: its examples are not what happens (>)"
+done
 
 # ---- the man pages
 formatters=
