@@ -57,7 +57,8 @@ reference-tests: need-cargo
 	done
 
 # The archives of the libraries. Each is proved as it is written, every time, so it is done again only
-# where a source is newer.
+# where a source is newer. One rt at a time: it shares target/, and takes all processors itself.
+.NOTPARALLEL:
 ARCHIVES = run_table keeper listing_text
 ARCHIVE_FILES = $(ARCHIVES:%=target/staticlib/lib%.a)
 archives: $(ARCHIVE_FILES)
@@ -81,6 +82,7 @@ LIBDIR = $(PREFIX)/lib
 MANDIR = $(PREFIX)/share/man
 INSTALL = install
 install: archives program tools
+	@case '$(DESTDIR)$(PREFIX)' in *[[:space:]]*) echo "DESTDIR and PREFIX can have no spaces" >&2; exit 1;; esac
 	@case '$(PREFIX)' in /*) ;; *) echo "PREFIX=$(PREFIX) is not a path from the root" >&2; exit 1;; esac
 	@$(INSTALL) -d $(addprefix '$(DESTDIR),$(addsuffix ',$(BINDIR) $(INCLUDEDIR) $(LIBDIR)/pkgconfig $(MANDIR)/man1 $(MANDIR)/man3 $(MANDIR)/man5))
 	@$(INSTALL) -m 755 target/bin/listing '$(DESTDIR)$(BINDIR)/listing'
