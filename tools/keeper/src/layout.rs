@@ -246,6 +246,7 @@ impl Timer<'_> {
 
 /// The layout in time of a run that has an order.
 pub fn timed(run: &Run, scale: &Scale) -> Layout {
+    assert!(has_order(run), "no order of time fits");
     let intervals = intervals(run);
     let n = run.counts.len();
     let mut timer = Timer {
