@@ -1,3 +1,5 @@
+-- `numbers::u16_at` meets its contract: the two bytes that it reads.
+-- Assumes nothing.
 use borrow.Author.Needs.{needs}
 use Rattle.run_table.specs.Numbers.{u16At}
 use Rattle.run_table.proofs.numbers.u16_at.Statement.{statement}

@@ -1,3 +1,5 @@
+-- `numbers::u16_or_zero` meets its contract, at each return: beyond the end, at its last byte, within.
+-- Assumes nothing.
 use borrow.Author.Needs.{needs}
 use native.Mathlib.Omega.{arith}
 use mathlib.Core.Path.{sym}
