@@ -2,20 +2,20 @@
 --     soFar                                   the messages that remain of the first k
 --     counted-none .. counted-fits            a loop that counts them
 --     Gathered, gathered-none .. gathered-adds    a loop that writes their entries
---     send-within, receipt-within             the entries that the code reads
+--     send-within, sender-small .. receiver-small     the entries that the code reads
 --     sender-left .. received-left            the numbers that it writes of a message
 --     line-small, counts-left                 the counts that it writes
 --     found-staying, found-going              what its test says of a message
---     sent-test, receipt-undone, receipt-kept     an entry beside the line
+--     receipt-undone, receipt-kept            a receipt beside the line
 -- Assumes nothing.
-use mathlib.Core.Bool.{Bool, true, false, cond, not}
+use mathlib.Core.Bool.{Bool, true, false, cond}
 use mathlib.Core.List.{List, [], _∷_, _++_, append-nil}
 use mathlib.Core.Path.{_≡_, refl, sym, ap, ap₂, _∙_}
 use Prim.Native.Nat.{ℕ, zero, suc, _+_, _*_, _≤_, _<_}
 use native.Mathlib.Nat.{le-of-suc-le-suc, not-suc-le-zero}
 use native.Mathlib.Numerals.{add-one}
 use native.Mathlib.Omega.{arith}
-use borrow.Author.Tests.{le-ltb, lt-ltb, not-false, not-true}
+use borrow.Author.Tests.{le-ltb, lt-ltb}
 use lib.Dec.{ltb}
 use lib.ListN.{length, getD, take, length-append}
 use lib.Seq.{take-all}
@@ -28,13 +28,14 @@ use Rattle.lines.specs.Arrays.{arrayOf}
 use Rattle.run_table.proofs.AcceptLaws.{accepted}
 use Rattle.run_table.proofs.CodingLaws.{entries-append}
 use Rattle.run_table.proofs.FormatLaws.{length-entries}
-use Rattle.run_table.proofs.NumberLaws.{length-putAt, length-u16s, putAt-more, putAt-none, tabulate-ext, tabulate-getD, u16s-append}
-use Rattle.run_table.proofs.ReadLaws.{message-is, processes-few, receipts-size, receivers-known, senders-known, sends-size}
+use Rattle.run_table.proofs.NumberLaws.{length-putAt, length-u16s, putAt-none, tabulate-ext, tabulate-getD, u16s-append}
+use Rattle.run_table.proofs.ReadLaws.{message-is, processes-few, receipts-size, sends-size}
 use Rattle.run_table.specs.Checks.{tableRefusal}
-use Rattle.run_table.specs.Format.{checkpointAt, decode, entriesOf, messageAt, processAt, receiptsPart, sendsPart}
-use Rattle.run_table.specs.Numbers.{putAt, tabulate, u16At, u16Bytes, u16s}
+use Rattle.run_table.specs.Format.{checkpointAt, decode, entriesOf, messageAt, processAt, receiptsOf, receiptsPart, sendsOf, sendsPart}
+use Rattle.run_table.specs.Numbers.{putAt, tabulate, u16At, u16s}
 use Rattle.run_table.specs.Table.{Message, Table, countOf, messageCount, messageOf, noMessage, processCount}
-use Rattle.steps.specs.Rollback.{receiptLeft, sentBefore}
+use Rattle.steps.proofs.PlaceLaws.{both-more}
+use Rattle.steps.specs.Rollback.{receiptLeft}
 
 -- ---- what remains of the first k messages
 module _ (l : List ℕ) where
@@ -97,64 +98,101 @@ module _ (t : Table) (k n : ℕ) (counted : n ≡ length (soFar t k)) where
     pub counted-fits : stays (recoveryLine t) (messageOf t k) ≡ true → n < messageCount t
     counted-fits e = omega (arith, rollback-place t k h e, rollback-fewer t)
 
--- ---- a loop that writes the entries of what remains
-module _ (f g : Message → ℕ) where
-  entries-size : (ms : List Message) → length (u16s (entriesOf f g ms)) ≡ 4 * length ms
-  entries-size ms = omega (arith, length-u16s (entriesOf f g ms), length-entries f g ms)
+-- ---- a loop that writes the entries of what remains: their sends, and behind the m sends their receipts
+sends-size-of : (ms : List Message) → length (u16s (sendsOf ms)) ≡ 4 * length ms
+sends-size-of ms = omega (arith, length-u16s (sendsOf ms), length-entries (λ x. x .sender) (λ x. x .sent) ms)
 
--- The entries of what remains of the first k messages stand from a start on, the next one goes to the place behind them, and the
+receipts-size-of : (ms : List Message) → length (u16s (receiptsOf ms)) ≡ 4 * length ms
+receipts-size-of ms = omega (arith, length-u16s (receiptsOf ms), length-entries (λ x. x .receiver) (λ x. x .received) ms)
+
+-- The entries of some messages in a buffer.
+abbrev filled : List ℕ → ℕ → ℕ → List Message → List ℕ
+filled before start m ms = putAt (putAt before start (u16s (sendsOf ms))) (start + 4 * m) (u16s (receiptsOf ms))
+
+-- The entries of what remains of the first k messages stand from a start on, the next send goes to the place behind them, and the
 -- rest of the buffer is as it was.
-pub record Gathered (f g : Message → ℕ) (t : Table) (start : ℕ) (before : List ℕ) (k place : ℕ) (after : List ℕ) : Type 0 where
-  pub room : start + 4 * messageCount (afterRollback t) ≤ length before
+pub record Gathered (t : Table) (start m : ℕ) (before : List ℕ) (k place : ℕ) (after : List ℕ) : Type 0 where
+  pub room : start + 8 * m ≤ length before
+  pub all : m ≡ messageCount (afterRollback t)
   pub behind : place ≡ start + 4 * length (soFar t k)
   pub same-length : length after ≡ length before
-  pub contents : after ≡ putAt before start (u16s (entriesOf f g (soFar t k)))
+  pub contents : after ≡ filled before start m (soFar t k)
 
-module _ (f g : Message → ℕ) (t : Table) (start : ℕ) (before : List ℕ) where
-  pub gathered-none : start + 4 * messageCount (afterRollback t) ≤ length before → Gathered f g t start before 0 start before
+module _ (t : Table) (start m : ℕ) (before : List ℕ) where
+  pub gathered-none : start + 8 * m ≤ length before → m ≡ messageCount (afterRollback t) → Gathered t start m before 0 start before
   unfolding remaining entriesOf u16s
-  gathered-none room = record { room = room; behind = omega arith; same-length = refl; contents = sym (putAt-none before start) }
+  gathered-none room all = record {
+    room = room;
+    all = all;
+    behind = omega arith;
+    same-length = refl;
+    contents = sym (putAt-none (putAt before start []) (start + 4 * m) ∙ putAt-none before start);
+  }
 
-  module _ (k place : ℕ) (after : List ℕ) (w : Gathered f g t start before k place after) where
-    pub gathered-all : messageCount t ≤ k → after ≡ putAt before start (u16s (entriesOf f g (afterRollback t .messages)))
-    gathered-all h = w .contents ∙ ap (λ (ms : List Message). putAt before start (u16s (entriesOf f g ms))) (so-far-all t k h)
+  module _ (k place : ℕ) (after : List ℕ) (w : Gathered t start m before k place after) where
+    pub gathered-all : messageCount t ≤ k → after ≡ filled before start m (afterRollback t .messages)
+    gathered-all h = w .contents ∙ ap (filled before start m) (so-far-all t k h)
 
     module _ (h : k < messageCount t) where
-      pub gathered-skips : stays (recoveryLine t) (messageOf t k) ≡ false → Gathered f g t start before (k + 1) place after
+      pub gathered-skips : stays (recoveryLine t) (messageOf t k) ≡ false → Gathered t start m before (k + 1) place after
       gathered-skips e = record {
         room = w .room;
+        all = w .all;
         behind = w .behind ∙ ap (λ (ms : List Message). start + 4 * length ms) (sym (so-far-goes t k h e));
         same-length = w .same-length;
-        contents = w .contents ∙ ap (λ (ms : List Message). putAt before start (u16s (entriesOf f g ms))) (sym (so-far-goes t k h e));
+        contents = w .contents ∙ ap (filled before start m) (sym (so-far-goes t k h e));
       }
 
       module _ (e : stays (recoveryLine t) (messageOf t k) ≡ true) where
-        pub gathered-room : place + 3 < length after
-        gathered-room = omega (arith, w .room, w .behind, w .same-length, rollback-place t k h e)
+        pub gathered-room : place + 4 * m + 4 ≤ length after
+        gathered-room = omega (arith, w .room, w .all, w .behind, w .same-length, rollback-place t k h e)
 
         abbrev next : Message
         next = putBack (recoveryLine t) (messageOf t k)
 
-        entries-next : entriesOf f g (soFar t (k + 1)) ≡ entriesOf f g (soFar t k) ++ (f next ∷ g next ∷ [])
-        unfolding entriesOf
-        entries-next = ap (entriesOf f g) (so-far-stays t k h e) ∙ entries-append f g (soFar t k) (next ∷ [])
+        more : soFar t (k + 1) ≡ soFar t k ++ (next ∷ [])
+        more = so-far-stays t k h e
 
-        -- the entry was put at its place
-        pub gathered-adds : (process checkpoint : ℕ) (later : List ℕ) → process ≡ f next → checkpoint ≡ g next
-            → later ≡ putAt after place (u16s (process ∷ checkpoint ∷ [])) → Gathered f g t start before (k + 1) (place + 4) later
-        unfolding u16s u16Bytes
-        gathered-adds process checkpoint later a b put = record {
+        -- one entry more
+        grown : (f g : Message → ℕ) (a b : ℕ) → a ≡ f next → b ≡ g next → u16s (entriesOf f g (soFar t k)) ++ u16s (a ∷ b ∷ []) ≡ u16s (entriesOf f g (soFar t (k + 1)))
+        unfolding entriesOf
+        grown f g a b ea eb =
+            sym (u16s-append (entriesOf f g (soFar t k)) (a ∷ b ∷ []))
+            ∙ ap u16s (ap₂ (λ (x y : ℕ). entriesOf f g (soFar t k) ++ (x ∷ y ∷ [])) ea eb ∙ sym (ap (entriesOf f g) more ∙ entries-append f g (soFar t k) (next ∷ [])))
+
+        -- the send and the receipt were put at their places
+        pub gathered-adds : (j y i r : ℕ) (between later : List ℕ) → j ≡ next .sender → y ≡ next .sent → i ≡ next .receiver → r ≡ next .received
+            → between ≡ putAt after place (u16s (j ∷ y ∷ [])) → later ≡ putAt between (place + 4 * m) (u16s (i ∷ r ∷ []))
+            → Gathered t start m before (k + 1) (place + 4) later
+        gathered-adds j y i r between later ej ey ei er put₁ put₂ = record {
           room = w .room;
-          behind = omega (arith, w .behind, ap length (so-far-stays t k h e), length-append (soFar t k) (next ∷ []));
-          same-length = ap length put ∙ length-putAt after place (u16s (process ∷ checkpoint ∷ [])) (omega (arith, gathered-room)) ∙ w .same-length;
-          contents =
-              put
-              ∙ ap₂ (λ (b : List ℕ) (i : ℕ). putAt b i (u16s (process ∷ checkpoint ∷ []))) (w .contents) (w .behind ∙ ap (λ (n : ℕ). start + n) (sym (entries-size f g (soFar t k))))
-              ∙ putAt-more before start (u16s (entriesOf f g (soFar t k))) (u16s (process ∷ checkpoint ∷ [])) (omega (arith, gathered-room, w .behind, w .same-length, entries-size f g (soFar t k)))
-              ∙ ap (putAt before start)
-              (sym (u16s-append (entriesOf f g (soFar t k)) (process ∷ checkpoint ∷ []))
-              ∙ ap u16s (ap₂ (λ (x y : ℕ). entriesOf f g (soFar t k) ++ (x ∷ y ∷ [])) a b ∙ sym entries-next));
+          all = w .all;
+          behind = omega (arith, w .behind, ap length more, length-append (soFar t k) (next ∷ []));
+          same-length = ap length written ∙ same-after (soFar t (k + 1)) (omega (arith, w .all, ap length more, length-append (soFar t k) (next ∷ []), rollback-place t k h e));
+          contents = written;
         }
+          where
+            same-after : (ms : List Message) → length ms ≤ m → length (filled before start m ms) ≡ length before
+            same-after ms few =
+                let near = length-putAt before start (u16s (sendsOf ms)) (omega (arith, sends-size-of ms, w .room)) in
+                length-putAt (putAt before start (u16s (sendsOf ms))) (start + 4 * m) (u16s (receiptsOf ms)) (omega (arith, near, receipts-size-of ms, w .room)) ∙ near
+
+            near-place : place ≡ start + length (u16s (sendsOf (soFar t k)))
+            near-place = omega (arith, w .behind, sends-size-of (soFar t k))
+
+            far-place : place + 4 * m ≡ start + 4 * m + length (u16s (receiptsOf (soFar t k)))
+            far-place = omega (arith, w .behind, receipts-size-of (soFar t k))
+
+            two : (a b : ℕ) → length (u16s (a ∷ b ∷ [])) ≡ 4
+            two a b = omega (arith, length-u16s (a ∷ b ∷ []))
+
+            written : later ≡ filled before start m (soFar t (k + 1))
+            written =
+                put₂ ∙ ap₂ (λ (l : List ℕ) (n : ℕ). putAt l n (u16s (i ∷ r ∷ []))) (put₁ ∙ ap₂ (λ (l : List ℕ) (n : ℕ). putAt l n (u16s (j ∷ y ∷ []))) (w .contents) near-place) far-place
+                ∙ both-more before (u16s (sendsOf (soFar t k))) (u16s (receiptsOf (soFar t k))) (u16s (j ∷ y ∷ [])) (u16s (i ∷ r ∷ [])) start (start + 4 * m)
+                (omega (arith, w .all, sends-size-of (soFar t k), two j y, rollback-place t k h e))
+                (omega (arith, w .room, w .all, receipts-size-of (soFar t k), two i r, rollback-place t k h e))
+                ∙ ap₂ (λ (s z : List ℕ). putAt (putAt before start s) (start + 4 * m) z) (grown (λ x. x .sender) (λ x. x .sent) j y ej ey) (grown (λ x. x .receiver) (λ x. x .received) i r ei er)
 
 -- ---- what the code reads of an accepted table
 module _ (bytes : List ℕ) (none : tableRefusal bytes ≡ 0) where
@@ -164,30 +202,47 @@ module _ (bytes : List ℕ) (none : tableRefusal bytes ≡ 0) where
   -- entry k of the sends, and of the receipts
   module _ (part : List ℕ) (k : ℕ) (h : k < messageCount t) where
     module _ (read : part ≡ sendsPart bytes) where
-      pub send-within : (4 * k + 3 < length part) × (processAt part k < 32)
-      send-within = rw read (omega (arith, sends-size bytes none), omega (arith, senders-known bytes none k h, processes-few bytes none))
+      pub send-within : 4 * k + 3 < length part
+      send-within = rw read (omega (arith, sends-size bytes none))
 
-      pub sender-left : (v : ℕ) → v ≡ u16At part (4 * k) → v ≡ putBack (recoveryLine t) (messageOf t k) .sender
-      unfolding messageAt processAt
-      sender-left v e =
-          e ∙ ap (λ (s : List ℕ). u16At s (4 * k)) read ∙ ap (λ (m : Message). m .sender) (message-is bytes none k h)
-          ∙ sym (putBack-sender (recoveryLine t) (messageOf t k))
+      module _ (v : ℕ) (e : v ≡ u16At part (4 * k)) where
+        sender-is : v ≡ messageOf t k .sender
+        unfolding messageAt processAt
+        sender-is = e ∙ ap (λ (s : List ℕ). u16At s (4 * k)) read ∙ ap (λ (m : Message). m .sender) (message-is bytes none k h)
 
-      pub sent-left : (v : ℕ) → v ≡ u16At part (4 * k + 2) → v ≡ putBack (recoveryLine t) (messageOf t k) .sent
-      unfolding messageAt checkpointAt
-      sent-left v e =
-          e ∙ ap (λ (s : List ℕ). u16At s (4 * k + 2)) read ∙ ap (λ (m : Message). m .sent) (message-is bytes none k h)
-          ∙ sym (putBack-sent (recoveryLine t) (messageOf t k))
+        pub sender-small : v < 32
+        sender-small = omega (arith, sender-is, accepted bytes none .well-formed .good-messages k h .sender-known, processes-few bytes none)
+
+        pub sender-left : v ≡ putBack (recoveryLine t) (messageOf t k) .sender
+        sender-left = sender-is ∙ sym (putBack-sender (recoveryLine t) (messageOf t k))
+
+      module _ (v : ℕ) (e : v ≡ u16At part (4 * k + 2)) where
+        sent-is : v ≡ messageOf t k .sent
+        unfolding messageAt checkpointAt
+        sent-is = e ∙ ap (λ (s : List ℕ). u16At s (4 * k + 2)) read ∙ ap (λ (m : Message). m .sent) (message-is bytes none k h)
+
+        pub sent-left : v ≡ putBack (recoveryLine t) (messageOf t k) .sent
+        sent-left = sent-is ∙ sym (putBack-sent (recoveryLine t) (messageOf t k))
 
     module _ (read : part ≡ receiptsPart bytes) where
-      pub receipt-within : (4 * k + 3 < length part) × (processAt part k < 32)
-      receipt-within = rw read (omega (arith, receipts-size bytes none), omega (arith, receivers-known bytes none k h, processes-few bytes none))
+      pub receipt-within : 4 * k + 3 < length part
+      receipt-within = rw read (omega (arith, receipts-size bytes none))
 
-      pub receiver-left : (v : ℕ) → v ≡ u16At part (4 * k) → v ≡ putBack (recoveryLine t) (messageOf t k) .receiver
-      unfolding messageAt processAt
-      receiver-left v e =
-          e ∙ ap (λ (s : List ℕ). u16At s (4 * k)) read ∙ ap (λ (m : Message). m .receiver) (message-is bytes none k h)
-          ∙ sym (putBack-receiver (recoveryLine t) (messageOf t k))
+      module _ (v : ℕ) (e : v ≡ u16At part (4 * k)) where
+        receiver-is : v ≡ messageOf t k .receiver
+        unfolding messageAt processAt
+        receiver-is = e ∙ ap (λ (s : List ℕ). u16At s (4 * k)) read ∙ ap (λ (m : Message). m .receiver) (message-is bytes none k h)
+
+        pub receiver-small : v < 32
+        receiver-small = omega (arith, receiver-is, accepted bytes none .well-formed .good-messages k h .receiver-known, processes-few bytes none)
+
+        pub receiver-left : v ≡ putBack (recoveryLine t) (messageOf t k) .receiver
+        receiver-left = receiver-is ∙ sym (putBack-receiver (recoveryLine t) (messageOf t k))
+
+      module _ (v : ℕ) (e : v ≡ u16At part (4 * k + 2)) where
+        received-is : v ≡ messageOf t k .received
+        unfolding messageAt checkpointAt
+        received-is = e ∙ ap (λ (s : List ℕ). u16At s (4 * k + 2)) read ∙ ap (λ (m : Message). m .received) (message-is bytes none k h)
 
   -- beside the line
   module _ (line : List ℕ) (same : line ≡ arrayOf (recoveryLine t)) where
@@ -203,46 +258,38 @@ module _ (bytes : List ℕ) (none : tableRefusal bytes ≡ 0) where
         tabulate-ext n _ (λ p. getD (afterRollback t .counts) p 0) (λ p l. ap (λ (x : ℕ). x + 1) (line-at p) ∙ sym (rollback-count t p (omega arith)))
         ∙ ap (λ (k : ℕ). tabulate k (λ p. getD (afterRollback t .counts) p 0)) (e ∙ sym (rollback-processes t)) ∙ tabulate-getD (afterRollback t .counts) 0
 
-    module _ (part : List ℕ) (k : ℕ) (h : k < messageCount t) where
-      module _ (read : part ≡ sendsPart bytes) (r : Bool) (is : r ≡ sentBefore line part k) where
-        stays-read : stays (recoveryLine t) (messageOf t k) ≡ r
-        unfolding stays messageAt sentBefore
-        stays-read =
-            sym (is ∙ ap (λ (s : List ℕ). sentBefore line s k) read ∙ ap (ltb (checkpointAt (sendsPart bytes) k)) (line-at (processAt (sendsPart bytes) k))
-            ∙ ap (stays (recoveryLine t)) (message-is bytes none k h))
+    -- message k, by the two numbers that the code read of its entry
+    module _ (part : List ℕ) (k : ℕ) (h : k < messageCount t) (p c : ℕ) (read-p : p ≡ u16At part (4 * k)) (read-c : c ≡ u16At part (4 * k + 2)) where
+      module _ (read : part ≡ sendsPart bytes) where
+        stays-read : ltb c (getD line p 0) ≡ stays (recoveryLine t) (messageOf t k)
+        unfolding stays
+        stays-read = ap₂ ltb (sent-is part k h read c read-c) (line-at p ∙ ap (at (recoveryLine t)) (sender-is part k h read p read-p))
 
-        pub found-staying : not r ≡ false → stays (recoveryLine t) (messageOf t k) ≡ true
-        found-staying e = stays-read ∙ not-false r e
+        pub found-staying : c < getD line p 0 → stays (recoveryLine t) (messageOf t k) ≡ true
+        found-staying l = sym stays-read ∙ lt-ltb c (getD line p 0) l
 
-        pub found-going : not r ≡ true → stays (recoveryLine t) (messageOf t k) ≡ false
-        found-going e = stays-read ∙ not-true r e
+        pub found-going : getD line p 0 ≤ c → stays (recoveryLine t) (messageOf t k) ≡ false
+        found-going l = sym stays-read ∙ le-ltb c (getD line p 0) l
 
-      pub received-left : part ≡ receiptsPart bytes → (v : ℕ) → v ≡ receiptLeft line part k → v ≡ putBack (recoveryLine t) (messageOf t k) .received
-      unfolding messageAt putBack receiptLeft
+      pub received-left : part ≡ receiptsPart bytes → (v : ℕ) → v ≡ receiptLeft (getD line p 0) c → v ≡ putBack (recoveryLine t) (messageOf t k) .received
+      unfolding putBack receiptLeft
       received-left read v is =
-          is ∙ ap (λ (s : List ℕ). receiptLeft line s k) read
-          ∙ ap (λ (x : ℕ). cond (ltb x (here .received)) 0 (here .received)) (line-at (here .receiver))
-          ∙ go (ltb (at (recoveryLine t) (here .receiver)) (here .received)) ∙ ap (λ (m : Message). putBack (recoveryLine t) m .received) (message-is bytes none k h)
+          is ∙ ap₂ (λ (a b : ℕ). cond (ltb a b) 0 b) (line-at p ∙ ap (at (recoveryLine t)) (receiver-is part k h read p read-p)) (received-is part k h read c read-c)
+          ∙ go (ltb (at (recoveryLine t) (here .receiver)) (here .received))
         where
           here : Message
-          here = messageAt (sendsPart bytes) (receiptsPart bytes) k
+          here = messageOf t k
 
           go : (b : Bool) → cond b 0 (here .received) ≡ cond b (withReceipt here 0) here .received
           go true = refl
           go false = refl
 
--- ---- the checkpoint of an entry, beside the line's number at its process
-module _ (line part : List ℕ) (k height checkpoint : ℕ) (read-h : height ≡ getD line (processAt part k) 0) (read-c : checkpoint ≡ u16At part (4 * k + 2)) where
-  pub sent-test : ltb checkpoint height ≡ sentBefore line part k
-  unfolding checkpointAt sentBefore
-  sent-test = ap₂ ltb read-c read-h
+-- ---- a receipt number beside the line's
+module _ (height received : ℕ) where
+  pub receipt-undone : height < received → _≡_ {A = ℕ} 0 (receiptLeft height received)
+  unfolding receiptLeft
+  receipt-undone h = rw (lt-ltb height received h)
 
-  receipt-test : cond (ltb height checkpoint) 0 checkpoint ≡ receiptLeft line part k
-  unfolding checkpointAt receiptLeft
-  receipt-test = ap₂ (λ (h c : ℕ). cond (ltb h c) 0 c) read-h read-c
-
-  pub receipt-undone : height < checkpoint → _≡_ {A = ℕ} 0 (receiptLeft line part k)
-  receipt-undone h = sym (ap (λ (b : Bool). cond b 0 checkpoint) (lt-ltb height checkpoint h)) ∙ receipt-test
-
-  pub receipt-kept : checkpoint ≤ height → checkpoint ≡ receiptLeft line part k
-  receipt-kept h = sym (ap (λ (b : Bool). cond b 0 checkpoint) (le-ltb height checkpoint h)) ∙ receipt-test
+  pub receipt-kept : received ≤ height → received ≡ receiptLeft height received
+  unfolding receiptLeft
+  receipt-kept h = rw (le-ltb height received h)

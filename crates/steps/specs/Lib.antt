@@ -1,5 +1,5 @@
 -- What the code of the steps writes, part by part.
 --     Saving      the counts and the receipts after a checkpoint
---     Rollback    an entry beside the recovery line
+--     Rollback    a receipt beside the recovery line
 pub mod Rollback
 pub mod Saving

@@ -29,45 +29,27 @@ put-counts-requires c κs =
     let start = c .before .before .before .before .before .before .before .before in
     (omega (arith, processes-few _ (start .pre .0)), (line-small _ (start .pre .0) _ (start .pre .1 .0) _ (c .before .before .before .before .before .process-count .ensures), omega arith))
 
-mul-put-sends : tie.Need-mul-put-sends
-mul-put-sends c = search needs
+mul-put-messages : tie.Need-mul-put-messages
+mul-put-messages c = search needs
 
-add-put-sends : tie.Need-add-put-sends
-add-put-sends c = search needs
+add-put-messages : tie.Need-add-put-messages
+add-put-messages c = search needs
 
-put-sends-requires : tie.Need-put-sends-requires
-put-sends-requires c κs =
+put-messages-requires : tie.Need-put-messages-requires
+put-messages-requires c κs =
     let start = c .before .before .before .before .before .before .before .before .before .before .before .before in
-    (start .pre .0, (start .pre .1 .0, omega arith))
-
-mul-put-receipts : tie.Need-mul-put-receipts
-mul-put-receipts c = search needs
-
-add-put-receipts : tie.Need-add-put-receipts
-add-put-receipts c = search needs
-
-mul-put-receipts-2 : tie.Need-mul-put-receipts-2
-mul-put-receipts-2 c = search needs
-
-add-put-receipts-2 : tie.Need-add-put-receipts-2
-add-put-receipts-2 c = search needs
-
-put-receipts-requires : tie.Need-put-receipts-requires
-put-receipts-requires c κs =
-    let start = c .before .before .before .before .before .before .before .before .before .before .before .before .before .before .before .before in
-    (start .pre .0, (start .pre .1 .0, omega arith))
+    (start .pre .0, (start .pre .1 .0, (start .pre .1 .1 .0, omega arith)))
 
 same-length : tie.Need-same-length
 same-length c = search needs
 
 returns : tie.Need-returns
 returns c =
-    let start = c .before .before .before .before .before .before .before .before .before .before .before .before .before .before .before .before .before .before .before in
-    let n = c .before .before .before .before .before .before .before .before .before .before .before .before .before .before .before .before .process-count .ensures in
+    let start = c .before .before .before .before .before .before .before .before .before .before .before .before .before .before .before in
+    let n = c .before .before .before .before .before .before .before .before .before .before .before .before .process-count .ensures in
     let counts = counts-left _ (start .pre .0) _ (start .pre .1 .0) _ n in
     table-put _ _ _ _ _ _ (n ∙ sym (rollback-processes (decode (now (start .args .table))))) (start .pre .1 .1 .0) counts refl refl _ _ _ _ (omega arith)
-    (head-put _ _ _ _ _ _ (omega arith) (c .before .before .before .before .before .before .before .before .before .before .before .before .before .before .put-pair .ensures) (c .before .before .before .before .before .before .before .before .before .before .put-counts .ensures))
-    (c .before .before .before .before .before .before .put-sends .ensures) (c .before .before .put-receipts .ensures)
+    (head-put _ _ _ _ _ _ (omega arith) (c .before .before .before .before .before .before .before .before .before .before .put-pair .ensures) (c .before .before .before .before .before .before .put-counts .ensures)) refl (c .before .before .put-messages .ensures)
 
 pub put-rollback-spec : {M : Type 1} → statement M
 put-rollback-spec =
@@ -78,13 +60,8 @@ put-rollback-spec =
     cast-put-pair-2
     put-pair-requires
     put-counts-requires
-    mul-put-sends
-    add-put-sends
-    put-sends-requires
-    mul-put-receipts
-    add-put-receipts
-    mul-put-receipts-2
-    add-put-receipts-2
-    put-receipts-requires
+    mul-put-messages
+    add-put-messages
+    put-messages-requires
     same-length
     returns)
