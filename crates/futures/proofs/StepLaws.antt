@@ -220,12 +220,11 @@ module _ (t : Table) (i : ℕ) (list : List ℕ) where
     pub checkpoint-known : i < processCount t
     checkpoint-known = leb-false (processCount t) i (free .0)
 
-    pub checkpoint-waiting : (k : ℕ) → any (eqb k) list ≡ true → Waiting t i k
-    checkpoint-waiting k listed =
-        good-position t i k (listed-fails (badPosition t i) list (or-false-left (any (badPosition t i) list) (notRising list) (free .1)) k listed)
+    pub checkpoint-positions : any (badPosition t i) list ≡ false
+    checkpoint-positions = or-false-left (any (badPosition t i) list) (notRising list) (free .1)
 
-    pub checkpoint-rising : notRising list ≡ false
-    checkpoint-rising = or-false-right (any (badPosition t i) list) (notRising list) (free .1)
+    pub checkpoint-waiting : (k : ℕ) → any (eqb k) list ≡ true → Waiting t i k
+    checkpoint-waiting k listed = good-position t i k (listed-fails (badPosition t i) list checkpoint-positions k listed)
 
   pub checkpoint-quiet : i < processCount t → ((a : ℕ) → a < length list → Waiting t i (getD list a 0)) → notRising list ≡ false
       → firstCaught (checkpointChecks t i list) ≡ 0

@@ -2,28 +2,30 @@
 --     falls-at, rises-all              a list that does not rise, or does, by its neighbours
 --     Positions, positions-none, positions-more, positions-all    a loop over the positions
 --     bad-beyond, bad-receiver, bad-received, good-here   one position's test, from the numbers read
---     Merging, merge-begins, merge-listed, merge-unlisted      a loop over the messages and the list at once
---     Received, received-none, received-more, received-all     the receipts that it writes
+--     positions-below                  the positions of a list in which none is bad
+--     Received, received-none, received-more, received-all     a loop that writes the listed receipts
 -- Assumes nothing.
-use mathlib.Core.Bool.{Bool, true, false, _&&_, true≢false}
-use mathlib.Core.List.{List, [], _∷_, _++_}
+use mathlib.Core.Bool.{Bool, true, false, cond, _||_, or-true}
+use mathlib.Core.List.{List, [], _∷_, _++_, append-assoc}
 use mathlib.Core.Path.{_≡_, refl, sym, ap, ap₂, _∙_, subst}
 use Prim.Native.Nat.{ℕ, zero, suc, _+_, _-_, _*_, _≤_, _<_, zero-le, suc-le-suc}
-use native.Mathlib.Decide.{decLt, ℕ-discrete}
-use native.Mathlib.Nat.{le-antisymm, le-refl}
+use native.Mathlib.Decide.{ℕ-discrete}
 use native.Mathlib.Numerals.{add-one}
 use native.Mathlib.Omega.{arith}
-use borrow.Author.Tests.{eq-eqb, eqb-true, lt-leb, lt-ltb, ltb-true, ne-eqb}
-use lib.Dec.{eqb, ltb}
-use lib.ListN.{length, getD, length-append}
+use borrow.Author.Tests.{eq-eqb, lt-leb, ne-eqb}
+use lib.Dec.{eqb}
+use lib.ListN.{length, getD, set, take, length-append}
+use lib.Seq.{set-append-left, set-append-seam, take-all, take-suc}
 use Rattle.futures.proofs.StepLaws.{Waiting, good-position, rising, waiting-position}
 use Rattle.futures.specs.Steps.{badPosition, follows, notRising}
-use Rattle.run_table.proofs.NumberLaws.{and-left, and-right, any-none, any-some, length-putAt, length-u16s, putAt-more, putAt-none, u16s-append}
+use Rattle.run_table.proofs.CodingLaws.{even-number, odd-number}
+use Rattle.run_table.proofs.NumberLaws.{any-none, any-some, none-of, tabulate-more}
 use Rattle.run_table.proofs.ReadLaws.{message-is}
 use Rattle.run_table.specs.Checks.{tableRefusal}
 use Rattle.run_table.specs.Format.{checkpointAt, decode, messageAt, processAt, receiptsPart}
-use Rattle.run_table.specs.Numbers.{any, putAt, u16At, u16s}
+use Rattle.run_table.specs.Numbers.{any, putAt, tabulate, u16At, u16Bytes, u16s}
 use Rattle.run_table.specs.Table.{Message, Table, messageCount, messageOf}
+use Rattle.steps.proofs.PlaceLaws.{number-within}
 use Rattle.steps.specs.Saving.{newReceipt, receiptNumbers}
 
 -- ---- a rising list
@@ -106,114 +108,118 @@ module _ (bytes : List ℕ) (none : tableRefusal bytes ≡ 0) (i k : ℕ) where
     good-here r s read read′ same zero-is =
         waiting-position t i k (record { a-message = l; to-process = receiver-is ∙ sym read ∙ same; undelivered = received-is ∙ sym read′ ∙ zero-is })
 
--- ---- a loop over the messages and a rising list at once
--- The loop stands at message k and entry a: the entries before a are below k, the others are not.
-pub record Merging (list : List ℕ) (k a : ℕ) : Type 0 where
-  pub entry : a ≤ length list
-  pub passed : (b : ℕ) → b < a → getD list b 0 < k
-  pub ahead : (b : ℕ) → a ≤ b → b < length list → k ≤ getD list b 0
+-- ---- a loop over the listed positions, which writes their receipts
+-- a listed position, and any other
+or-none : (b : Bool) → (b || false) ≡ b
+or-none true = refl
+or-none false = refl
 
-module _ (list : List ℕ) where
-  pub merge-begins : Merging list 0 0
-  merge-begins = record { entry = zero-le; passed = λ b l. absurd (omega arith); ahead = λ b l l′. zero-le }
+any-last : (test : ℕ → Bool) (xs : List ℕ) (x : ℕ) → any test (xs ++ (x ∷ [])) ≡ (any test xs || test x)
+unfolding any
+any-last test [] x = or-none (test x)
+any-last test (y ∷ rest) x = go (test y) (any-last test rest x)
+  where
+    go : (b : Bool) → any test (rest ++ (x ∷ [])) ≡ (any test rest || test x) → (b || any test (rest ++ (x ∷ []))) ≡ ((b || any test rest) || test x)
+    go true e = refl
+    go false e = e
 
-  module _ (up : notRising list ≡ false) (k a : ℕ) (m : Merging list k a) where
-    -- the entry is k: it is listed, and both go on
-    pub merge-listed : (r : Bool) → r ≡ (ltb a (length list) && eqb (getD list a 0) k) → r ≡ true → (any (eqb k) list ≡ true) × Merging list (k + 1) (a + 1)
-    merge-listed r e h =
-        let within : a < length list = ltb-true a (length list) (and-left (ltb a (length list)) (eqb (getD list a 0) k) (sym e ∙ h)) in
-        let here : getD list a 0 ≡ k = eqb-true (getD list a 0) k (and-right (ltb a (length list)) (eqb (getD list a 0) k) (sym e ∙ h)) in (
-          any-some (eqb k) list 0 a within (eq-eqb k (getD list a 0) (sym here)),
+module _ (receipts : List ℕ) (number : ℕ) where
+  abbrev numbers : ℕ → List ℕ → List ℕ
+  numbers m list = receiptNumbers m receipts list number
+
+  numbers-length : (m : ℕ) (list : List ℕ) → length (numbers m list) ≡ 2 * m
+  unfolding receiptNumbers
+  numbers-length zero list = refl
+  numbers-length (suc m) list = omega (arith, length-append (numbers m list) (processAt receipts m ∷ newReceipt receipts list number m ∷ []), numbers-length m list)
+
+  -- the numbers as they are copied, before any is listed
+  numbers-copied : (m : ℕ) → tabulate (2 * m) (λ e. u16At receipts (2 * e)) ≡ numbers m []
+  unfolding receiptNumbers tabulate newReceipt any processAt checkpointAt
+  numbers-copied zero = refl
+  numbers-copied (suc m) =
+      let f : ℕ → ℕ = λ e. u16At receipts (2 * e) in
+      let further : 2 * suc m ≡ 2 * m + 1 + 1 = omega arith in
+      ap (λ (j : ℕ). tabulate j f) further ∙ tabulate-more (2 * m + 1) f ∙ ap (λ (l : List ℕ). l ++ (f (2 * m + 1) ∷ [])) (tabulate-more (2 * m) f)
+      ∙ append-assoc (tabulate (2 * m) f) (f (2 * m) ∷ []) (f (2 * m + 1) ∷ [])
+      ∙ ap₂ (λ (l : List ℕ) (x : ℕ). l ++ (x ∷ f (2 * m + 1) ∷ [])) (numbers-copied m) (sym (even-number receipts m))
+      ∙ ap (λ (y : ℕ). numbers m [] ++ (u16At receipts (4 * m) ∷ y ∷ [])) (sym (odd-number receipts m))
+
+  module _ (list : List ℕ) (k : ℕ) where
+    abbrev longer : List ℕ
+    longer = list ++ (k ∷ [])
+
+    here-new : newReceipt receipts longer number k ≡ number
+    unfolding newReceipt
+    here-new = rw (any-last (eqb k) list k, eq-eqb k k refl, or-true (any (eqb k) list))
+
+    other-same : (j : ℕ) → (j ≡ k → ⊥) → newReceipt receipts longer number j ≡ newReceipt receipts list number j
+    unfolding newReceipt
+    other-same j e = ap (λ (b : Bool). cond b number (checkpointAt receipts j)) (any-last (eqb j) list k ∙ ap (λ (b : Bool). any (eqb j) list || b) (ne-eqb j k e) ∙ or-none (any (eqb j) list))
+
+    -- one position more in the list
+    numbers-below : (m : ℕ) → m ≤ k → numbers m longer ≡ numbers m list
+    unfolding receiptNumbers
+    numbers-below zero l = refl
+    numbers-below (suc m) l =
+        ap₂ (λ (a : List ℕ) (y : ℕ). a ++ (processAt receipts m ∷ y ∷ [])) (numbers-below m (omega arith)) (other-same m (λ e. omega arith))
+
+    numbers-set : (m : ℕ) → k < m → set (numbers m list) (2 * k + 1) number ≡ numbers m longer
+    unfolding receiptNumbers
+    numbers-set zero l = absurd (omega arith)
+    numbers-set (suc m) l = by-place (ℕ-discrete k m) (λ h. numbers-set m h)
+      where
+        pair : ℕ → List ℕ
+        pair y = processAt receipts m ∷ y ∷ []
+
+        by-place : Dec (k ≡ m) → (k < m → set (numbers m list) (2 * k + 1) number ≡ numbers m longer)
+            → set (numbers m list ++ pair (newReceipt receipts list number m)) (2 * k + 1) number ≡ numbers m longer ++ pair (newReceipt receipts longer number m)
+        by-place (yes e) before =
+            let split : numbers m list ++ pair (newReceipt receipts list number m) ≡ (numbers m list ++ (processAt receipts m ∷ [])) ++ (newReceipt receipts list number m ∷ []) =
+            sym (append-assoc (numbers m list) (processAt receipts m ∷ []) (newReceipt receipts list number m ∷ [])) in
+            let seam : length (numbers m list ++ (processAt receipts m ∷ [])) ≡ 2 * k + 1 =
+            omega (arith, length-append (numbers m list) (processAt receipts m ∷ []), numbers-length m list) in
+            ap₂ (λ (a : List ℕ) (j : ℕ). set a j number) split (sym seam)
+            ∙ set-append-seam (numbers m list ++ (processAt receipts m ∷ [])) (newReceipt receipts list number m) [] number
+            ∙ append-assoc (numbers m list) (processAt receipts m ∷ []) (number ∷ [])
+            ∙ ap₂ (λ (a : List ℕ) (y : ℕ). a ++ pair y) (sym (numbers-below m (omega arith))) (sym (ap (newReceipt receipts longer number) (sym e) ∙ here-new))
+        by-place (no e) before =
+            set-append-left (numbers m list) (pair (newReceipt receipts list number m)) (2 * k + 1) number (omega (arith, numbers-length m list))
+            ∙ ap₂ (λ (a : List ℕ) (y : ℕ). a ++ pair y) (before (omega arith)) (sym (other-same m (λ s. e (sym s))))
+
+  -- Where the receipts stood from a place on, the first a listed ones have their new number.
+  pub record Received (m : ℕ) (list : List ℕ) (at : ℕ) (copied after : List ℕ) (a : ℕ) : Type 0 where
+    pub within : a ≤ length list
+    pub room : at + 4 * m ≤ length copied
+    pub same-length : length after ≡ length copied
+    pub contents : (before : List ℕ) → at + 4 * m ≤ length before → copied ≡ putAt before at (u16s (numbers m [])) → after ≡ putAt before at (u16s (numbers m (take a list)))
+
+  module _ (m : ℕ) (list : List ℕ) (at : ℕ) (copied : List ℕ) where
+    pub received-none : at + 4 * m ≤ length copied → Received m list at copied copied 0
+    received-none room = record { within = zero-le; room = room; same-length = refl; contents = λ before fits e. e }
+
+    module _ (after : List ℕ) (a : ℕ) (w : Received m list at copied after a) where
+      pub received-more : a < length list → (k : ℕ) → k ≡ getD list a 0 → k < m → (later : List ℕ) → length later ≡ length after
+          → later ≡ putAt after (at + 4 * k + 2) (u16Bytes number) → Received m list at copied later (a + 1)
+      received-more l k is-k below later same put =
+          let place : at + 4 * k + 2 ≡ at + 2 * (2 * k + 1) = omega arith in
+          let longer : take (a + 1) list ≡ take a list ++ (k ∷ []) =
+          ap (λ (j : ℕ). take j list) (add-one a) ∙ take-suc list a 0 l ∙ ap (λ (x : ℕ). take a list ++ (x ∷ [])) (sym is-k) in
           record {
-            entry = omega arith;
-            passed = λ b l. before b l (ℕ-discrete b a) here;
-            ahead = λ b l l′. omega (arith, rising list up a b (omega arith) l′);
-          },
-        )
-      where
-        before : (b : ℕ) → b < a + 1 → Dec (b ≡ a) → getD list a 0 ≡ k → getD list b 0 < k + 1
-        before b l (yes same) here = omega (arith, ap (λ (x : ℕ). getD list x 0) same)
-        before b l (no other) here = omega (arith, m .passed b (omega arith))
+            within = omega arith;
+            room = w .room;
+            same-length = same ∙ w .same-length;
+            contents =
+                λ before fits e.
+                put ∙ ap₂ (λ (b : List ℕ) (j : ℕ). putAt b j (u16Bytes number)) (w .contents before fits e) place
+                ∙ number-within before (numbers m (take a list)) at (2 * k + 1) number (omega (arith, numbers-length m (take a list))) (omega (arith, numbers-length m (take a list)))
+                ∙ ap (λ (l : List ℕ). putAt before at (u16s l)) (numbers-set (take a list) k m below ∙ ap (numbers m) (sym longer));
+          }
 
-    -- the entry is not k: it is not listed, and the message alone goes on
-    pub merge-unlisted : (r : Bool) → r ≡ (ltb a (length list) && eqb (getD list a 0) k) → r ≡ false → (any (eqb k) list ≡ false) × Merging list (k + 1) a
-    merge-unlisted r e h = (
-      any-none (eqb k) list 0 (λ b l. ne-eqb k (getD list b 0) (other b l)),
-      record {
-        entry = m .entry;
-        passed = λ b l. omega (arith, m .passed b l);
-        ahead = λ b l l′. omega (arith, m .ahead b l l′, other b l′);
-      },
-    )
-      where
-        not-here : a < length list → getD list a 0 ≡ k → ⊥
-        not-here within same = true≢false (sym (rw (lt-ltb a (length list) within) (eq-eqb (getD list a 0) k same)) ∙ sym e ∙ h)
+      pub received-all : length list ≤ a → (before : List ℕ) → at + 4 * m ≤ length before → copied ≡ putAt before at (u16s (tabulate (2 * m) (λ e. u16At receipts (2 * e))))
+          → after ≡ putAt before at (u16s (numbers m list))
+      received-all l before fits e =
+          w .contents before fits (e ∙ ap (λ (x : List ℕ). putAt before at (u16s x)) (numbers-copied m)) ∙ ap (λ (x : List ℕ). putAt before at (u16s (numbers m x))) (take-all a list l)
 
-        other : (b : ℕ) → b < length list → k ≡ getD list b 0 → ⊥
-        other b l same = by-place (decLt b a) (ℕ-discrete b a)
-          where
-            by-place : Dec (b < a) → Dec (b ≡ a) → ⊥
-            by-place (yes lower) d = omega (arith, m .passed b lower)
-            by-place (no d) (yes at-a) = not-here (omega arith) (ap (λ (x : ℕ). getD list x 0) (sym at-a) ∙ sym same)
-            by-place (no d) (no d′) = omega (arith, m .ahead a (le-refl a) (omega arith), rising list up a b (omega arith) l)
-
--- ---- the receipts that the loop writes
-module _ (receipts list : List ℕ) (number : ℕ) where
-  numbers-length : (k : ℕ) → length (receiptNumbers k receipts list number) ≡ 2 * k
-  unfolding receiptNumbers
-  numbers-length zero = refl
-  numbers-length (suc k) =
-      omega (arith, length-append (receiptNumbers k receipts list number) (processAt receipts k ∷ newReceipt receipts list number k ∷ []), numbers-length k)
-
-  bytes-length : (k : ℕ) → length (u16s (receiptNumbers k receipts list number)) ≡ 4 * k
-  bytes-length k = omega (arith, length-u16s (receiptNumbers k receipts list number), numbers-length k)
-
-  next-numbers : (k : ℕ) → receiptNumbers k receipts list number ++ (processAt receipts k ∷ newReceipt receipts list number k ∷ [])
-      ≡ receiptNumbers (k + 1) receipts list number
-  unfolding receiptNumbers
-  next-numbers k = ap (λ (j : ℕ). receiptNumbers j receipts list number) (sym (add-one k))
-
-  -- The first k of m receipts stand from a place on, and the loop's entry of the list fits.
-  pub record Received (m at : ℕ) (before after : List ℕ) (k a : ℕ) : Type 0 where
-    pub within : k ≤ m
-    pub merging : Merging list k a
-    pub room : at + 4 * m ≤ length before
-    pub same-length : length after ≡ length before
-    pub contents : after ≡ putAt before at (u16s (receiptNumbers k receipts list number))
-
-  pub received-none : (m at : ℕ) (before : List ℕ) → at + 4 * m ≤ length before → Received m at before before 0 0
-  unfolding receiptNumbers u16s
-  received-none m at before room =
-      record { within = zero-le; merging = merge-begins list; room = room; same-length = refl; contents = sym (putAt-none before at) }
-
-  module _ (m at : ℕ) (before after : List ℕ) (k a : ℕ) (w : Received m at before after k a) where
-    pub received-more : k < m → (x y a′ : ℕ) (later : List ℕ) → x ≡ processAt receipts k → y ≡ newReceipt receipts list number k → Merging list (k + 1) a′
-        → later ≡ putAt after (at + 4 * k) (u16s (x ∷ y ∷ [])) → Received m at before later (k + 1) a′
-    received-more l x y a′ later is-x is-y merging put = record {
-      within = omega arith;
-      merging = merging;
-      room = w .room;
-      same-length =
-          ap length put ∙ length-putAt after (at + 4 * k) (u16s (x ∷ y ∷ [])) (omega (arith, w .room, w .same-length, length-u16s (x ∷ y ∷ []))) ∙ w .same-length;
-      contents =
-          put ∙ ap₂ (λ (b : List ℕ) (j : ℕ). putAt b (at + j) (u16s (x ∷ y ∷ []))) (w .contents) (sym (bytes-length k))
-          ∙ putAt-more before at (u16s (receiptNumbers k receipts list number)) (u16s (x ∷ y ∷ [])) (omega (arith, w .room, bytes-length k, length-u16s (x ∷ y ∷ [])))
-          ∙ ap (putAt before at) (sym (u16s-append (receiptNumbers k receipts list number) (x ∷ y ∷ [])) ∙ ap u16s one-more);
-    }
-      where
-        one-more : receiptNumbers k receipts list number ++ (x ∷ y ∷ []) ≡ receiptNumbers (k + 1) receipts list number
-        one-more =
-            ap₂ (λ (p q : ℕ). receiptNumbers k receipts list number ++ (p ∷ q ∷ [])) is-x is-y
-            ∙ next-numbers k
-
-    pub received-all : m ≤ k → after ≡ putAt before at (u16s (receiptNumbers m receipts list number))
-    received-all l = subst (λ (j : ℕ). after ≡ putAt before at (u16s (receiptNumbers j receipts list number))) (le-antisymm (w .within) l) (w .contents)
-
-  -- the number that is written, listed or not
-  pub new-number : (k : ℕ) → any (eqb k) list ≡ true → number ≡ newReceipt receipts list number k
-  unfolding newReceipt
-  new-number k e = sym (rw e)
-
-  pub old-number : (k y : ℕ) → any (eqb k) list ≡ false → y ≡ u16At receipts (4 * k + 2) → y ≡ newReceipt receipts list number k
-  unfolding newReceipt checkpointAt
-  old-number k y e read = read ∙ sym (rw e)
+-- the positions of a list in which none is bad
+pub positions-below : (t : Table) (i : ℕ) (list : List ℕ) → any (badPosition t i) list ≡ false → (m : ℕ) → m ≡ messageCount t → (a : ℕ) → a < length list → getD list a 0 < m
+positions-below t i list none m e a l = omega (arith, good-position t i (getD list a 0) (none-of (badPosition t i) list 0 none a l) .a-message)

@@ -4,10 +4,9 @@ use crate::copying::put_pair;
 use run_table::numbers::put_u16;
 use run_table::numbers::u16_at;
 use run_table::parts;
-ghost use mathlib.Core.Bool.{cond, _&&_, false};
+ghost use mathlib.Core.Bool.{cond, false};
 ghost use mathlib.Core.Path.{_≡_};
 ghost use Prim.Native.Nat.{ℕ, _+_, _*_, _<_, _≤_};
-ghost use lib.Dec.{eqb, ltb};
 ghost use lib.ListN.{getD, length};
 ghost use Rattle.futures.specs.Steps.{afterCheckpoint, badPosition, notRising};
 ghost use Rattle.run_table.specs.Checks.{tableRefusal};
@@ -83,46 +82,29 @@ fn put_raised(counts: &[u8], n: usize, process: usize, answer: &mut [u8], at: us
     }
 }
 
-// Whether entry a of the list is there and is position k.
-fn listed_at(list: &[u16], a: usize, k: usize) -> bool
-    ensures { λ r. ⌜ r ≡ (ltb a (length (now (list .entry))) && eqb (getD (now (list .entry)) a 0) k) ⌝ }
-{
-    if list.len() <= a {
-        return false;
-    }
-    (list[a] as usize) == k
-}
-
 // Writes the receipts of m messages, those at the listed positions with a new number, to a place of a
 // buffer that has room for them.
 fn put_receipts(receipts: &[u8], m: usize, list: &[u16], number: u16, answer: &mut [u8], at: usize)
     requires { ⌜ length (now receipts) ≡ 4 * m ⌝ }
-    requires { ⌜ notRising (now list) ≡ false ⌝ }
+    requires { ⌜ ((a : ℕ) → a < length (now list) → getD (now list) a 0 < m) ⌝ }
     requires { ⌜ at + 4 * m ≤ length (now answer) ⌝ }
     ensures { λ _. ⌜ now (answer .exit) ≡ putAt (now (answer .entry)) at (u16s (receiptNumbers m (now (receipts .entry)) (now (list .entry)) number)) ⌝ }
 {
+    copy_numbers(receipts, 2 * m, answer, at);
     let mut a = 0;
-    let mut k = 0;
-    while k < m {
-        let receiver = u16_at(receipts, 4 * k);
-        let place = at + 4 * k;
-        if listed_at(list, a, k) {
-            put_pair(answer, place, receiver, number);
-            a += 1;
-            k += 1;
-            continue;
-        }
-        put_pair(answer, place, receiver, u16_at(receipts, 4 * k + 2));
-        k += 1;
+    while a < list.len() {
+        let k = list[a] as usize;
+        put_u16(answer, at + 4 * k + 2, number);
+        a += 1;
     }
 }
 
-// Writes the table after a checkpoint of a known process, with a rising list, to the front of a buffer
-// that has room for it.
+// Writes the table after a checkpoint of a known process, with a list of messages that wait for it, to
+// the front of a buffer that has room for it.
 pub fn put_checkpoint(table: &[u8], process: u16, list: &[u16], answer: &mut [u8])
     requires { ⌜ tableRefusal (now table) ≡ 0 ⌝ }
     requires { ⌜ process < processCount (decode (now table)) ⌝ }
-    requires { ⌜ notRising (now list) ≡ false ⌝ }
+    requires { ⌜ any (badPosition (decode (now table)) process) (now list) ≡ false ⌝ }
     requires { ⌜ 4 + 2 * processCount (decode (now table)) + 8 * messageCount (decode (now table)) ≤ length (now answer) ⌝ }
     ensures { λ _. ⌜ now (answer .exit) ≡ putAt (now (answer .entry)) 0 (encode (afterCheckpoint (decode (now (table .entry))) process (now (list .entry)))) ⌝ }
 {

@@ -7,7 +7,7 @@ use Prim.Native.Nat.{_+_, _*_}
 use denote.Ref.{now}
 use lib.ListN.{length}
 use Rattle.futures.specs.Steps.{afterCheckpoint, checkpointChecks}
-use Rattle.futures.proofs.StepLaws.{checkpoint-known, checkpoint-rising}
+use Rattle.futures.proofs.StepLaws.{checkpoint-known, checkpoint-positions}
 use Rattle.keeper.proofs.AnswerLaws.{all-answered, own-caught, room-refused, table-refused}
 use Rattle.keeper.proofs.StepLaws.{save-holds, save-passed, save-size}
 use Rattle.keeper.specs.Calls.{saveAnswer, saveCallChecks}
@@ -71,7 +71,7 @@ put-checkpoint-requires : tie.Need-put-checkpoint-requires
 put-checkpoint-requires c κs =
     let passed = save-passed _ _ _ (quiet (c .before .before .before .before)) .0 in (
       accepted (c .before .before .before .before .before .before),
-      (checkpoint-known _ _ _ passed, (checkpoint-rising _ _ _ passed, omega (arith, c .before .if3 .left, c .before .before .before .process-count .ensures, c .before .before .message-count .ensures))),
+      (checkpoint-known _ _ _ passed, (checkpoint-positions _ _ _ passed, omega (arith, c .before .if3 .left, c .before .before .before .process-count .ensures, c .before .before .message-count .ensures))),
     )
 
 same-length : tie.Need-same-length

@@ -11,6 +11,7 @@ use Rattle.run_table.proofs.ReadLaws.{count-is, counts-size, counts-small, mess
 use Rattle.run_table.specs.Format.{countAt, decode}
 use Rattle.run_table.specs.Table.{countOf}
 use Rattle.steps.proofs.CheckpointLaws.{checkpoint-put}
+use Rattle.steps.proofs.SavingLaws.{positions-below}
 use Rattle.steps.proofs.saving.put_checkpoint.Statement.{statement}
 use Rattle.steps.proofs.saving.put_checkpoint.Tie as tie
 
@@ -86,7 +87,7 @@ put-receipts-requires : tie.Need-put-receipts-requires
 put-receipts-requires c κs = (
   ap length (c .before .receipts .ensures) ∙ receipts-size _ (c .before .before .before .before .before .before .before .before .before .before .before .before .before .before .before .before .before .before .before .before .before .before .pre .0) ∙ ap (λ (x : ℕ). 4 * x) (sym (c .before .before .before .before .before .before .before .before .before .before .before .before .before .before .before .before .before .message-count .ensures)),
   (
-    c .before .before .before .before .before .before .before .before .before .before .before .before .before .before .before .before .before .before .before .before .before .before .pre .1 .1 .0,
+    positions-below _ _ _ (c .before .before .before .before .before .before .before .before .before .before .before .before .before .before .before .before .before .before .before .before .before .before .pre .1 .1 .0) _ (c .before .before .before .before .before .before .before .before .before .before .before .before .before .before .before .before .before .message-count .ensures),
     omega (arith, processes-few _ (c .before .before .before .before .before .before .before .before .before .before .before .before .before .before .before .before .before .before .before .before .before .before .pre .0), messages-few _ (c .before .before .before .before .before .before .before .before .before .before .before .before .before .before .before .before .before .before .before .before .before .before .pre .0), c .before .before .before .before .before .before .before .before .before .before .before .before .before .before .before .before .before .before .process-count .ensures, c .before .before .before .before .before .before .before .before .before .before .before .before .before .before .before .before .before .message-count .ensures, c .before .before .before .before .before .before .before .before .before .before .before .before .before .before .before .before .before .before .before .before .before .before .pre .1 .1 .1, c .before .before .before .before .before .before .before .before .before .before .before .before .before .put-pair .kept, c .before .before .before .before .before .before .before .before .before .put-raised .kept, c .before .before .before .before .copy-numbers .kept),
   ),
 )

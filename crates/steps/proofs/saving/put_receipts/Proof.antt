@@ -1,85 +1,69 @@
--- `saving::put_receipts` meets its contract: the loop goes over the messages and the list at once.
+-- `saving::put_receipts` meets its contract: the receipts are copied, and the loop writes the listed ones anew.
 -- Assumes nothing.
+use borrow.Author.Needs.{needs}
 use native.Mathlib.Omega.{arith}
-use Prim.Native.Nat.{_-_}
-use Rattle.run_table.specs.Format.{processAt}
-use Rattle.steps.proofs.SavingLaws.{Received, received-none, received-more, received-all, merge-listed, merge-unlisted, new-number, old-number}
+use mathlib.Core.Path.{refl}
+use Prim.Native.Nat.{_-_, _<_}
+use lib.ListN.{getD, length}
+use denote.Ref.{now}
+use Rattle.steps.proofs.SavingLaws.{Received, received-none, received-more, received-all}
 use Rattle.steps.proofs.saving.put_receipts.Statement.{statement}
 use Rattle.steps.proofs.saving.put_receipts.Tie as tie
 
 abbrev Inv-loop : tie.InvT-loop
-Inv-loop receipts m list number answer₀ at a₀ k₀ answer a k = Received receipts list number m at answer₀ answer k a
+Inv-loop receipts m list number answer₀ at a₀ answer a = Received receipts number m list at answer₀ answer a
 
 abbrev μ-loop : tie.MeasureT-loop
-μ-loop receipts m list number answer₀ at a₀ k₀ answer a k = m - k
+μ-loop receipts m list number answer₀ at a₀ answer a = length list - a
+
+-- the listed position is one of a message
+below : (c : tie.After-shared-slice-known3 Inv-loop μ-loop) → getD (now (c .before .before .before .before .before .before .before .before .before .before .args .list)) (c .before .before .loop .a) 0 < c .before .before .before .before .before .before .before .before .before .before .args .m
+below c = c .before .before .before .before .before .before .before .before .before .before .pre .1 .0 (c .before .before .loop .a) (c .before .loop-test .taken)
+
+mul-copy-numbers : tie.Need-mul-copy-numbers Inv-loop μ-loop
+mul-copy-numbers c = omega arith
+
+copy-numbers-requires : tie.Need-copy-numbers-requires Inv-loop μ-loop
+copy-numbers-requires c κs = omega arith
 
 loop-holds : tie.Need-loop-holds Inv-loop μ-loop
-loop-holds c = received-none _ _ _ _ _ _ (omega arith)
+loop-holds c = received-none _ _ _ _ _ _ (omega (arith, c .before .before .copy-numbers .kept))
 
-mul-u16-at : tie.Need-mul-u16-at Inv-loop μ-loop
-mul-u16-at c = omega arith
+mul-k : tie.Need-mul-k Inv-loop μ-loop
+mul-k c = search needs
 
-u16-at-requires : tie.Need-u16-at-requires Inv-loop μ-loop
-u16-at-requires c κs = omega arith
+shared-slice-read-k : tie.Need-shared-slice-read-k Inv-loop μ-loop
+shared-slice-read-k c = search needs
 
-mul-place : tie.Need-mul-place Inv-loop μ-loop
-mul-place c = omega arith
+cast-k : tie.Need-cast-k Inv-loop μ-loop
+cast-k c = omega (arith, c .shared-slice-known3 .given (c .before .before .loop .a))
 
-add-place : tie.Need-add-place Inv-loop μ-loop
-add-place c = omega arith
+mul-put-u16 : tie.Need-mul-put-u16 Inv-loop μ-loop
+mul-put-u16 c = omega (arith, below (c .before))
 
-listed-at-requires : tie.Need-listed-at-requires Inv-loop μ-loop
-listed-at-requires c κs = omega arith
+add-put-u16 : tie.Need-add-put-u16 Inv-loop μ-loop
+add-put-u16 c = omega (arith, below (c .before), c .before .before .before .loop .inv .room, c .before .before .before .loop .inv .same-length)
 
-put-pair-requires : tie.Need-put-pair-requires Inv-loop μ-loop
-put-pair-requires c κs = omega arith
+add-put-u16-2 : tie.Need-add-put-u16-2 Inv-loop μ-loop
+add-put-u16-2 c = omega (arith, below (c .before), c .before .before .before .loop .inv .room, c .before .before .before .loop .inv .same-length)
+
+put-u16-requires : tie.Need-put-u16-requires Inv-loop μ-loop
+put-u16-requires c κs = omega (arith, below (c .before), c .before .before .before .loop .inv .room, c .before .before .before .loop .inv .same-length)
 
 add-a : tie.Need-add-a Inv-loop μ-loop
 add-a c = omega arith
-
-add-k : tie.Need-add-k Inv-loop μ-loop
-add-k c = omega arith
 
 loop-less : tie.Need-loop-less Inv-loop μ-loop
 loop-less c = omega arith
 
 loop-again : tie.Need-loop-again Inv-loop μ-loop
-unfolding processAt
-loop-again c =
-    let at-loop = c .before .before .before .before .before .before .before .before in
-    let merged = merge-listed _ (c .before .before .before .before .before .before .before .before .before .before .before .before .pre .1 .0) _ _ (at-loop .loop .inv .merging) _ (c .before .before .before .before .before .listed-at .ensures) (c .before .before .before .before .if1 .taken) in
-    received-more _ _ _ _ _ _ _ _ _ (at-loop .loop .inv) (c .before .before .before .before .before .before .before .loop-test .taken) _ _ _ _ (c .before .before .before .before .before .before .u16-at .ensures) (new-number _ _ _ _ (merged .0)) (merged .1) (c .before .before .put-pair .ensures)
-
-mul-u16-at-2 : tie.Need-mul-u16-at-2 Inv-loop μ-loop
-mul-u16-at-2 c = omega arith
-
-add-u16-at : tie.Need-add-u16-at Inv-loop μ-loop
-add-u16-at c = omega arith
-
-u16-at-requires-2 : tie.Need-u16-at-requires-2 Inv-loop μ-loop
-u16-at-requires-2 c κs = omega arith
-
-put-pair-requires-2 : tie.Need-put-pair-requires-2 Inv-loop μ-loop
-put-pair-requires-2 c κs = omega arith
-
-add-k-2 : tie.Need-add-k-2 Inv-loop μ-loop
-add-k-2 c = omega arith
-
-loop-less-2 : tie.Need-loop-less-2 Inv-loop μ-loop
-loop-less-2 c = omega arith
-
-loop-again-2 : tie.Need-loop-again-2 Inv-loop μ-loop
-unfolding processAt
-loop-again-2 c =
-    let at-loop = c .before .before .before .before .before .before .before .before .before in
-    let merged = merge-unlisted _ (c .before .before .before .before .before .before .before .before .before .before .before .before .before .pre .1 .0) _ _ (at-loop .loop .inv .merging) _ (c .before .before .before .before .before .before .listed-at .ensures) (c .before .before .before .before .before .if1 .left) in
-    received-more _ _ _ _ _ _ _ _ _ (at-loop .loop .inv) (c .before .before .before .before .before .before .before .before .loop-test .taken) _ _ _ _ (c .before .before .before .before .before .before .before .u16-at .ensures) (old-number _ _ _ _ _ (merged .0) (c .before .before .before .u16-at2 .ensures)) (merged .1) (c .before .before .put-pair2 .ensures)
+loop-again c = received-more _ _ _ _ _ _ _ _ (c .before .before .before .before .before .before .loop .inv) (c .before .before .before .before .before .loop-test .taken) _ refl (below (c .before .before .before .before)) _ (omega (arith, c .before .before .put-u16 .kept)) (c .before .before .put-u16 .ensures)
 
 same-length : tie.Need-same-length Inv-loop μ-loop
-same-length c = c .before .loop .inv .same-length
+same-length c = omega (arith, c .before .loop .inv .same-length, c .before .before .before .before .copy-numbers .kept)
 
 returns : tie.Need-returns Inv-loop μ-loop
-returns c = received-all _ _ _ _ _ _ _ _ _ (c .before .loop .inv) (c .loop-test .left)
+returns c = received-all _ _ _ _ _ _ _ _ (c .before .loop .inv) (c .loop-test .left) _ (c .before .before .before .before .before .before .before .before .before .pre .1 .1) (c .before .before .before .before .copy-numbers .ensures)
 
 pub put-receipts-spec : {M : Type 1} → statement M
 put-receipts-spec =
@@ -87,23 +71,18 @@ put-receipts-spec =
     (tie.spec
     Inv-loop
     μ-loop
+    mul-copy-numbers
+    copy-numbers-requires
     loop-holds
-    mul-u16-at
-    u16-at-requires
-    mul-place
-    add-place
-    listed-at-requires
-    put-pair-requires
+    mul-k
+    shared-slice-read-k
+    cast-k
+    mul-put-u16
+    add-put-u16
+    add-put-u16-2
+    put-u16-requires
     add-a
-    add-k
     loop-less
     loop-again
-    mul-u16-at-2
-    add-u16-at
-    u16-at-requires-2
-    put-pair-requires-2
-    add-k-2
-    loop-less-2
-    loop-again-2
     same-length
     returns)
