@@ -2,7 +2,7 @@
 --     Passed                               the loop's invariant: no index below k passes
 --     passed-none, passed-more, passed-all how it begins, goes on and ends
 --     outside-zero, outside-above, inside  a number and its limit
---     count-read .. below                  one index's test, from the numbers that the code read there
+--     count-read, process-known            one index's test, and the number that the code read there
 -- Assumes nothing.
 use mathlib.Core.Bool.{Bool, true, false, or-true}
 use mathlib.Core.List.{List}
@@ -11,12 +11,12 @@ use Prim.Native.Nat.{ℕ, _+_, _*_, _<_, _≤_, zero-le}
 use native.Mathlib.Nat.{le-antisymm}
 use native.Mathlib.Omega.{arith}
 use lib.Dec.{eqb}
-use borrow.Author.Tests.{lt-ltb, le-ltb, le-leb, lt-leb, leb-false, eq-eqb, ne-eqb}
-use Rattle.run_table.proofs.NumberLaws.{anyBelow-more, none-below}
+use borrow.Author.Tests.{lt-ltb, le-ltb, leb-false, ne-eqb}
+use Rattle.run_table.proofs.NumberLaws.{anyBelow-more}
 use Rattle.run_table.specs.Checks.{badCount, outside}
-use Rattle.run_table.specs.Format.{checkpointAt, countAt, processAt}
+use Rattle.run_table.specs.Format.{countAt, processAt}
 use Rattle.run_table.specs.Numbers.{u16At}
-use Rattle.run_table.specs.Parts.{anyBelow, badCountAt, notBelowAt, toItselfAt, unknownAt}
+use Rattle.run_table.specs.Parts.{anyBelow, badCountAt, unknownAt}
 
 -- The loop stands at k, and no index below k passes the test.
 pub record Passed (n : ℕ) (test : ℕ → Bool) (k : ℕ) : Type 0 where
@@ -54,35 +54,7 @@ pub count-read : (part : List ℕ) (p r : ℕ) → r ≡ u16At part (2 * p) → 
 unfolding badCountAt badCount countAt
 count-read part p r read = ap (outside 4096) (sym read)
 
-module _ (n : ℕ) (part : List ℕ) (k r : ℕ) (read : r ≡ u16At part (4 * k)) where
-  pub unknown : n ≤ r → unknownAt n part k ≡ true
-  unfolding unknownAt processAt
-  unknown l = rw (← read) (le-leb n r l)
-
-  pub known : r < n → unknownAt n part k ≡ false
-  unfolding unknownAt processAt
-  known l = rw (← read) (lt-leb n r l)
-
--- the entry's process is below n, as the check before has shown
-pub process-known : (n m : ℕ) (part : List ℕ) → anyBelow m (unknownAt n part) ≡ false → (k : ℕ) → k < m → u16At part (4 * k) < n
+-- an entry's process is below n, where it is known
+pub process-known : (n : ℕ) (part : List ℕ) (k : ℕ) → unknownAt n part k ≡ false → u16At part (4 * k) < n
 unfolding unknownAt processAt
-process-known n m part none k l = leb-false n (u16At part (4 * k)) (none-below (unknownAt n part) m none k l)
-
-module _ (sends receipts : List ℕ) (k a b : ℕ) (read : a ≡ u16At sends (4 * k)) (read′ : b ≡ u16At receipts (4 * k)) where
-  pub one-process : a ≡ b → toItselfAt sends receipts k ≡ true
-  unfolding toItselfAt processAt
-  one-process e = rw (← read, ← read′) (eq-eqb a b e)
-
-  pub two-processes : (a ≡ b → ⊥) → toItselfAt sends receipts k ≡ false
-  unfolding toItselfAt processAt
-  two-processes e = rw (← read, ← read′) (ne-eqb a b e)
-
-module _ (counts part : List ℕ) (k p c s : ℕ) (read : p ≡ u16At part (4 * k)) (read′ : s ≡ u16At part (4 * k + 2))
-    (read″ : c ≡ u16At counts (2 * p)) where
-  pub not-below : c ≤ s → notBelowAt counts part k ≡ true
-  unfolding notBelowAt processAt checkpointAt countAt
-  not-below l = rw (← read, ← read′, ← read″) (le-leb c s l)
-
-  pub below : s < c → notBelowAt counts part k ≡ false
-  unfolding notBelowAt processAt checkpointAt countAt
-  below l = rw (← read, ← read′, ← read″) (lt-leb c s l)
+process-known n part k e = leb-false n (u16At part (4 * k)) e

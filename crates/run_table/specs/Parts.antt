@@ -27,16 +27,24 @@ toItselfAt sends receipts k = eqb (processAt sends k) (processAt receipts k)
 unfoldable pub notBelowAt : List ℕ → List ℕ → ℕ → Bool
 notBelowAt counts part k = leb (countAt counts (processAt part k)) (checkpointAt part k)
 
--- Checks 5 to 9 on the parts of a table of n processes and m messages.
-abbrev pub partsChecks : ℕ → ℕ → List ℕ → List ℕ → List ℕ → List Check
-partsChecks n m counts sends receipts =
-    record { caught = anyBelow n (badCountAt counts); number = 5 }
-    ∷ record { caught = anyBelow m (unknownAt n sends); number = 6 }
+-- One of the checks 6 to 9 catches message k.
+unfoldable pub faultyAt : ℕ → List ℕ → List ℕ → List ℕ → ℕ → Bool
+faultyAt n counts sends receipts k =
+    unknownAt n sends k || (unknownAt n receipts k || (toItselfAt sends receipts k || (notBelowAt counts sends k || notBelowAt counts receipts k)))
+
+-- Checks 6 to 9 on the parts of a table of n processes and m messages.
+abbrev pub messageChecks : ℕ → ℕ → List ℕ → List ℕ → List ℕ → List Check
+messageChecks n m counts sends receipts =
+    record { caught = anyBelow m (unknownAt n sends); number = 6 }
     ∷ record { caught = anyBelow m (unknownAt n receipts); number = 6 }
     ∷ record { caught = anyBelow m (toItselfAt sends receipts); number = 7 }
     ∷ record { caught = anyBelow m (notBelowAt counts sends); number = 8 }
     ∷ record { caught = anyBelow m (notBelowAt counts receipts); number = 9 }
     ∷ []
+
+-- Checks 5 to 9 on these.
+abbrev pub partsChecks : ℕ → ℕ → List ℕ → List ℕ → List ℕ → List Check
+partsChecks n m counts sends receipts = record { caught = anyBelow n (badCountAt counts); number = 5 } ∷ messageChecks n m counts sends receipts
 
 abbrev pub partsRefusal : ℕ → ℕ → List ℕ → List ℕ → List ℕ → ℕ
 partsRefusal n m counts sends receipts = firstCaught (partsChecks n m counts sends receipts)

@@ -2,9 +2,9 @@
 -- Assumes nothing.
 use native.Mathlib.Omega.{arith}
 use Prim.Native.Nat.{_-_}
-use mathlib.Core.Path.{sym}
+use mathlib.Core.Path.{sym, _∙_}
 use Rattle.run_table.proofs.NumberLaws.{anyBelow-found}
-use Rattle.run_table.proofs.ScanLaws.{Passed, passed-none, passed-more, passed-all, one-process, two-processes}
+use Rattle.run_table.proofs.ScanLaws.{Passed, passed-none, passed-more, passed-all}
 use Rattle.run_table.specs.Parts.{toItselfAt}
 use Rattle.run_table.proofs.checks.to_itself.Statement.{statement}
 use Rattle.run_table.proofs.checks.to_itself.Tie as tie
@@ -18,23 +18,13 @@ abbrev μ-loop : tie.MeasureT-loop
 loop-holds : tie.Need-loop-holds Inv-loop μ-loop
 loop-holds c = passed-none _ _
 
-mul-u16-at : tie.Need-mul-u16-at Inv-loop μ-loop
-mul-u16-at c = omega arith
-
-u16-at-requires : tie.Need-u16-at-requires Inv-loop μ-loop
-u16-at-requires c κs = omega arith
-
-mul-u16-at-2 : tie.Need-mul-u16-at-2 Inv-loop μ-loop
-mul-u16-at-2 c = omega arith
-
-u16-at-requires-2 : tie.Need-u16-at-requires-2 Inv-loop μ-loop
-u16-at-requires-2 c κs = omega arith
+to-itself-at-requires : tie.Need-to-itself-at-requires Inv-loop μ-loop
+to-itself-at-requires c κs = omega arith
 
 returns : tie.Need-returns Inv-loop μ-loop
 returns c =
-    let turn = c .before .before .before in
-    sym (anyBelow-found _ _ (turn .before .loop .k) (turn .loop-test .taken)
-    (one-process _ _ _ _ _ (c .before .before .u16-at .ensures) (c .before .u16-at2 .ensures) (c .if1 .taken)))
+    let turn = c .before .before in
+    sym (anyBelow-found _ _ (turn .before .loop .k) (turn .loop-test .taken) (sym (c .before .to-itself-at .ensures) ∙ c .if1 .taken))
 
 add-k : tie.Need-add-k Inv-loop μ-loop
 add-k c = omega arith
@@ -44,9 +34,8 @@ loop-less c = omega arith
 
 loop-again : tie.Need-loop-again Inv-loop μ-loop
 loop-again c =
-    let turn = c .before .before .before in
-    passed-more _ _ _ (turn .before .loop .inv) (turn .loop-test .taken)
-    (two-processes _ _ _ _ _ (c .before .before .u16-at .ensures) (c .before .u16-at2 .ensures) (c .if1 .left))
+    let turn = c .before .before in
+    passed-more _ _ _ (turn .before .loop .inv) (turn .loop-test .taken) (sym (c .before .to-itself-at .ensures) ∙ c .if1 .left)
 
 returns-2 : tie.Need-returns-2 Inv-loop μ-loop
 returns-2 c = passed-all _ _ _ (c .before .loop .inv) (c .loop-test .left)
@@ -58,10 +47,7 @@ to-itself-spec =
     Inv-loop
     μ-loop
     loop-holds
-    mul-u16-at
-    u16-at-requires
-    mul-u16-at-2
-    u16-at-requires-2
+    to-itself-at-requires
     returns
     add-k
     loop-less

@@ -1,0 +1,55 @@
+-- `checks::faulty_message` meets its contract: the loop leaves at the first message that one of the checks 6 to 9 catches.
+-- Assumes nothing.
+use native.Mathlib.Omega.{arith}
+use Prim.Native.Nat.{_-_}
+use mathlib.Core.Path.{sym, _∙_}
+use Rattle.run_table.proofs.NumberLaws.{anyBelow-found}
+use Rattle.run_table.proofs.ScanLaws.{Passed, passed-none, passed-more, passed-all}
+use Rattle.run_table.specs.Parts.{faultyAt}
+use Rattle.run_table.proofs.checks.faulty_message.Statement.{statement}
+use Rattle.run_table.proofs.checks.faulty_message.Tie as tie
+
+abbrev Inv-loop : tie.InvT-loop
+Inv-loop counts sends receipts n m k₀ k = Passed m (faultyAt n counts sends receipts) k
+
+abbrev μ-loop : tie.MeasureT-loop
+μ-loop counts sends receipts n m k₀ k = m - k
+
+loop-holds : tie.Need-loop-holds Inv-loop μ-loop
+loop-holds c = passed-none _ _
+
+faulty-at-requires : tie.Need-faulty-at-requires Inv-loop μ-loop
+faulty-at-requires c κs = omega arith
+
+returns : tie.Need-returns Inv-loop μ-loop
+returns c =
+    let turn = c .before .before in
+    sym (anyBelow-found _ _ (turn .before .loop .k) (turn .loop-test .taken) (sym (c .before .faulty-at .ensures) ∙ c .if1 .taken))
+
+add-k : tie.Need-add-k Inv-loop μ-loop
+add-k c = omega arith
+
+loop-less : tie.Need-loop-less Inv-loop μ-loop
+loop-less c = omega arith
+
+loop-again : tie.Need-loop-again Inv-loop μ-loop
+loop-again c =
+    let turn = c .before .before in
+    passed-more _ _ _ (turn .before .loop .inv) (turn .loop-test .taken) (sym (c .before .faulty-at .ensures) ∙ c .if1 .left)
+
+returns-2 : tie.Need-returns-2 Inv-loop μ-loop
+returns-2 c = passed-all _ _ _ (c .before .loop .inv) (c .loop-test .left)
+
+pub faulty-message-spec : {M : Type 1} → statement M
+faulty-message-spec =
+    tie.close
+    (tie.spec
+    Inv-loop
+    μ-loop
+    loop-holds
+    faulty-at-requires
+    returns
+    add-k
+    loop-less
+    loop-again
+    returns-2)
