@@ -2,24 +2,26 @@
 --     cell-below                              an entry's place is within n × n numbers
 --     copied-none, copied-more, copied-all    a line that a loop copies to a place
 --     Searching, search-..                    the loop for the least state from a start on
+--     least-.., lowest-..                     the lowest line
 --     Standing, ..                            the loop over the kept states of a process
 -- Assumes nothing.
 use mathlib.Core.Bool.{Bool, true, false, _&&_, and-false}
 use mathlib.Core.List.{List, [], _∷_, _++_}
+use mathlib.Core.Logic.{⊎-elim}
 use mathlib.Core.Path.{_≡_, refl, sym, ap, ap₂, _∙_, subst}
-use Prim.Native.Nat.{ℕ, _+_, _*_, _<_, _≤_, zero-le}
-use native.Mathlib.Nat.{le-antisymm, le-refl, mul-suc, mul-le-mul-left}
+use Prim.Native.Nat.{ℕ, zero, suc, _+_, _*_, _<_, _≤_, zero-le}
+use native.Mathlib.Nat.{eq-or-lt-of-le, le-antisymm, le-of-suc-le-suc, le-refl, mul-suc, mul-le-mul-left}
 use native.Mathlib.Numerals.{add-one}
-use native.Mathlib.Decide.{ℕ-discrete}
+use native.Mathlib.Decide.{decLt, ℕ-discrete}
 use native.Mathlib.Omega.{arith}
-use borrow.Author.Tests.{eq-eqb, ne-eqb, lt-ltb, le-ltb}
+use borrow.Author.Tests.{eq-eqb, eqb-false, eqb-true, ne-eqb, lt-ltb, le-ltb}
 use lib.Dec.{eqb, ltb}
-use lib.ListN.{length, set, take, drop, length-append, length-map, length-set}
+use lib.ListN.{length, getD, set, take, drop, length-append, length-map, length-set, List·getD-append}
 use lib.Seq.{set-split}
 use Rattle.futures.specs.Sheet.{rows, select}
 use Rattle.retention.proofs.ListLaws.{below-none, rows-grow, rows-more, rows-room, select-gap, select-more, select-skip, select-small}
-use Rattle.retention.specs.Scratch.{First, checkpointsAt, crossesLine, isKept, shows, statesOf}
-use Rattle.run_table.proofs.NumberLaws.{anyBelow-found, anyBelow-more, length-putAt, length-tabulate, putAt-more, putAt-none, tabulate-more}
+use Rattle.retention.specs.Scratch.{First, checkpointsAt, crossesLine, entryAt, isKept, leastBelow, lowestAt, lowestLine, shows, statesOf}
+use Rattle.run_table.proofs.NumberLaws.{anyBelow-found, anyBelow-more, found-below, getD-tabulate, length-putAt, length-tabulate, none-below, putAt-more, putAt-none, tabulate-more}
 use Rattle.run_table.proofs.WriteLaws.{front-first, front-next}
 use Rattle.run_table.specs.Format.{checkpointAt, countAt, messageAt, processAt}
 use Rattle.run_table.specs.Numbers.{putAt, tabulate, u16At}
@@ -113,6 +115,40 @@ module _ (e : ℕ → ℕ) (n from limit : ℕ) where
       passes = s .found;
     }
 
+-- ---- the least of n numbers
+module _ (f : ℕ → ℕ) where
+  least-at-most : (n k : ℕ) → k < n → leastBelow n f ≤ f k
+  unfolding leastBelow
+  least-at-most zero k l = absurd (omega arith)
+  least-at-most (suc n) k l =
+      ⊎-elim (λ same. omega (arith, ap f same)) (λ b. omega (arith, least-at-most n k b)) (eq-or-lt-of-le (le-of-suc-le-suc l))
+
+  least-from : (n r : ℕ) → r ≤ 65535 → ((k : ℕ) → k < n → r ≤ f k) → (r ≤ leastBelow n f) × (leastBelow n f ≤ 65535)
+  unfolding leastBelow
+  least-from zero r l each = (l, le-refl 65535)
+  least-from (suc n) r l each =
+      let below = least-from n r l (λ k b. each k (omega arith)) in
+      (omega (arith, each n (omega arith), below .0), omega (arith, below .1))
+
+  least-first : (n r : ℕ) → First (λ c. anyBelow n (λ k. eqb (f k) c)) 0 65535 r → r ≡ leastBelow n f
+  least-first n r h = le-antisymm (bounds .0) (found (decLt r 65535))
+    where
+      each : (k : ℕ) → k < n → r ≤ f k
+      each k l = by-test (decLt (f k) r)
+        where
+          by-test : Dec (f k < r) → r ≤ f k
+          by-test (yes b) = absurd (eqb-false (f k) (f k) (none-below _ n (h .none-before (f k) zero-le b) k l) refl)
+          by-test (no b) = omega arith
+
+      bounds : (r ≤ leastBelow n f) × (leastBelow n f ≤ 65535)
+      bounds = least-from n r (h .within) each
+
+      found : Dec (r < 65535) → leastBelow n f ≤ r
+      found (yes b) =
+          let there = found-below (λ k. eqb (f k) r) n (h .passes b) in
+          omega (arith, least-at-most n (there .0) (there .1), eqb-true (f (there .0)) r (there .2))
+      found (no b) = omega (arith, bounds .1)
+
 -- ---- the lines that a message crosses, from what n lines have at its sender and at its receiver
 module _ (of-sender of-receiver : ℕ → ℕ) (sent received : ℕ) where
   abbrev crossesAt : ℕ → Bool
@@ -144,11 +180,40 @@ module _ (of-sender of-receiver : ℕ → ℕ) (sent received : ℕ) where
     pub uncrossed-all : n ≤ k → false ≡ anyBelow n crossesAt
     uncrossed-all l = subst (λ (j : ℕ). false ≡ anyBelow j crossesAt) (le-antisymm (h .within) l) (sym (h .none))
 
+-- ---- the lowest line
+pub lowest-first : (s : List ℕ) (n i r : ℕ) → First (shows s n i) 0 65535 r → r ≡ lowestAt s n i
+unfolding shows lowestAt
+lowest-first s n i r h = least-first (λ k. entryAt s n k i) n r h
+
+lowest-at : (s : List ℕ) (n i : ℕ) → n ≤ 32 → i < n → getD (lowestLine s n) i 0 ≡ lowestAt s n i
+unfolding lowestLine putAt
+lowest-at s n i few l =
+    let size : length (tabulate n (lowestAt s n)) ≡ n = length-tabulate n (lowestAt s n) in
+    List·getD-append (tabulate n (lowestAt s n)) _ 0 i (omega arith) ∙ getD-tabulate n (lowestAt s n) i 0 l
+
+-- a message that is received at or before the lowest line crosses no line
+uncrossed-old : (s : List ℕ) (n sender sent receiver received : ℕ) → received ≤ lowestAt s n receiver
+    → crossesLine s n sender sent receiver received ≡ false
+unfolding crossesLine lowestAt
+uncrossed-old s n sender sent receiver received b =
+    below-none _ n
+    (λ k l.
+    let before : received ≤ entryAt s n k receiver = omega (arith, least-at-most (λ j. entryAt s n j receiver) n k l) in
+    rw (le-ltb (entryAt s n k receiver) received before) (and-false (ltb sent (entryAt s n k sender))))
+
 -- ---- a message that is kept, from the four numbers that the code read
 module _ (s : List ℕ) (n : ℕ) (sends receipts : List ℕ) (k received : ℕ) (read : received ≡ u16At receipts (4 * k + 2)) where
   pub undelivered-kept : received ≡ 0 → true ≡ isKept s n (messageAt sends receipts k)
   unfolding isKept messageAt checkpointAt
   undelivered-kept e = rw (← read, e)
+
+  pub old-kept : n ≤ 32 → (line : List ℕ) → line ≡ lowestLine s n → processAt receipts k < n
+      → (receiver : ℕ) → receiver ≡ u16At receipts (4 * k) → (received ≡ 0 → ⊥) → received ≤ getD line receiver 0
+      → false ≡ isKept s n (messageAt sends receipts k)
+  unfolding isKept messageAt checkpointAt processAt
+  old-kept few line low known receiver e some b =
+      let there : getD line receiver 0 ≡ lowestAt s n receiver = rw low (lowest-at s n receiver few (omega arith)) in
+      sym (rw (← read, ← e, ne-eqb received 0 some) (uncrossed-old s n _ _ receiver received (omega arith)))
 
   pub delivered-kept : (sender sent receiver : ℕ) (r : Bool) → sender ≡ u16At sends (4 * k) → sent ≡ u16At sends (4 * k + 2) → receiver ≡ u16At receipts (4 * k)
       → (received ≡ 0 → ⊥) → r ≡ crossesLine s n sender sent receiver received → r ≡ isKept s n (messageAt sends receipts k)

@@ -188,11 +188,15 @@ module _ (bytes : List ℕ) (none : tableRefusal bytes ≡ 0) (s : List ℕ)
   module _ (n m : ℕ) (sends receipts : List ℕ) (read-n : n ≡ N t) (read-m : m ≡ messageCount t) (read-s : sends ≡ sendsPart bytes)
       (read-r : receipts ≡ receiptsPart bytes) where
     pub messages-needs : (n * n ≤ length s)
-        × ((length sends ≡ 4 * m) × ((length receipts ≡ 4 * m) × (((k : ℕ) → k < m → processAt sends k < n) × ((k : ℕ) → k < m → processAt receipts k < n))))
+        × ((n ≤ 32)
+        × ((length sends ≡ 4 * m) × ((length receipts ≡ 4 * m) × (((k : ℕ) → k < m → processAt sends k < n) × ((k : ℕ) → k < m → processAt receipts k < n)))))
     messages-needs =
         rw (read-n, read-m, read-s, read-r) (
           scratch-room,
-          (sends-size bytes none, (receipts-size bytes none, ((λ k l. senders-known bytes none k l), (λ k l. receivers-known bytes none k l)))),
+          (
+            processes-few bytes none,
+            (sends-size bytes none, (receipts-size bytes none, ((λ k l. senders-known bytes none k l), (λ k l. receivers-known bytes none k l)))),
+          ),
         )
 
     pub positions-found : positionsOf s n sends receipts m ≡ keptMessages t
@@ -232,17 +236,21 @@ module _ (bytes : List ℕ) (none : tableRefusal bytes ≡ 0) (s : List ℕ)
       positions-length = positions-size n m sends receipts read-n read-m read-s read-r q logged
 
       pub positions-needs : (n * n ≤ length s)
+          × ((n ≤ 32)
           × ((m ≤ 4096)
           × ((length sends ≡ 4 * m)
           × ((length receipts ≡ 4 * m)
           × (((k : ℕ) → k < m → processAt sends k < n)
-          × (((k : ℕ) → k < m → processAt receipts k < n) × (at₂ + 2 * length (positionsOf s n sends receipts m) ≤ length a₂))))))
+          × (((k : ℕ) → k < m → processAt receipts k < n) × (at₂ + 2 * length (positionsOf s n sends receipts m) ≤ length a₂)))))))
       unfolding columns positions
       positions-needs =
           let needed = messages-needs n m sends receipts read-n read-m read-s read-r in
           let last = room-positions before k q columns positions columns-length positions-length fits a at sizes a₂ at₂ put in (
             needed .0,
-            (omega (arith, messages-few bytes none), (needed .1 .0, (needed .1 .1 .0, (needed .1 .1 .1 .0, (needed .1 .1 .1 .1, last))))),
+            (
+              needed .1 .0,
+              (omega (arith, messages-few bytes none), (needed .1 .1 .0, (needed .1 .1 .1 .0, (needed .1 .1 .1 .1 .0, (needed .1 .1 .1 .1 .1, last))))),
+            ),
           )
 
       pub sheet-written : (a₃ : List ℕ) (at₃ : ℕ) → Put a₂ a₃ at₂ (positionsOf s n sends receipts m) at₃ → a₃ ≡ putAt before 0 (sheet t)

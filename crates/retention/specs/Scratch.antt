@@ -4,11 +4,12 @@
 use mathlib.Core.Bool.{Bool, cond, true, false, _&&_, _||_}
 use mathlib.Core.List.{List, map}
 use mathlib.Core.Path.{_≡_}
-use Prim.Native.Nat.{ℕ, _+_, _*_, _≤_, _<_}
+use Prim.Native.Nat.{ℕ, zero, suc, min, _+_, _*_, _≤_, _<_}
 use lib.Dec.{eqb, ltb}
-use lib.ListN.{getD}
+use lib.ListN.{getD, replicate}
 use Rattle.futures.specs.Sheet.{Kept, rows, select}
 use Rattle.run_table.specs.Format.{countAt, messageAt}
+use Rattle.run_table.specs.Numbers.{putAt, tabulate}
 use Rattle.run_table.specs.Parts.{anyBelow}
 use Rattle.run_table.specs.Table.{Message}
 
@@ -45,6 +46,19 @@ columnAt states i kept = map (λ c. cond states c i) kept
 
 unfoldable pub columnOf : Bool → List ℕ → ℕ → List ℕ → List ℕ
 columnOf states scratch n counts = rows (λ i. columnAt states i (statesOf scratch n i (countAt counts i))) n
+
+-- The least of n numbers of 16 bits; 65,535 where n is 0.
+unfoldable pub leastBelow : ℕ → (ℕ → ℕ) → ℕ
+leastBelow zero f = 65535
+leastBelow (suc n) f = min (f n) (leastBelow n f)
+
+-- The least number that any of n lines has at process i.
+unfoldable pub lowestAt : List ℕ → ℕ → ℕ → ℕ
+lowestAt scratch n i = leastBelow n (λ k. entryAt scratch n k i)
+
+-- The lowest line: these numbers of n processes, as an array of 32; what stands at n and beyond is 0.
+unfoldable pub lowestLine : List ℕ → ℕ → List ℕ
+lowestLine scratch n = putAt (replicate 32 0) 0 (tabulate n (lowestAt scratch n))
 
 -- A message from a sender, sent at y, to a receiver, received at r, crosses some line: y < L of the sender, and L of the receiver < r.
 unfoldable pub crossesLine : List ℕ → ℕ → ℕ → ℕ → ℕ → ℕ → Bool

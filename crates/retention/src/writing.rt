@@ -3,6 +3,7 @@
 // above them have a buffer and a place.
 use crate::checkpoints::next_kept;
 use crate::messages::is_kept;
+use crate::messages::lowest_line;
 use crate::writer::place;
 use crate::writer::put;
 use crate::writer::writer_at;
@@ -130,6 +131,7 @@ pub fn put_positions(
     m: usize,
 ) -> usize
     requires { ⌜ n * n ≤ length (now scratch) ⌝ }
+    requires { ⌜ n ≤ 32 ⌝ }
     requires { ⌜ m ≤ 4096 ⌝ }
     requires { ⌜ length (now sends) ≡ 4 * m ⌝ }
     requires { ⌜ length (now receipts) ≡ 4 * m ⌝ }
@@ -138,11 +140,12 @@ pub fn put_positions(
     requires { ⌜ at + 2 * length (positionsOf (now scratch) n (now sends) (now receipts) m) ≤ length (now buffer) ⌝ }
     ensures { λ r. ⌜ Put (now (buffer .entry)) (now (buffer .exit)) at (positionsOf (now (scratch .entry)) n (now (sends .entry)) (now (receipts .entry)) m) r ⌝ }
 {
+    let lowest = lowest_line(scratch, n);
     let mut next = at;
     let mut k = 0;
     while k < m {
         let position = k;
-        let keep = is_kept(scratch, n, sends, receipts, k);
+        let keep = is_kept(scratch, n, &lowest, sends, receipts, k);
         k += 1;
         if !keep {
             continue;

@@ -10,19 +10,22 @@ use Rattle.retention.proofs.messages.count_kept.Statement.{statement}
 use Rattle.retention.proofs.messages.count_kept.Tie as tie
 
 abbrev Inv-loop : tie.InvT-loop
-Inv-loop scratch n sends receipts m kept₀ k₀ kept k = Tallied (λ j. isKept scratch n (messageAt sends receipts j)) m kept k
+Inv-loop scratch n sends receipts m lowest kept₀ k₀ kept k = Tallied (λ j. isKept scratch n (messageAt sends receipts j)) m kept k
 
 abbrev μ-loop : tie.MeasureT-loop
-μ-loop scratch n sends receipts m kept₀ k₀ kept k = m - k
+μ-loop scratch n sends receipts m lowest kept₀ k₀ kept k = m - k
+
+lowest-line-requires : tie.Need-lowest-line-requires Inv-loop μ-loop
+lowest-line-requires c κs = omega arith
 
 loop-holds : tie.Need-loop-holds Inv-loop μ-loop
 loop-holds c = tallied-none _ _
 
 is-kept-requires : tie.Need-is-kept-requires Inv-loop μ-loop
 is-kept-requires c κs =
-    let start = c .before .before .before .before .before in
-    let l = c .loop-test .taken in
-    omega (arith, start .pre .1 .1 .1 .0 _ l, start .pre .1 .1 .1 .1 _ l)
+    let start = c .before .before .before .before .before .before .before in
+    let l = c .before .loop-test .taken in
+    (c .before .before .before .lowest-line .ensures, omega (arith, start .pre .1 .1 .1 .1 .0 _ l, start .pre .1 .1 .1 .1 .1 _ l))
 
 add-k : tie.Need-add-k Inv-loop μ-loop
 add-k c = omega arith
@@ -31,16 +34,16 @@ loop-less : tie.Need-loop-less Inv-loop μ-loop
 loop-less c = omega arith
 
 loop-again : tie.Need-loop-again Inv-loop μ-loop
-loop-again c = tallied-skip _ _ _ _ (c .before .before .before .loop .inv) (c .before .before .loop-test .taken) _ (c .before .is-kept .ensures) (not-true _ (c .if1 .taken))
+loop-again c = tallied-skip _ _ _ _ (c .before .before .before .before .loop .inv) (c .before .before .before .loop-test .taken) _ (c .before .is-kept .ensures) (not-true _ (c .if1 .taken))
 
 add-kept : tie.Need-add-kept Inv-loop μ-loop
-add-kept c = omega (arith, tallied-small _ _ _ _ (c .before .before .before .loop .inv))
+add-kept c = omega (arith, tallied-small _ _ _ _ (c .before .before .before .before .loop .inv))
 
 loop-less-2 : tie.Need-loop-less-2 Inv-loop μ-loop
 loop-less-2 c = omega arith
 
 loop-again-2 : tie.Need-loop-again-2 Inv-loop μ-loop
-loop-again-2 c = tallied-more _ _ _ _ (c .before .before .before .loop .inv) (c .before .before .loop-test .taken) _ (c .before .is-kept .ensures) (not-false _ (c .if1 .left))
+loop-again-2 c = tallied-more _ _ _ _ (c .before .before .before .before .loop .inv) (c .before .before .before .loop-test .taken) _ (c .before .is-kept .ensures) (not-false _ (c .if1 .left))
 
 returns : tie.Need-returns Inv-loop μ-loop
 unfolding positionsOf
@@ -52,6 +55,7 @@ count-kept-spec =
     (tie.spec
     Inv-loop
     μ-loop
+    lowest-line-requires
     loop-holds
     is-kept-requires
     add-k

@@ -1,8 +1,8 @@
--- `messages::is_kept` meets its contract, from the four numbers of the message.
+-- `messages::is_kept` meets its contract, from the four numbers of the message and the lowest line.
 -- Assumes nothing.
 use borrow.Author.Needs.{needs}
 use native.Mathlib.Omega.{arith}
-use Rattle.retention.proofs.ScratchLaws.{undelivered-kept, delivered-kept}
+use Rattle.retention.proofs.ScratchLaws.{undelivered-kept, old-kept, delivered-kept}
 use Rattle.run_table.specs.Format.{processAt}
 use Rattle.retention.proofs.messages.is_kept.Statement.{statement}
 use Rattle.retention.proofs.messages.is_kept.Tie as tie
@@ -13,8 +13,8 @@ mul-u16-at c = search needs
 u16-at-requires : tie.Need-u16-at-requires
 u16-at-requires c κs = search needs
 
-cast-sender : tie.Need-cast-sender
-cast-sender c = search needs
+cast-receiver : tie.Need-cast-receiver
+cast-receiver c = search needs
 
 mul-u16-at-2 : tie.Need-mul-u16-at-2
 mul-u16-at-2 c = search needs
@@ -25,14 +25,31 @@ add-u16-at c = search needs
 u16-at-requires-2 : tie.Need-u16-at-requires-2
 u16-at-requires-2 c κs = search needs
 
+returns : tie.Need-returns
+returns c = undelivered-kept _ _ _ _ _ _ (c .before .u16-at2 .ensures) (c .if1 .taken)
+
+mul-if2 : tie.Need-mul-if2
+mul-if2 c = search needs
+
+element-copy-out-if2 : tie.Need-element-copy-out-if2
+unfolding processAt
+element-copy-out-if2 c = omega arith
+
+returns-2 : tie.Need-returns-2
+returns-2 c =
+    let read = c .before .before .before in
+    let start = read .before .before .before .before .before in
+    old-kept _ _ _ _ _ _ (read .u16-at2 .ensures) (start .pre .1 .1 .0) _ (start .pre .0) (start .pre .1 .1 .1 .1 .1 .1) _
+    (read .before .u16-at .ensures) (c .before .before .if1 .left) (c .if2 .taken)
+
 mul-u16-at-3 : tie.Need-mul-u16-at-3
 mul-u16-at-3 c = search needs
 
 u16-at-requires-3 : tie.Need-u16-at-requires-3
 u16-at-requires-3 c κs = search needs
 
-cast-receiver : tie.Need-cast-receiver
-cast-receiver c = search needs
+cast-sender : tie.Need-cast-sender
+cast-sender c = search needs
 
 mul-u16-at-4 : tie.Need-mul-u16-at-4
 mul-u16-at-4 c = search needs
@@ -43,15 +60,15 @@ add-u16-at-2 c = search needs
 u16-at-requires-4 : tie.Need-u16-at-requires-4
 u16-at-requires-4 c κs = search needs
 
-returns : tie.Need-returns
-returns c = undelivered-kept _ _ _ _ _ _ (c .before .u16-at4 .ensures) (c .if1 .taken)
-
 crosses-line-requires : tie.Need-crosses-line-requires
 unfolding processAt
 crosses-line-requires c κs = omega arith
 
-returns-2 : tie.Need-returns-2
-returns-2 c = delivered-kept _ _ _ _ _ _ (c .before .before .u16-at4 .ensures) _ _ _ _ (c .before .before .before .before .before .u16-at .ensures) (c .before .before .before .before .u16-at2 .ensures) (c .before .before .before .u16-at3 .ensures) (c .before .if1 .left) (c .crosses-line .ensures)
+returns-3 : tie.Need-returns-3
+returns-3 c =
+    let read = c .before .before .before .before .before .before in
+    delivered-kept _ _ _ _ _ _ (read .u16-at2 .ensures) _ _ _ _ (c .before .before .u16-at3 .ensures) (c .before .u16-at4 .ensures)
+    (read .before .u16-at .ensures) (c .before .before .before .before .before .if1 .left) (c .crosses-line .ensures)
 
 pub is-kept-spec : {M : Type 1} → statement M
 is-kept-spec =
@@ -59,16 +76,19 @@ is-kept-spec =
     (tie.spec
     mul-u16-at
     u16-at-requires
-    cast-sender
+    cast-receiver
     mul-u16-at-2
     add-u16-at
     u16-at-requires-2
+    returns
+    mul-if2
+    element-copy-out-if2
+    returns-2
     mul-u16-at-3
     u16-at-requires-3
-    cast-receiver
+    cast-sender
     mul-u16-at-4
     add-u16-at-2
     u16-at-requires-4
-    returns
     crosses-line-requires
-    returns-2)
+    returns-3)

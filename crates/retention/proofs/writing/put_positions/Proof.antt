@@ -12,20 +12,23 @@ use Rattle.retention.proofs.writing.put_positions.Statement.{statement}
 use Rattle.retention.proofs.writing.put_positions.Tie as tie
 
 abbrev Inv-loop : tie.InvT-loop
-Inv-loop buffer₀ at scratch n sends receipts m next₀ k₀ buffer next k = Putting (select (λ j. isKept scratch n (messageAt sends receipts j))) m buffer₀ at buffer next k
+Inv-loop buffer₀ at scratch n sends receipts m lowest next₀ k₀ buffer next k = Putting (select (λ j. isKept scratch n (messageAt sends receipts j))) m buffer₀ at buffer next k
 
 abbrev μ-loop : tie.MeasureT-loop
-μ-loop buffer₀ at scratch n sends receipts m next₀ k₀ buffer next k = m - k
+μ-loop buffer₀ at scratch n sends receipts m lowest next₀ k₀ buffer next k = m - k
+
+lowest-line-requires : tie.Need-lowest-line-requires Inv-loop μ-loop
+lowest-line-requires c κs = omega arith
 
 loop-holds : tie.Need-loop-holds Inv-loop μ-loop
 unfolding select positionsOf
-loop-holds c = putting-none _ _ _ _ _ zero-le refl (c .before .before .before .before .pre .1 .1 .1 .1 .1 .1)
+loop-holds c = putting-none _ _ _ _ _ zero-le refl (c .before .before .before .before .before .pre .1 .1 .1 .1 .1 .1 .1)
 
 is-kept-requires : tie.Need-is-kept-requires Inv-loop μ-loop
 is-kept-requires c κs =
-    let start = c .before .before .before .before .before .before in
-    let l = c .loop-test .taken in
-    omega (arith, start .pre .1 .1 .1 .1 .0 _ l, start .pre .1 .1 .1 .1 .1 .0 _ l)
+    let start = c .before .before .before .before .before .before .before .before in
+    let l = c .before .loop-test .taken in
+    (c .before .before .before .lowest-line .ensures, omega (arith, start .pre .1 .1 .1 .1 .1 .0 _ l, start .pre .1 .1 .1 .1 .1 .1 .0 _ l))
 
 add-k : tie.Need-add-k Inv-loop μ-loop
 add-k c = omega arith
@@ -34,19 +37,19 @@ loop-less : tie.Need-loop-less Inv-loop μ-loop
 loop-less c = omega arith
 
 loop-again : tie.Need-loop-again Inv-loop μ-loop
-loop-again c = passing-skip _ _ _ _ _ _ _ (c .before .before .before .loop .inv) (c .before .before .loop-test .taken) _ (c .before .is-kept .ensures) (not-true _ (c .if1 .taken))
+loop-again c = passing-skip _ _ _ _ _ _ _ (c .before .before .before .before .loop .inv) (c .before .before .before .loop-test .taken) _ (c .before .is-kept .ensures) (not-true _ (c .if1 .taken))
 
 cast-put-number : tie.Need-cast-put-number Inv-loop μ-loop
 cast-put-number c = omega arith
 
 put-number-requires : tie.Need-put-number-requires Inv-loop μ-loop
-put-number-requires c κs = passing-room _ _ _ _ _ _ _ (c .before .before .before .before .loop .inv) (c .before .before .before .loop-test .taken) _ (c .before .before .is-kept .ensures) (not-false _ (c .before .if1 .left))
+put-number-requires c κs = passing-room _ _ _ _ _ _ _ (c .before .before .before .before .before .loop .inv) (c .before .before .before .before .loop-test .taken) _ (c .before .before .is-kept .ensures) (not-false _ (c .before .if1 .left))
 
 loop-less-2 : tie.Need-loop-less-2 Inv-loop μ-loop
 loop-less-2 c = omega arith
 
 loop-again-2 : tie.Need-loop-again-2 Inv-loop μ-loop
-loop-again-2 c = passing-more _ _ _ _ _ _ _ (c .before .before .before .before .before .before .before .loop .inv) (c .before .before .before .before .before .before .loop-test .taken) _ (c .before .before .before .before .before .is-kept .ensures) (not-false _ (c .before .before .before .before .if1 .left)) _ _ (c .before .before .put-number .ensures)
+loop-again-2 c = passing-more _ _ _ _ _ _ _ (c .before .before .before .before .before .before .before .before .loop .inv) (c .before .before .before .before .before .before .before .loop-test .taken) _ (c .before .before .before .before .before .is-kept .ensures) (not-false _ (c .before .before .before .before .if1 .left)) _ _ (c .before .before .put-number .ensures)
 
 same-length : tie.Need-same-length Inv-loop μ-loop
 same-length c = putting-length _ _ _ _ _ _ _ (c .before .loop .inv)
@@ -61,6 +64,7 @@ put-positions-spec =
     (tie.spec
     Inv-loop
     μ-loop
+    lowest-line-requires
     loop-holds
     is-kept-requires
     add-k
