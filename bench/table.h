@@ -147,12 +147,21 @@ static inline uint16_t next_kept(const uint16_t *lines, size_t n, size_t i, uint
     return least;
 }
 
-/* Whether message k waits or crosses some line. */
-static inline int is_kept(const uint16_t *lines, struct parts t, size_t k)
+/* The lowest line: at each process the least number that any line has there. */
+static inline void lowest_line(const uint16_t *lines, size_t n, uint16_t *lowest)
+{
+    for (size_t i = 0; i < n; i++)
+        lowest[i] = next_kept(lines, n, i, 0, UINT16_MAX);
+}
+
+/* Whether message k waits or crosses some line. One received at or before the lowest line crosses none. */
+static inline int is_kept(const uint16_t *lines, const uint16_t *lowest, struct parts t, size_t k)
 {
     uint16_t received = u16_at(t.receipts + 4 * k + 2);
     if (received == 0)
         return 1;
+    if (received <= lowest[u16_at(t.receipts + 4 * k)])
+        return 0;
     uint16_t sent = u16_at(t.sends + 4 * k + 2);
     const uint16_t *of_sender = lines + u16_at(t.sends + 4 * k);
     const uint16_t *of_receiver = lines + u16_at(t.receipts + 4 * k);
@@ -166,13 +175,15 @@ static inline int is_kept(const uint16_t *lines, struct parts t, size_t k)
 static inline uint32_t put_sheet(struct parts t, const uint16_t *lines, uint8_t *answer, size_t room, size_t *written)
 {
     size_t kept = 0, logged = 0;
+    uint16_t lowest[MOST_PROCESSES];
     for (size_t i = 0; i < t.n; i++) {
         uint16_t count = u16_at(t.counts + 2 * i);
         for (uint16_t c = next_kept(lines, t.n, i, 0, count); c < count; c = next_kept(lines, t.n, i, (uint16_t)(c + 1), count))
             kept++;
     }
+    lowest_line(lines, t.n, lowest);
     for (size_t k = 0; k < t.m; k++)
-        logged += (size_t)is_kept(lines, t, k);
+        logged += (size_t)is_kept(lines, lowest, t, k);
     size_t size = 4 + 4 * kept + 2 * logged;
     if (room < size)
         return 16;
@@ -190,7 +201,7 @@ static inline uint32_t put_sheet(struct parts t, const uint16_t *lines, uint8_t 
         }
     }
     for (size_t k = 0; k < t.m; k++)
-        if (is_kept(lines, t, k)) {
+        if (is_kept(lines, lowest, t, k)) {
             put_u16(state, (uint16_t)k);
             state += 2;
         }

@@ -264,6 +264,17 @@ fn kept_states(lines: &[u16], n: usize, i: usize, count: u16) -> impl Iterator<I
     std::iter::successors(next(0), move |&c| next(c + 1))
 }
 
+/// The lowest line: at each process the least number that any line has there.
+fn lowest_line(lines: &[u16], n: usize) -> Line {
+    let mut lowest = [u16::MAX; MOST_PROCESSES];
+    for line in lines.chunks_exact(n) {
+        for (least, &number) in lowest.iter_mut().zip(line) {
+            *least = number.min(*least);
+        }
+    }
+    lowest
+}
+
 fn keep_sheet(table: &[u8], scratch: &mut [u16], answer: &mut [u8], written: &mut usize) -> u32 {
     let refusal = check(table);
     if refusal != 0 {
@@ -278,8 +289,9 @@ fn keep_sheet(table: &[u8], scratch: &mut [u16], answer: &mut [u8], written: &mu
         place.copy_from_slice(&line_of_set(&parts, 1 << p)[..n]);
     }
     let lines = &scratch[..n * n];
+    let lowest = lowest_line(lines, n);
     let is_kept = |((j, y), (i, r)): ((usize, u16), (usize, u16))| {
-        r == 0 || lines.chunks_exact(n).any(|line| y < line[j] && line[i] < r)
+        r == 0 || r > lowest[i] && lines.chunks_exact(n).any(|line| y < line[j] && line[i] < r)
     };
     let kept: usize = (0..n)
         .map(|i| kept_states(lines, n, i, parts.count(i)).count())
