@@ -191,6 +191,13 @@ lowest-at s n i few l =
     let size : length (tabulate n (lowestAt s n)) ≡ n = length-tabulate n (lowestAt s n) in
     List·getD-append (tabulate n (lowestAt s n)) _ 0 i (omega arith) ∙ getD-tabulate n (lowestAt s n) i 0 l
 
+-- its number at the receiver of message k, as it was read
+pub lowest-read : (s : List ℕ) (n : ℕ) → n ≤ 32 → (line : List ℕ) → line ≡ lowestLine s n → (receipts : List ℕ) (k receiver : ℕ) → receiver ≡ u16At receipts (4 * k)
+    → processAt receipts k < n → getD line receiver 0 ≡ lowestAt s n (processAt receipts k)
+unfolding processAt
+lowest-read s n few line is receipts k receiver read known =
+    ap₂ (λ (l : List ℕ) (i : ℕ). getD l i 0) is read ∙ lowest-at s n (u16At receipts (4 * k)) few known
+
 -- a message that is received at or before the lowest line crosses no line
 uncrossed-old : (s : List ℕ) (n sender sent receiver received : ℕ) → received ≤ lowestAt s n receiver
     → crossesLine s n sender sent receiver received ≡ false
@@ -207,13 +214,10 @@ module _ (s : List ℕ) (n : ℕ) (sends receipts : List ℕ) (k received : ℕ)
   unfolding isKept messageAt checkpointAt
   undelivered-kept e = rw (← read, e)
 
-  pub old-kept : n ≤ 32 → (line : List ℕ) → line ≡ lowestLine s n → processAt receipts k < n
-      → (receiver : ℕ) → receiver ≡ u16At receipts (4 * k) → (received ≡ 0 → ⊥) → received ≤ getD line receiver 0
+  pub old-kept : (lowest : ℕ) → lowest ≡ lowestAt s n (processAt receipts k) → (received ≡ 0 → ⊥) → received ≤ lowest
       → false ≡ isKept s n (messageAt sends receipts k)
-  unfolding isKept messageAt checkpointAt processAt
-  old-kept few line low known receiver e some b =
-      let there : getD line receiver 0 ≡ lowestAt s n receiver = rw low (lowest-at s n receiver few (omega arith)) in
-      sym (rw (← read, ← e, ne-eqb received 0 some) (uncrossed-old s n _ _ receiver received (omega arith)))
+  unfolding isKept messageAt checkpointAt
+  old-kept lowest is some b = sym (rw (← read, ne-eqb received 0 some) (uncrossed-old s n _ _ (processAt receipts k) received (omega (arith, is))))
 
   pub delivered-kept : (sender sent receiver : ℕ) (r : Bool) → sender ≡ u16At sends (4 * k) → sent ≡ u16At sends (4 * k + 2) → receiver ≡ u16At receipts (4 * k)
       → (received ≡ 0 → ⊥) → r ≡ crossesLine s n sender sent receiver received → r ≡ isKept s n (messageAt sends receipts k)

@@ -5,7 +5,7 @@ use run_table::numbers::u16_at;
 ghost use mathlib.Core.Path.{_≡_};
 ghost use Prim.Native.Nat.{ℕ, _+_, _*_, _<_, _≤_};
 ghost use lib.ListN.{length};
-ghost use Rattle.retention.specs.Scratch.{crossesLine, isKept, lowestLine, positionsOf};
+ghost use Rattle.retention.specs.Scratch.{crossesLine, isKept, lowestAt, lowestLine, positionsOf};
 ghost use Rattle.run_table.specs.Format.{messageAt, processAt};
 
 // The lowest line: at each process the least number that any of n lines has there.
@@ -54,19 +54,18 @@ fn crosses_line(
     false
 }
 
-// Whether message k of a part of sends and a part of receipts is kept, given the lowest line: a message
-// received at or before it crosses no line.
+// Whether message k of a part of sends and a part of receipts is kept, given the lowest line's number at
+// its receiver: a message received at or before that line crosses no line.
 pub fn is_kept(
     scratch: &[u16],
     n: usize,
-    lowest: &[u16; 32],
+    lowest: u16,
     sends: &[u8],
     receipts: &[u8],
     k: usize,
 ) -> bool
-    requires { ⌜ now lowest ≡ lowestLine (now scratch) n ⌝ }
+    requires { ⌜ lowest ≡ lowestAt (now scratch) n (processAt (now receipts) k) ⌝ }
     requires { ⌜ n * n ≤ length (now scratch) ⌝ }
-    requires { ⌜ n ≤ 32 ⌝ }
     requires { ⌜ 4 * k + 3 < length (now sends) ⌝ }
     requires { ⌜ 4 * k + 3 < length (now receipts) ⌝ }
     requires { ⌜ processAt (now sends) k < n ⌝ }
@@ -78,7 +77,7 @@ pub fn is_kept(
     if received == 0 {
         return true;
     }
-    if received <= lowest[receiver] {
+    if received <= lowest {
         return false;
     }
     let sender = u16_at(sends, 4 * k) as usize;
@@ -100,7 +99,8 @@ pub fn count_kept(scratch: &[u16], n: usize, sends: &[u8], receipts: &[u8], m: u
     let mut kept = 0;
     let mut k = 0;
     while k < m {
-        let keep = is_kept(scratch, n, &lowest, sends, receipts, k);
+        let receiver = u16_at(receipts, 4 * k) as usize;
+        let keep = is_kept(scratch, n, lowest[receiver], sends, receipts, k);
         k += 1;
         if !keep {
             continue;

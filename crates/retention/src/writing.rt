@@ -145,7 +145,8 @@ pub fn put_positions(
     let mut k = 0;
     while k < m {
         let position = k;
-        let keep = is_kept(scratch, n, &lowest, sends, receipts, k);
+        let receiver = u16_at(receipts, 4 * k) as usize;
+        let keep = is_kept(scratch, n, lowest[receiver], sends, receipts, k);
         k += 1;
         if !keep {
             continue;

@@ -1,11 +1,12 @@
 -- `messages::count_kept` meets its contract: the loop tests one message after another.
 -- Assumes nothing.
+use borrow.Author.Needs.{needs}
 use native.Mathlib.Omega.{arith}
 use borrow.Author.Tests.{not-true, not-false}
 use Prim.Native.Nat.{_-_}
-use Rattle.retention.proofs.ScratchLaws.{Tallied, tallied-none, tallied-small, tallied-skip, tallied-more, tallied-all}
+use Rattle.retention.proofs.ScratchLaws.{Tallied, tallied-none, tallied-small, tallied-skip, tallied-more, tallied-all, lowest-read}
 use Rattle.retention.specs.Scratch.{isKept, positionsOf}
-use Rattle.run_table.specs.Format.{messageAt}
+use Rattle.run_table.specs.Format.{messageAt, processAt}
 use Rattle.retention.proofs.messages.count_kept.Statement.{statement}
 use Rattle.retention.proofs.messages.count_kept.Tie as tie
 
@@ -21,11 +22,28 @@ lowest-line-requires c κs = omega arith
 loop-holds : tie.Need-loop-holds Inv-loop μ-loop
 loop-holds c = tallied-none _ _
 
+mul-u16-at : tie.Need-mul-u16-at Inv-loop μ-loop
+mul-u16-at c = omega arith
+
+u16-at-requires : tie.Need-u16-at-requires Inv-loop μ-loop
+u16-at-requires c κs = omega arith
+
+cast-receiver : tie.Need-cast-receiver Inv-loop μ-loop
+cast-receiver c = search needs
+
+mul-is-kept : tie.Need-mul-is-kept Inv-loop μ-loop
+mul-is-kept c = search needs
+
+array-read-is-kept : tie.Need-array-read-is-kept Inv-loop μ-loop
+unfolding processAt
+array-read-is-kept c = omega (arith, c .before .before .before .before .before .before .before .pre .1 .1 .1 .1 .1 _ (c .before .loop-test .taken), c .u16-at .ensures)
+
 is-kept-requires : tie.Need-is-kept-requires Inv-loop μ-loop
 is-kept-requires c κs =
     let start = c .before .before .before .before .before .before .before in
     let l = c .before .loop-test .taken in
-    (c .before .before .before .lowest-line .ensures, omega (arith, start .pre .1 .1 .1 .1 .0 _ l, start .pre .1 .1 .1 .1 .1 _ l))
+    let known = start .pre .1 .1 .1 .1 .1 _ l in
+    (lowest-read _ _ (omega arith) _ (c .before .before .before .lowest-line .ensures) _ _ _ (c .u16-at .ensures) known, omega (arith, start .pre .1 .1 .1 .1 .0 _ l, known))
 
 add-k : tie.Need-add-k Inv-loop μ-loop
 add-k c = omega arith
@@ -57,6 +75,11 @@ count-kept-spec =
     μ-loop
     lowest-line-requires
     loop-holds
+    mul-u16-at
+    u16-at-requires
+    cast-receiver
+    mul-is-kept
+    array-read-is-kept
     is-kept-requires
     add-k
     loop-less

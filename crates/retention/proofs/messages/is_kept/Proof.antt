@@ -1,4 +1,4 @@
--- `messages::is_kept` meets its contract, from the four numbers of the message and the lowest line.
+-- `messages::is_kept` meets its contract, from the four numbers of the message and the lowest line's.
 -- Assumes nothing.
 use borrow.Author.Needs.{needs}
 use native.Mathlib.Omega.{arith}
@@ -28,19 +28,8 @@ u16-at-requires-2 c κs = search needs
 returns : tie.Need-returns
 returns c = undelivered-kept _ _ _ _ _ _ (c .before .u16-at2 .ensures) (c .if1 .taken)
 
-mul-if2 : tie.Need-mul-if2
-mul-if2 c = search needs
-
-element-copy-out-if2 : tie.Need-element-copy-out-if2
-unfolding processAt
-element-copy-out-if2 c = omega arith
-
 returns-2 : tie.Need-returns-2
-returns-2 c =
-    let read = c .before .before .before in
-    let start = read .before .before .before .before .before in
-    old-kept _ _ _ _ _ _ (read .u16-at2 .ensures) (start .pre .1 .1 .0) _ (start .pre .0) (start .pre .1 .1 .1 .1 .1 .1) _
-    (read .before .u16-at .ensures) (c .before .before .if1 .left) (c .if2 .taken)
+returns-2 c = old-kept _ _ _ _ _ _ (c .before .before .u16-at2 .ensures) _ (c .before .before .before .before .before .before .before .pre .0) (c .before .if1 .left) (c .if2 .taken)
 
 mul-u16-at-3 : tie.Need-mul-u16-at-3
 mul-u16-at-3 c = search needs
@@ -66,9 +55,8 @@ crosses-line-requires c κs = omega arith
 
 returns-3 : tie.Need-returns-3
 returns-3 c =
-    let read = c .before .before .before .before .before .before in
-    delivered-kept _ _ _ _ _ _ (read .u16-at2 .ensures) _ _ _ _ (c .before .before .u16-at3 .ensures) (c .before .u16-at4 .ensures)
-    (read .before .u16-at .ensures) (c .before .before .before .before .before .if1 .left) (c .crosses-line .ensures)
+    delivered-kept _ _ _ _ _ _ (c .before .before .before .before .before .u16-at2 .ensures) _ _ _ _ (c .before .before .u16-at3 .ensures) (c .before .u16-at4 .ensures)
+    (c .before .before .before .before .before .before .u16-at .ensures) (c .before .before .before .before .if1 .left) (c .crosses-line .ensures)
 
 pub is-kept-spec : {M : Type 1} → statement M
 is-kept-spec =
@@ -81,8 +69,6 @@ is-kept-spec =
     add-u16-at
     u16-at-requires-2
     returns
-    mul-if2
-    element-copy-out-if2
     returns-2
     mul-u16-at-3
     u16-at-requires-3

@@ -1,13 +1,15 @@
 -- `writing::put_positions` meets its contract: the loop tests one message after another.
 -- Assumes nothing.
+use borrow.Author.Needs.{needs}
 use native.Mathlib.Omega.{arith}
 use mathlib.Core.Path.{refl}
 use borrow.Author.Tests.{not-true, not-false}
 use Prim.Native.Nat.{_-_, zero-le}
 use Rattle.futures.specs.Sheet.{select}
+use Rattle.retention.proofs.ScratchLaws.{lowest-read}
 use Rattle.retention.proofs.WritingLaws.{Putting, putting-none, putting-length, putting-all, passing-room, passing-skip, passing-more}
 use Rattle.retention.specs.Scratch.{isKept, positionsOf}
-use Rattle.run_table.specs.Format.{messageAt}
+use Rattle.run_table.specs.Format.{messageAt, processAt}
 use Rattle.retention.proofs.writing.put_positions.Statement.{statement}
 use Rattle.retention.proofs.writing.put_positions.Tie as tie
 
@@ -24,11 +26,28 @@ loop-holds : tie.Need-loop-holds Inv-loop μ-loop
 unfolding select positionsOf
 loop-holds c = putting-none _ _ _ _ _ zero-le refl (c .before .before .before .before .before .pre .1 .1 .1 .1 .1 .1 .1)
 
+mul-u16-at : tie.Need-mul-u16-at Inv-loop μ-loop
+mul-u16-at c = omega arith
+
+u16-at-requires : tie.Need-u16-at-requires Inv-loop μ-loop
+u16-at-requires c κs = omega arith
+
+cast-receiver : tie.Need-cast-receiver Inv-loop μ-loop
+cast-receiver c = search needs
+
+mul-is-kept : tie.Need-mul-is-kept Inv-loop μ-loop
+mul-is-kept c = search needs
+
+array-read-is-kept : tie.Need-array-read-is-kept Inv-loop μ-loop
+unfolding processAt
+array-read-is-kept c = omega (arith, c .before .before .before .before .before .before .before .before .pre .1 .1 .1 .1 .1 .1 .0 _ (c .before .loop-test .taken), c .u16-at .ensures)
+
 is-kept-requires : tie.Need-is-kept-requires Inv-loop μ-loop
 is-kept-requires c κs =
     let start = c .before .before .before .before .before .before .before .before in
     let l = c .before .loop-test .taken in
-    (c .before .before .before .lowest-line .ensures, omega (arith, start .pre .1 .1 .1 .1 .1 .0 _ l, start .pre .1 .1 .1 .1 .1 .1 .0 _ l))
+    let known = start .pre .1 .1 .1 .1 .1 .1 .0 _ l in
+    (lowest-read _ _ (omega arith) _ (c .before .before .before .lowest-line .ensures) _ _ _ (c .u16-at .ensures) known, omega (arith, start .pre .1 .1 .1 .1 .1 .0 _ l, known))
 
 add-k : tie.Need-add-k Inv-loop μ-loop
 add-k c = omega arith
@@ -66,6 +85,11 @@ put-positions-spec =
     μ-loop
     lowest-line-requires
     loop-holds
+    mul-u16-at
+    u16-at-requires
+    cast-receiver
+    mul-is-kept
+    array-read-is-kept
     is-kept-requires
     add-k
     loop-less
