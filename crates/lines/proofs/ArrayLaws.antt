@@ -3,8 +3,8 @@
 --     array-numbers              its first numbers are the line
 --     array-line                 the line under an array is the array of the line
 --     height-in, height-beyond   how high a process may stand, entry by entry
---     messages-found, line-found the messages and the line of a set in an accepted table
---     ceiling-needs, lower-needs, line-read    the same, from what the code read
+--     ceiling-needs, ceiling-read    the ceiling of a set in an accepted table, from what the code read
+--     lower-needs, line-read         its line, likewise
 --     all-hold                   the set of all 32 bits gives the recovery line
 -- Assumes nothing.
 use mathlib.Core.Bool.{Bool, cond}
@@ -76,12 +76,12 @@ height-read n set counts p count r holds l read is-held e =
     e ∙ ap₂ (λ (b : Bool) (c : ℕ). cond b (c - 1) c) is-held read ∙ sym (height-in n set counts p l)
 
 -- ---- the line that the code finds in an accepted table
-module _ (bytes : List ℕ) (none : tableRefusal bytes ≡ 0) (set : ℕ) where
+module _ (bytes : List ℕ) (none : tableRefusal bytes ≡ 0) where
   abbrev N : ℕ
   N = processCount (decode bytes)
 
-  height-is : (p : ℕ) → heightAt N set (countsPart bytes) p ≡ at (ceilingOf (decode bytes) (member set)) p
-  height-is p = go (decLt p N) ∙ sym (ceiling-at (decode bytes) (member set) p)
+  height-is : (set p : ℕ) → heightAt N set (countsPart bytes) p ≡ at (ceilingOf (decode bytes) (member set)) p
+  height-is set p = go (decLt p N) ∙ sym (ceiling-at (decode bytes) (member set) p)
     where
       wanted : ℕ → ℕ
       wanted c = cond (member set p) (c - 1) c
@@ -92,28 +92,22 @@ module _ (bytes : List ℕ) (none : tableRefusal bytes ≡ 0) (set : ℕ) where
           height-beyond N set (countsPart bytes) p (omega arith)
           ∙ sym (all-zero (member set p) (countOf (decode bytes) p) (count-beyond (decode bytes) p (omega arith)))
 
-  ceiling-array : tabulate 32 (heightAt N set (countsPart bytes)) ≡ arrayOf (ceilingOf (decode bytes) (member set))
-  unfolding arrayOf
-  ceiling-array = tabulate-ext 32 _ _ (λ p _. height-is p)
-
-  pub messages-found : messagesOf (messageCount (decode bytes)) (sendsPart bytes) (receiptsPart bytes) ≡ decode bytes .messages
-  unfolding messagesOf decode
-  messages-found = ap (λ (m : ℕ). tabulate m (messageAt (sendsPart bytes) (receiptsPart bytes))) (decode-messages bytes)
-
-  pub line-found : lineUnder (messagesOf (messageCount (decode bytes)) (sendsPart bytes) (receiptsPart bytes)) (tabulate 32 (heightAt N set (countsPart bytes)))
-      ≡ arrayOf (lineOf (decode bytes) (member set))
-  unfolding lineOf
-  line-found =
-      ap₂ lineUnder messages-found ceiling-array
-      ∙ array-line (decode bytes .messages) (ceilingOf (decode bytes) (member set))
-      (subst⁻¹ (λ (x : ℕ). x ≤ 32) (ceiling-length (decode bytes) (member set)) (processes-few bytes none))
-
-  -- what the code must show of what it read, and what it has found
-  module _ (n m : ℕ) (counts sends receipts : List ℕ) (read-n : n ≡ N) (read-m : m ≡ messageCount (decode bytes))
-      (read-c : counts ≡ countsPart bytes) (read-s : sends ≡ sendsPart bytes) (read-r : receipts ≡ receiptsPart bytes) where
+  -- the ceiling: what the code must show of what it read, and what it has found
+  module _ (n : ℕ) (counts : List ℕ) (read-n : n ≡ N) (read-c : counts ≡ countsPart bytes) where
     pub ceiling-needs : (n ≤ 32) × ((length counts ≡ 2 * n) × ((p : ℕ) → p < n → 0 < countAt counts p))
     ceiling-needs = rw (read-n, read-c) (processes-few bytes none, (counts-size bytes none, counts-positive bytes none))
 
+    pub ceiling-read : (set : ℕ) → tabulate 32 (heightAt n set counts) ≡ arrayOf (ceilingOf (decode bytes) (member set))
+    unfolding arrayOf
+    ceiling-read set = rw (read-n, read-c) (tabulate-ext 32 _ _ (λ p _. height-is set p))
+
+  messages-found : messagesOf (messageCount (decode bytes)) (sendsPart bytes) (receiptsPart bytes) ≡ decode bytes .messages
+  unfolding messagesOf decode
+  messages-found = ap (λ (m : ℕ). tabulate m (messageAt (sendsPart bytes) (receiptsPart bytes))) (decode-messages bytes)
+
+  -- the line: the same
+  module _ (m : ℕ) (sends receipts : List ℕ) (read-m : m ≡ messageCount (decode bytes)) (read-s : sends ≡ sendsPart bytes)
+      (read-r : receipts ≡ receiptsPart bytes) where
     pub lower-needs : (length sends ≡ 4 * m)
         × ((length receipts ≡ 4 * m) × (((k : ℕ) → k < m → processAt sends k < 32) × ((k : ℕ) → k < m → processAt receipts k < 32)))
     lower-needs =
@@ -125,8 +119,13 @@ module _ (bytes : List ℕ) (none : tableRefusal bytes ≡ 0) (set : ℕ) where
           ),
         )
 
-    pub line-read : lineUnder (messagesOf m sends receipts) (tabulate 32 (heightAt n set counts)) ≡ arrayOf (lineOf (decode bytes) (member set))
-    line-read = rw (read-n, read-m, read-c, read-s, read-r) line-found
+    pub line-read : (set : ℕ)
+        → lineUnder (messagesOf m sends receipts) (arrayOf (ceilingOf (decode bytes) (member set))) ≡ arrayOf (lineOf (decode bytes) (member set))
+    unfolding lineOf
+    line-read set =
+        rw (read-m, read-s, read-r, messages-found)
+        (array-line (decode bytes .messages) (ceilingOf (decode bytes) (member set))
+        (subst⁻¹ (λ (x : ℕ). x ≤ 32) (ceiling-length (decode bytes) (member set)) (processes-few bytes none)))
 
 -- the numbers that the code writes of the line of a set
 pub line-numbers : (bytes : List ℕ) (none : tableRefusal bytes ≡ 0) (set n : ℕ) (line : List ℕ) → n ≡ processCount (decode bytes)

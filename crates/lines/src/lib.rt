@@ -3,12 +3,14 @@
 pub mod answers;
 pub mod ceilings;
 pub mod lowering;
+pub mod propagation;
 
+use process_set::bit;
 use run_table::parts;
 ghost use mathlib.Core.Path.{_≡_};
-ghost use Prim.Native.Nat.{_*_, _≤_};
+ghost use Prim.Native.Nat.{_*_, _^_, _≤_, _<_};
 ghost use lib.ListN.{length};
-ghost use Rattle.consistency.specs.Ceilings.{lineOf};
+ghost use Rattle.consistency.specs.Ceilings.{ceilingOf, lineOf, propagatesFrom};
 ghost use Rattle.lines.specs.Arrays.{arrayOf};
 ghost use Rattle.process_set.specs.Sets.{member};
 ghost use Rattle.run_table.specs.Checks.{tableRefusal};
@@ -16,15 +18,38 @@ ghost use Rattle.run_table.specs.Format.{decode};
 ghost use Rattle.run_table.specs.Numbers.{putAt, u16s};
 ghost use Rattle.run_table.specs.Table.{processCount};
 
+// The ceiling of a set in an accepted table.
+fn ceiling_of_set(table: &[u8], set: u32) -> [u16; 32]
+    requires { ⌜ tableRefusal (now table) ≡ 0 ⌝ }
+    ensures { λ r. ⌜ r ≡ arrayOf (ceilingOf (decode (now (table .entry))) (member set)) ⌝ }
+{
+    let n = parts::process_count(table);
+    ceilings::ceiling(parts::counts(table), n, set)
+}
+
 // The line of a set in an accepted table.
 pub fn line_of_set(table: &[u8], set: u32) -> [u16; 32]
     requires { ⌜ tableRefusal (now table) ≡ 0 ⌝ }
     ensures { λ r. ⌜ r ≡ arrayOf (lineOf (decode (now (table .entry))) (member set)) ⌝ }
 {
-    let n = parts::process_count(table);
     let m = parts::message_count(table);
-    let ceiling = ceilings::ceiling(parts::counts(table), n, set);
+    let ceiling = ceiling_of_set(table, set);
     lowering::lower(ceiling, parts::sends(table), parts::receipts(table), m)
+}
+
+// The line of process k alone in an accepted table. Where a rollback of k does not propagate, it is the
+// ceiling, and no pass is made.
+pub fn line_of_holder(table: &[u8], k: usize, propagates: bool) -> [u16; 32]
+    requires { ⌜ tableRefusal (now table) ≡ 0 ⌝ }
+    requires { ⌜ k < 32 ⌝ }
+    requires { ⌜ propagates ≡ propagatesFrom (decode (now table)) k ⌝ }
+    ensures { λ r. ⌜ r ≡ arrayOf (lineOf (decode (now (table .entry))) (member (2 ^ k))) ⌝ }
+{
+    let set = bit(k);
+    if !propagates {
+        return ceiling_of_set(table, set);
+    }
+    line_of_set(table, set)
 }
 
 // Writes the line of a set in an accepted table to the front of a buffer that has room for it.

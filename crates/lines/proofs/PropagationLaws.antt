@@ -1,0 +1,141 @@
+-- The processes from which a rollback propagates, as the loop of `propagation::propagating` finds them.
+--     Seen                            the loop's invariant
+--     seen-none, seen-skips, seen-marks, seen-all    how it begins, goes over a message, marks its sender, and ends
+--     Parts, counts-length, ..        the parts of an accepted table, as the code read them
+--     sender-is, sender-known, count-positive        the numbers that it read of a message
+--     sent-before, undelivered, orphaned-here        what its tests say of that message
+--     holder-ceiling                  the line of one process from which no rollback propagates is its ceiling
+-- Assumes nothing.
+use mathlib.Core.Bool.{Bool, true, false, _&&_, and-false}
+use mathlib.Core.List.{List, _∷_}
+use mathlib.Core.Path.{_≡_, refl, sym, ap, ap₂, _∙_}
+use Prim.Native.Nat.{ℕ, zero, suc, _+_, _-_, _*_, _^_, _≤_, _<_, zero-le}
+use native.Mathlib.Nat.{le-antisymm, le-of-suc-le-suc, not-suc-le-zero}
+use native.Mathlib.Numerals.{add-one}
+use native.Mathlib.Omega.{arith}
+use borrow.Author.Tests.{eqb-true, eq-eqb, ne-eqb, le-leb, lt-leb, lt-ltb}
+use lib.Dec.{eqb, leb, ltb}
+use lib.ListN.{length, set, replicate}
+use Rattle.consistency.proofs.CeilingLaws.{line-is-ceiling}
+use Rattle.consistency.specs.Ceilings.{ceilingOf, lineOf, orphaned, propagatesFrom}
+use Rattle.process_set.proofs.SetLaws.{member-one}
+use Rattle.process_set.specs.Sets.{member}
+use Rattle.run_table.proofs.AcceptLaws.{accepted}
+use Rattle.run_table.proofs.NumberLaws.{anyBelow-found, tabulate-ext}
+use Rattle.run_table.proofs.ReadLaws.{count-is, counts-size, message-good, message-is, receipts-size, sends-size}
+use Rattle.run_table.specs.Checks.{tableRefusal}
+use Rattle.run_table.specs.Format.{checkpointAt, countAt, countsPart, decode, messageAt, processAt, receiptsPart, sendsPart}
+use Rattle.run_table.specs.Numbers.{tabulate, u16At}
+use Rattle.run_table.specs.Parts.{anyBelow}
+use Rattle.run_table.specs.Table.{Message, Table, countOf, messageCount, messageOf, processCount}
+
+-- one entry of a list that is given by its entries
+set-tabulate : {A : Type 0} (n : ℕ) (f g : ℕ → A) (i : ℕ) (v : A) → i < n → v ≡ g i → ((p : ℕ) → (p ≡ i → ⊥) → f p ≡ g p) → set (tabulate n f) i v ≡ tabulate n g
+unfolding tabulate
+set-tabulate zero f g i v l here other = absurd (not-suc-le-zero l)
+set-tabulate (suc n) f g zero v l here other = ap₂ _∷_ here (tabulate-ext n _ _ (λ p _. other (suc p) (λ e. omega arith)))
+set-tabulate (suc n) f g (suc i) v l here other =
+    ap₂ _∷_ (other zero (λ e. omega arith)) (set-tabulate n _ _ i v (le-of-suc-le-suc l) here (λ p e. other (suc p) (λ e′. e (omega arith))))
+
+module _ (t : Table) where
+  -- process p sent message k, which a rollback of p orphans
+  abbrev orphans : ℕ → ℕ → Bool
+  orphans p k = eqb (messageOf t k .sender) p && orphaned t (messageOf t k)
+
+  -- The loop has gone over the first k messages, and marked each process that sent one of them that a rollback of it orphans.
+  pub record Seen (found : List Bool) (k : ℕ) : Type 0 where
+    pub within : k ≤ messageCount t
+    pub marks : found ≡ tabulate 32 (λ p. anyBelow k (orphans p))
+
+  pub seen-none : Seen (replicate 32 false) 0
+  unfolding anyBelow tabulate
+  seen-none = record { within = zero-le; marks = refl }
+
+  module _ (found : List Bool) (k : ℕ) (s : Seen found k) where
+    module _ (l : k < messageCount t) where
+      same : (p : ℕ) → orphans p k ≡ false → anyBelow k (orphans p) ≡ anyBelow (k + 1) (orphans p)
+      unfolding anyBelow
+      same p e = rw (add-one k, e)
+
+      pub seen-skips : orphaned t (messageOf t k) ≡ false → Seen found (k + 1)
+      seen-skips e = record {
+        within = omega arith;
+        marks = s .marks ∙ tabulate-ext 32 _ _ (λ p _. same p (rw e (and-false (eqb (messageOf t k .sender) p))));
+      }
+
+      pub seen-marks : (sender : ℕ) → sender ≡ messageOf t k .sender → sender < 32 → orphaned t (messageOf t k) ≡ true → Seen (set found sender true) (k + 1)
+      seen-marks sender is b e = record {
+        within = omega arith;
+        marks =
+            ap (λ (f : List Bool). set f sender true) (s .marks)
+            ∙ set-tabulate 32 _ _ sender true b
+            (sym (anyBelow-found (orphans sender) (k + 1) k (omega arith) (rw (eq-eqb (messageOf t k .sender) sender (sym is), e))))
+            (λ p other. same p (rw (ne-eqb (messageOf t k .sender) p (λ q. other (sym q ∙ sym is)))));
+      }
+
+    pub seen-all : messageCount t ≤ k → found ≡ tabulate 32 (propagatesFrom t)
+    unfolding propagatesFrom
+    seen-all l = s .marks ∙ ap (λ (j : ℕ). tabulate 32 (λ p. anyBelow j (orphans p))) (le-antisymm (s .within) l)
+
+-- ---- what the code read
+-- The parts of an accepted table, as the code read them.
+pub record Parts (bytes counts sends receipts : List ℕ) : Type 0 where
+  pub none : tableRefusal bytes ≡ 0
+  pub read-c : counts ≡ countsPart bytes
+  pub read-s : sends ≡ sendsPart bytes
+  pub read-r : receipts ≡ receiptsPart bytes
+
+module _ {bytes counts sends receipts : List ℕ} (parts : Parts bytes counts sends receipts) where
+  pub counts-length : length counts ≡ 2 * processCount (decode bytes)
+  counts-length = ap length (parts .read-c) ∙ counts-size bytes (parts .none)
+
+  pub sends-length : length sends ≡ 4 * messageCount (decode bytes)
+  sends-length = ap length (parts .read-s) ∙ sends-size bytes (parts .none)
+
+  pub receipts-length : length receipts ≡ 4 * messageCount (decode bytes)
+  receipts-length = ap length (parts .read-r) ∙ receipts-size bytes (parts .none)
+
+-- a message, from the numbers that the code read
+module _ {bytes counts sends receipts : List ℕ} (parts : Parts bytes counts sends receipts)
+    {k : ℕ} (l : k < messageCount (decode bytes)) {sender : ℕ} (read-sender : sender ≡ u16At sends (4 * k)) where
+  abbrev T : Table
+  T = decode bytes
+
+  message-here : messageAt sends receipts k ≡ messageOf T k
+  message-here = rw (parts .read-s, parts .read-r) (message-is bytes (parts .none) k l)
+
+  pub sender-is : sender ≡ messageOf T k .sender
+  unfolding messageAt processAt
+  sender-is = read-sender ∙ ap (λ (m : Message). m .sender) message-here
+
+  pub sender-known : sender < processCount T
+  sender-known = omega (arith, sender-is, message-good bytes (parts .none) k l .sender-known)
+
+  module _ {count sent : ℕ} (read-count : count ≡ u16At counts (2 * sender)) (read-sent : sent ≡ u16At sends (4 * k + 2)) where
+    count-of : count ≡ countOf T sender
+    unfolding countAt
+    count-of = read-count ∙ ap (λ (part : List ℕ). u16At part (2 * sender)) (parts .read-c) ∙ count-is bytes (parts .none) sender sender-known
+
+    pub count-positive : 0 < count
+    count-positive = omega (arith, count-of, accepted bytes (parts .none) .well-formed .some-checkpoint sender sender-known)
+
+    orphaned-is : orphaned T (messageOf T k) ≡ (leb (count - 1) sent && ltb 0 (u16At receipts (4 * k + 2)))
+    unfolding orphaned messageAt processAt checkpointAt
+    orphaned-is = ap (orphaned T) (sym message-here) ∙ rw (← read-sender, ← read-sent, ← count-of)
+
+    pub sent-before : sent < count - 1 → orphaned T (messageOf T k) ≡ false
+    sent-before b = orphaned-is ∙ rw (lt-leb (count - 1) sent b)
+
+    module _ {received : ℕ} (read-received : received ≡ u16At receipts (4 * k + 2)) where
+      pub undelivered : received ≡ 0 → orphaned T (messageOf T k) ≡ false
+      undelivered e = orphaned-is ∙ rw (← read-received, e) (and-false (leb (count - 1) sent))
+
+      pub orphaned-here : count - 1 ≤ sent → (received ≡ 0 → ⊥) → orphaned T (messageOf T k) ≡ true
+      orphaned-here b d = orphaned-is ∙ rw (← read-received, le-leb (count - 1) sent b, lt-ltb 0 received (omega arith))
+
+-- ---- the line of one process
+pub holder-ceiling : (bytes : List ℕ) → tableRefusal bytes ≡ 0 → (k : ℕ) → propagatesFrom (decode bytes) k ≡ false
+    → ceilingOf (decode bytes) (member (2 ^ k)) ≡ lineOf (decode bytes) (member (2 ^ k))
+holder-ceiling bytes none k e =
+    sym (line-is-ceiling (decode bytes) (accepted bytes none .well-formed) (member (2 ^ k))
+    (λ p h. ap (propagatesFrom (decode bytes)) (eqb-true p k (sym (member-one k p) ∙ h)) ∙ e))
