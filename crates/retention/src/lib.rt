@@ -6,8 +6,8 @@ pub mod scratch;
 pub mod writer;
 pub mod writing;
 
-use lines::line_of_set;
-use process_set::bit;
+use lines::line_of_holder;
+use lines::propagation::propagating;
 use run_table::parts;
 ghost use mathlib.Core.Path.{_≡_};
 ghost use Prim.Native.Nat.{_+_, _*_, _≤_};
@@ -26,10 +26,11 @@ pub fn fill_lines(table: &[u8], scratch: &mut [u16])
     ensures { λ _. ⌜ now (scratch .exit) ≡ putAt (now (scratch .entry)) 0 (holderLines (decode (now (table .entry)))) ⌝ }
 {
     let n = parts::process_count(table);
+    let propagates = propagating(table);
     let mut at = 0;
     let mut k = 0;
     while k < n {
-        scratch::copy_line(line_of_set(table, bit(k)), n, scratch, at);
+        scratch::copy_line(line_of_holder(table, k, propagates[k]), n, scratch, at);
         at += n;
         k += 1;
     }
