@@ -1,5 +1,7 @@
 /* Plain C: passes over the messages from the last to the first, from the ceiling of each line down, until
-   a pass lowers nothing. */
+   a pass lowers nothing. The line of a single holder whose rollback does not propagate is its ceiling. */
+#include <stdbool.h>
+
 #include "table.h"
 
 #define EVERYONE 0xFFFFFFFFu
@@ -28,12 +30,33 @@ static inline size_t lower(uint16_t *line, struct parts t)
     return passes;
 }
 
-/* The line of a set of processes that hold. */
-static inline size_t line_of_set(uint16_t *line, struct parts t, uint32_t set)
+/* The ceiling of a set of processes that hold. */
+static inline void ceiling_of_set(uint16_t *line, struct parts t, uint32_t set)
 {
     for (size_t p = 0; p < t.n; p++)
         line[p] = (uint16_t)(u16_at(t.counts + 2 * p) - (set >> p & 1));
+}
+
+/* The line of such a set. */
+static inline size_t line_of_set(uint16_t *line, struct parts t, uint32_t set)
+{
+    ceiling_of_set(line, t, set);
     return lower(line, t);
+}
+
+/* Marks the processes whose rollback to their last state propagates: each that sent a message since then
+   which was received. */
+static inline void mark_propagating(bool *propagates, struct parts t)
+{
+    for (size_t k = 0; k < t.m; k++) {
+        uint16_t sender = u16_at(t.sends + 4 * k);
+        uint16_t last = (uint16_t)(u16_at(t.counts + 2 * sender) - 1);
+        if (u16_at(t.sends + 4 * k + 2) < last)
+            continue;
+        if (u16_at(t.receipts + 4 * k + 2) == 0)
+            continue;
+        propagates[sender] = true;
+    }
 }
 
 size_t plain_passes_of_recovery_line(const uint8_t *table)
@@ -126,9 +149,14 @@ static inline uint32_t do_keep_sheet(const uint8_t *table, uint16_t *scratch, si
     struct parts t = parts_of(table);
     if (numbers < t.n * t.n)
         return 15;
+    bool propagates[MOST_PROCESSES] = {false};
+    mark_propagating(propagates, t);
     for (size_t p = 0; p < t.n; p++) {
         uint16_t line[MOST_PROCESSES];
-        line_of_set(line, t, 1u << p);
+        if (propagates[p])
+            line_of_set(line, t, 1u << p);
+        else
+            ceiling_of_set(line, t, 1u << p);
         memcpy(scratch + t.n * p, line, 2 * t.n);
     }
     return put_sheet(t, scratch, answer, room, written);

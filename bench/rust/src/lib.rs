@@ -1,6 +1,7 @@
 //! The keeper's calls in plain Rust: passes over the messages from the last to
 //! the first, from the ceiling of each line down, after the same checks of the
-//! table as the archive's. Safe code but for the slices that the C names take.
+//! table as the archive's. The line of a single holder whose rollback does not
+//! propagate is its ceiling. Safe code but for the slices that the C names take.
 
 const MOST_PROCESSES: usize = 32;
 const MOST_MESSAGES: usize = 4096;
@@ -123,11 +124,28 @@ fn check(table: &[u8]) -> u32 {
     0
 }
 
-fn line_of_set(parts: &Parts, set: u32) -> Line {
+fn ceiling_of_set(parts: &Parts, set: u32) -> Line {
     let mut line = [0; MOST_PROCESSES];
     for (p, place) in line.iter_mut().enumerate().take(parts.n) {
         *place = parts.count(p) - (set >> p & 1) as u16;
     }
+    line
+}
+
+/// Whether a rollback of each process to its last state propagates: whether a
+/// message that it sent since then was received.
+fn propagating(parts: &Parts) -> [bool; MOST_PROCESSES] {
+    let mut propagates = [false; MOST_PROCESSES];
+    for ((sender, sent), (_, received)) in parts.messages() {
+        if sent >= parts.count(sender) - 1 && received != 0 {
+            propagates[sender] = true;
+        }
+    }
+    propagates
+}
+
+fn line_of_set(parts: &Parts, set: u32) -> Line {
+    let mut line = ceiling_of_set(parts, set);
     loop {
         let mut lowered = false;
         for ((sender, sent), (receiver, received)) in parts.messages().rev() {
@@ -285,8 +303,14 @@ fn keep_sheet(table: &[u8], scratch: &mut [u16], answer: &mut [u8], written: &mu
     if scratch.len() < n * n {
         return 15;
     }
+    let propagates = propagating(&parts);
     for (p, place) in scratch.chunks_exact_mut(n).take(n).enumerate() {
-        place.copy_from_slice(&line_of_set(&parts, 1 << p)[..n]);
+        let line = if propagates[p] {
+            line_of_set(&parts, 1 << p)
+        } else {
+            ceiling_of_set(&parts, 1 << p)
+        };
+        place.copy_from_slice(&line[..n]);
     }
     let lines = &scratch[..n * n];
     let lowest = lowest_line(lines, n);
