@@ -58,8 +58,8 @@ struct times {
     double median, least;
 };
 
-/* What a sheet's time is taken apart by, measured side by side: the checks, the recovery line, all lines of
-   single holders (each with its checks), and the sheet, of the archive, C and Rust. */
+/* What a sheet's time is taken apart by, measured side by side: the checks, the recovery line, the lines of
+   the single holders that take passes (each with its checks), and the sheet, of the archive, C and Rust. */
 enum {
     CHECK_OF_ARCHIVE, CHECK_OF_C, CHECK_OF_RUST, LINE_OF_ARCHIVE, LINE_OF_C, LINE_OF_RUST,
     LINES_OF_ARCHIVE, LINES_OF_C, SHEET_OF_ARCHIVE, SHEET_OF_C, PARTS
@@ -72,6 +72,8 @@ struct row {
     size_t length, shorter_length, n, m;
     uint16_t saver, list[MOST_MESSAGES];
     size_t entries;
+    bool propagates[MOST_PROCESSES];               /* the single holders whose lines take passes */
+    size_t propagating;
     size_t kept, logged, kept_before, logged_before;
     double passes_of_holders, passes_of_recovery;
     /* What is measured: numbers of one kind alone, so that they can be taken together one by one. */
@@ -148,6 +150,14 @@ static void read_table(struct row *row)
     row->shorter[3] = (uint8_t)((row->m - 1) >> 8);
     memcpy(row->shorter + receipts - 4, table + receipts, 4 * (row->m - 1));
     row->shorter_length = row->length - 8;
+    /* A rollback of a process propagates where a message that it sent since its last state was received. */
+    for (size_t k = 0; k < row->m; k++) {
+        uint16_t sender = number_at(table + sends + 4 * k);
+        if (number_at(table + sends + 4 * k + 2) + 1 == number_at(table + 4 + 2 * sender) && number_at(table + receipts + 4 * k + 2) != 0)
+            row->propagates[sender] = true;
+    }
+    for (size_t p = 0; p < row->n; p++)
+        row->propagating += row->propagates[p];
     /* For a save: the process that most messages wait for, and all of these. */
     size_t waiting[MOST_PROCESSES] = {0};
     for (size_t k = 0; k < row->m; k++)
@@ -297,11 +307,13 @@ static void run_part(void *context, int which)
     case LINE_OF_RUST: call(row, RUST, LINE_CALL); break;
     case LINES_OF_ARCHIVE:
         for (size_t p = 0; p < row->n; p++)
-            keeper_line_of_set(row->table, row->length, 1u << p, answer, sizeof answer, &written);
+            if (row->propagates[p])
+                keeper_line_of_set(row->table, row->length, 1u << p, answer, sizeof answer, &written);
         break;
     case LINES_OF_C:
         for (size_t p = 0; p < row->n; p++)
-            plain_line_of_set(row->table, row->length, 1u << p, answer, sizeof answer, &written);
+            if (row->propagates[p])
+                plain_line_of_set(row->table, row->length, 1u << p, answer, sizeof answer, &written);
         break;
     case SHEET_OF_ARCHIVE: call(row, ARCHIVE, SHEET_CALL); break;
     default: call(row, PLAIN, SHEET_CALL);
@@ -621,10 +633,10 @@ static double pass_cost(const struct row *row, int line, int check)
     return 1e9 * (row->here.part[line] - row->here.part[check]) / (row->passes_of_recovery * (double)row->m);
 }
 
-/* The time of all lines of single holders, and of a sheet without its checks and lines. */
+/* The time of the lines of single holders that take passes, and of a sheet without its checks and these. */
 static double lines_part(const struct row *row, bool archive)
 {
-    return row->here.part[archive ? LINES_OF_ARCHIVE : LINES_OF_C] - (double)row->n * row->here.part[archive ? CHECK_OF_ARCHIVE : CHECK_OF_C];
+    return row->here.part[archive ? LINES_OF_ARCHIVE : LINES_OF_C] - (double)row->propagating * row->here.part[archive ? CHECK_OF_ARCHIVE : CHECK_OF_C];
 }
 
 static double rest_part(const struct row *row, bool archive)
@@ -671,7 +683,7 @@ static double c_check_of_most(const struct row *row) { return row->m == MOST_MES
 static double send_of_most(const struct row *row) { return row->m == MOST_MESSAGES ? 1e6 * row->here.times[SEND_CALL][ARCHIVE].median : 0; }
 static double send_without_checks(const struct row *row) { return row->m == MOST_MESSAGES ? 1e6 * row->here.times[SEND_CALL][BARE].median : 0; }
 static double rest_ratio(const struct row *row) { return row->history ? rest_part(row, true) / rest_part(row, false) : 0; }
-static double lines_ratio(const struct row *row) { return row->history ? lines_part(row, true) / lines_part(row, false) : 0; }
+static double lines_ratio(const struct row *row) { return row->history && row->propagating > 0 ? lines_part(row, true) / lines_part(row, false) : 0; }
 static double rest_share(const struct row *row) { return row->history ? 100 * rest_part(row, true) / row->here.part[SHEET_OF_ARCHIVE] : 0; }
 static double pass_of_archive(const struct row *row) { return pass_cost(row, LINE_OF_ARCHIVE, CHECK_OF_ARCHIVE); }
 static double pass_of_c(const struct row *row) { return pass_cost(row, LINE_OF_C, CHECK_OF_C); }
