@@ -10,6 +10,7 @@ use lib.ListN.{getD, length}
 use denote.Ref.{now}
 use Rattle.retention.proofs.ScratchLaws.{Lined, lined-none, lined-length, lined-room, lined-more, lined-all}
 use Rattle.retention.proofs.SheetLaws.{holder-length, holder-numbers, lines-fit}
+use Rattle.consistency.specs.Ceilings.{propagatesFrom}
 use Rattle.futures.specs.Sheet.{holderLine, rows}
 use Rattle.retention.specs.Lines.{holderLines}
 use Rattle.run_table.proofs.NumberLaws.{getD-tabulate}
@@ -33,6 +34,10 @@ size c = c .before .before .process-count .ensures ∙ sym (holder-length _ _)
 small : (c : tie.In-loop Inv-loop μ-loop) → c .before .loop .k < 32
 small c = omega (arith, processes-few _ (c .before .before .before .before .before .before .pre .0), c .before .before .before .process-count .ensures, c .loop-test .taken)
 
+-- what the code found of a rollback of each
+found : (c : tie.In-loop Inv-loop μ-loop) (k : ℕ) → k < 32 → getD (c .before .before .propagating .result) k false ≡ propagatesFrom (decode (now (c .before .before .before .before .before .before .args .table))) k
+found c k l = ap (λ (marks : List Bool). getD marks k false) (c .before .before .propagating .ensures) ∙ getD-tabulate 32 _ k _ l
+
 process-count-requires : tie.Need-process-count-requires Inv-loop μ-loop
 process-count-requires c κs = search needs
 
@@ -43,13 +48,10 @@ loop-holds : tie.Need-loop-holds Inv-loop μ-loop
 loop-holds c = lined-none _ _ _ (lines-fit _ _ (now (c .before .before .before .before .args .scratch)) (c .before .process-count .ensures) (c .before .before .before .before .pre .1))
 
 array-read-line-of-holder : tie.Need-array-read-line-of-holder Inv-loop μ-loop
-array-read-line-of-holder c = small c
+array-read-line-of-holder c = omega (arith, small c)
 
 line-of-holder-requires : tie.Need-line-of-holder-requires Inv-loop μ-loop
-line-of-holder-requires c κs = (
-  c .before .before .before .before .before .before .pre .0,
-  (small c, ap (λ (l : List Bool). getD l (c .before .loop .k) false) (c .before .before .propagating .ensures) ∙ getD-tabulate 32 _ _ _ (small c)),
-)
+line-of-holder-requires c κs = (c .before .before .before .before .before .before .pre .0, (omega (arith, small c), found c _ (omega (arith, small c))))
 
 copy-line-requires : tie.Need-copy-line-requires Inv-loop μ-loop
 copy-line-requires c κs =
