@@ -22,12 +22,12 @@ use Rattle.process_set.proofs.SetLaws.{member-one}
 use Rattle.process_set.specs.Sets.{member}
 use Rattle.run_table.proofs.AcceptLaws.{accepted}
 use Rattle.run_table.proofs.NumberLaws.{anyBelow-found, tabulate-ext}
-use Rattle.run_table.proofs.ReadLaws.{count-is, counts-size, message-good, message-is, receipts-size, sends-size}
+use Rattle.run_table.proofs.ReadLaws.{count-is, counts-size, message-good, received-read, receipts-size, sender-read, sends-size, sent-read}
 use Rattle.run_table.specs.Checks.{tableRefusal}
-use Rattle.run_table.specs.Format.{checkpointAt, countAt, countsPart, decode, messageAt, processAt, receiptsPart, sendsPart}
+use Rattle.run_table.specs.Format.{countAt, countsPart, decode, receiptsPart, sendsPart}
 use Rattle.run_table.specs.Numbers.{tabulate, u16At}
 use Rattle.run_table.specs.Parts.{anyBelow}
-use Rattle.run_table.specs.Table.{Message, Table, countOf, messageCount, messageOf, processCount}
+use Rattle.run_table.specs.Table.{Table, countOf, messageCount, messageOf, processCount}
 
 -- one entry of a list that is given by its entries
 set-tabulate : {A : Type 0} (n : ℕ) (f g : ℕ → A) (i : ℕ) (v : A) → i < n → v ≡ g i → ((p : ℕ) → (p ≡ i → ⊥) → f p ≡ g p) → set (tabulate n f) i v ≡ tabulate n g
@@ -101,12 +101,8 @@ module _ {bytes counts sends receipts : List ℕ} (parts : Parts bytes counts se
   abbrev T : Table
   T = decode bytes
 
-  message-here : messageAt sends receipts k ≡ messageOf T k
-  message-here = rw (parts .read-s, parts .read-r) (message-is bytes (parts .none) k l)
-
   pub sender-is : sender ≡ messageOf T k .sender
-  unfolding messageAt processAt
-  sender-is = read-sender ∙ ap (λ (m : Message). m .sender) message-here
+  sender-is = sender-read bytes (parts .none) k l sends sender (parts .read-s) read-sender
 
   pub sender-known : sender < processCount T
   sender-known = omega (arith, sender-is, message-good bytes (parts .none) k l .sender-known)
@@ -119,19 +115,23 @@ module _ {bytes counts sends receipts : List ℕ} (parts : Parts bytes counts se
     pub count-positive : 0 < count
     count-positive = omega (arith, count-of, accepted bytes (parts .none) .well-formed .some-checkpoint sender sender-known)
 
-    orphaned-is : orphaned T (messageOf T k) ≡ (leb (count - 1) sent && ltb 0 (u16At receipts (4 * k + 2)))
-    unfolding orphaned messageAt processAt checkpointAt
-    orphaned-is = ap (orphaned T) (sym message-here) ∙ rw (← read-sender, ← read-sent, ← count-of)
+    -- with the receipt number, as it was read or is in the part
+    orphaned-is : (received : ℕ) → received ≡ u16At receipts (4 * k + 2) → orphaned T (messageOf T k) ≡ (leb (count - 1) sent && ltb 0 received)
+    unfolding orphaned
+    orphaned-is received e =
+        let r = received-read bytes (parts .none) k l receipts received (parts .read-r) e in
+        let y = sent-read bytes (parts .none) k l sends sent (parts .read-s) read-sent in
+        rw (← r, ← y, ← sender-is, ← count-of)
 
     pub sent-before : sent < count - 1 → orphaned T (messageOf T k) ≡ false
-    sent-before b = orphaned-is ∙ rw (lt-leb (count - 1) sent b)
+    sent-before b = orphaned-is _ refl ∙ rw (lt-leb (count - 1) sent b)
 
     module _ {received : ℕ} (read-received : received ≡ u16At receipts (4 * k + 2)) where
       pub undelivered : received ≡ 0 → orphaned T (messageOf T k) ≡ false
-      undelivered e = orphaned-is ∙ rw (← read-received, e) (and-false (leb (count - 1) sent))
+      undelivered e = orphaned-is received read-received ∙ rw e (and-false (leb (count - 1) sent))
 
       pub orphaned-here : count - 1 ≤ sent → (received ≡ 0 → ⊥) → orphaned T (messageOf T k) ≡ true
-      orphaned-here b d = orphaned-is ∙ rw (← read-received, le-leb (count - 1) sent b, lt-ltb 0 received (omega arith))
+      orphaned-here b d = orphaned-is received read-received ∙ rw (le-leb (count - 1) sent b, lt-ltb 0 received (omega arith))
 
 -- ---- the line of one process
 pub holder-ceiling : (bytes : List ℕ) → tableRefusal bytes ≡ 0 → (k : ℕ) → propagatesFrom (decode bytes) k ≡ false

@@ -4,17 +4,19 @@
 --     counts-size, sends-size, receipts-size   the lengths of its parts
 --     count-is, counts-positive, counts-small  its counts, as the parts have them
 --     message-is, senders-known, receivers-known   its messages, as the parts have them
+--     sender-read .. received-read             the numbers of a message, as the code read them
 --     counts-taken, sends-taken, receipts-taken    the parts, taken from a start to an end
 -- Assumes nothing.
 use mathlib.Core.List.{List}
-use mathlib.Core.Path.{_≡_, sym, ap, ap₂}
+use mathlib.Core.Path.{_≡_, sym, ap, ap₂, _∙_}
 use Prim.Native.Nat.{ℕ, _+_, _-_, _*_, _<_, _≤_}
 use native.Mathlib.Omega.{arith}
 use lib.ListN.{length, take, drop}
 use Rattle.run_table.proofs.AcceptLaws.{accepted}
 use Rattle.run_table.proofs.FormatLaws.{counts-length, decode-count, decode-message, decode-messages, decode-processes, receipts-length, sends-length}
 use Rattle.run_table.specs.Checks.{GoodMessage, tableRefusal}
-use Rattle.run_table.specs.Format.{countAt, countsPart, decode, messageAt, messagesIn, processAt, processesIn, receiptsPart, sendsPart, tableLength}
+use Rattle.run_table.specs.Format.{checkpointAt, countAt, countsPart, decode, messageAt, messagesIn, processAt, processesIn, receiptsPart, sendsPart, tableLength}
+use Rattle.run_table.specs.Numbers.{u16At}
 use Rattle.run_table.specs.Table.{Message, countOf, messageCount, messageOf, processCount}
 
 module _ (bytes : List ℕ) (none : tableRefusal bytes ≡ 0) where
@@ -98,3 +100,21 @@ module _ (bytes : List ℕ) (none : tableRefusal bytes ≡ 0) where
     pub receivers-known : processAt (receiptsPart bytes) k < N
     unfolding messageAt
     receivers-known = omega (arith, message-good .receiver-known, ap (λ (x : Message). x .receiver) message-is)
+
+    -- the number v that the code read of its entry in a part
+    module _ (part : List ℕ) (v : ℕ) where
+      pub sender-read : part ≡ sendsPart bytes → v ≡ u16At part (4 * k) → v ≡ messageOf (decode bytes) k .sender
+      unfolding messageAt processAt
+      sender-read is e = e ∙ ap (λ (s : List ℕ). u16At s (4 * k)) is ∙ ap (λ (x : Message). x .sender) message-is
+
+      pub sent-read : part ≡ sendsPart bytes → v ≡ u16At part (4 * k + 2) → v ≡ messageOf (decode bytes) k .sent
+      unfolding messageAt checkpointAt
+      sent-read is e = e ∙ ap (λ (s : List ℕ). u16At s (4 * k + 2)) is ∙ ap (λ (x : Message). x .sent) message-is
+
+      pub receiver-read : part ≡ receiptsPart bytes → v ≡ u16At part (4 * k) → v ≡ messageOf (decode bytes) k .receiver
+      unfolding messageAt processAt
+      receiver-read is e = e ∙ ap (λ (s : List ℕ). u16At s (4 * k)) is ∙ ap (λ (x : Message). x .receiver) message-is
+
+      pub received-read : part ≡ receiptsPart bytes → v ≡ u16At part (4 * k + 2) → v ≡ messageOf (decode bytes) k .received
+      unfolding messageAt checkpointAt
+      received-read is e = e ∙ ap (λ (s : List ℕ). u16At s (4 * k + 2)) is ∙ ap (λ (x : Message). x .received) message-is

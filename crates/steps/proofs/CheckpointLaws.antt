@@ -18,9 +18,9 @@ use Rattle.futures.proofs.StepLaws.{checkpoint-messages, checkpoint-processes, 
 use Rattle.futures.specs.Steps.{afterCheckpoint, receivedAt}
 use Rattle.run_table.proofs.CodingLaws.{entries-append, entries-tabulate, even-number, odd-number}
 use Rattle.run_table.proofs.NumberLaws.{getD-tabulate, length-tabulate, tabulate-more}
-use Rattle.run_table.proofs.ReadLaws.{count-is, message-is}
+use Rattle.run_table.proofs.ReadLaws.{count-is, received-read, receiver-read, sender-read, sent-read}
 use Rattle.run_table.specs.Checks.{tableRefusal}
-use Rattle.run_table.specs.Format.{checkpointAt, countsPart, decode, encode, entriesOf, messageAt, processAt, receiptsOf, receiptsPart, sendsOf, sendsPart}
+use Rattle.run_table.specs.Format.{checkpointAt, countsPart, decode, encode, entriesOf, processAt, receiptsOf, receiptsPart, sendsOf, sendsPart}
 use Rattle.run_table.specs.Numbers.{any, putAt, tabulate, u16At, u16s}
 use Rattle.run_table.specs.Table.{Message, Table, countOf, messageCount, processCount}
 use Rattle.steps.proofs.PutLaws.{head-put, table-put}
@@ -51,40 +51,38 @@ module _ (bytes : List ℕ) (none : tableRefusal bytes ≡ 0) (i : ℕ) (list : 
       count-at p below (ℕ-discrete p i) ∙ sym (getD-tabulate n (raisedCount (countsPart bytes) i) p 0 (omega arith))))
 
   -- the sends
-  sender-read : (k : ℕ) → k < messageCount t → receivedAt t i list k .sender ≡ u16At (sendsPart bytes) (4 * k)
-  unfolding messageAt processAt
-  sender-read k l = receivedAt-sender t i list k ∙ ap (λ (m : Message). m .sender) (sym (message-is bytes none k l))
+  sender-kept : (k : ℕ) → k < messageCount t → receivedAt t i list k .sender ≡ u16At (sendsPart bytes) (4 * k)
+  sender-kept k l = receivedAt-sender t i list k ∙ sym (sender-read bytes none k l (sendsPart bytes) _ refl refl)
 
-  sent-read : (k : ℕ) → k < messageCount t → receivedAt t i list k .sent ≡ u16At (sendsPart bytes) (4 * k + 2)
-  unfolding messageAt checkpointAt
-  sent-read k l = receivedAt-sent t i list k ∙ ap (λ (m : Message). m .sent) (sym (message-is bytes none k l))
+  sent-kept : (k : ℕ) → k < messageCount t → receivedAt t i list k .sent ≡ u16At (sendsPart bytes) (4 * k + 2)
+  sent-kept k l = receivedAt-sent t i list k ∙ sym (sent-read bytes none k l (sendsPart bytes) _ refl refl)
 
   sends-kept : (m : ℕ) → m ≡ messageCount t → tabulate (2 * m) (λ e. u16At (sendsPart bytes) (2 * e)) ≡ sendsOf (after .messages)
   unfolding afterCheckpoint
   sends-kept m e =
       sym (entries-tabulate (λ x. x .sender) (λ x. x .sent) (messageCount t) (receivedAt t i list) (λ j. u16At (sendsPart bytes) (2 * j))
-      (λ k l. sender-read k l ∙ even-number (sendsPart bytes) k) (λ k l. sent-read k l ∙ odd-number (sendsPart bytes) k)
+      (λ k l. sender-kept k l ∙ even-number (sendsPart bytes) k) (λ k l. sent-kept k l ∙ odd-number (sendsPart bytes) k)
       ∙ ap (λ (x : ℕ). tabulate (2 * x) (λ j. u16At (sendsPart bytes) (2 * j))) (sym e))
 
   -- the receipts
-  receiver-read : (k : ℕ) → k < messageCount t → processAt (receiptsPart bytes) k ≡ receivedAt t i list k .receiver
-  unfolding messageAt
-  receiver-read k l = ap (λ (m : Message). m .receiver) (message-is bytes none k l) ∙ sym (receivedAt-receiver t i list k)
+  receiver-kept : (k : ℕ) → k < messageCount t → processAt (receiptsPart bytes) k ≡ receivedAt t i list k .receiver
+  unfolding processAt
+  receiver-kept k l = receiver-read bytes none k l (receiptsPart bytes) _ refl refl ∙ sym (receivedAt-receiver t i list k)
 
-  received-read : (k : ℕ) → k < messageCount t → newReceipt (receiptsPart bytes) list (countOf t i) k ≡ receivedAt t i list k .received
-  unfolding newReceipt messageAt
-  received-read k l = go (any (eqb k) list) refl
+  received-new : (k : ℕ) → k < messageCount t → newReceipt (receiptsPart bytes) list (countOf t i) k ≡ receivedAt t i list k .received
+  unfolding newReceipt checkpointAt
+  received-new k l = go (any (eqb k) list) refl
     where
       go : (b : Bool) → any (eqb k) list ≡ b → cond b (countOf t i) (checkpointAt (receiptsPart bytes) k) ≡ receivedAt t i list k .received
       go true e = sym (ap (λ (m : Message). m .received) (receivedAt-listed t i list k e))
-      go false e = ap (λ (m : Message). m .received) (message-is bytes none k l) ∙ sym (ap (λ (m : Message). m .received) (receivedAt-unlisted t i list k e))
+      go false e = received-read bytes none k l (receiptsPart bytes) _ refl refl ∙ sym (ap (λ (m : Message). m .received) (receivedAt-unlisted t i list k e))
 
   receipts-upto : (k : ℕ) → k ≤ messageCount t → receiptNumbers k (receiptsPart bytes) list (countOf t i) ≡ receiptsOf (tabulate k (receivedAt t i list))
   unfolding receiptNumbers tabulate entriesOf
   receipts-upto zero l = refl
   receipts-upto (suc k) l =
-      ap₂ (λ (a : List ℕ) (x : ℕ). a ++ (x ∷ newReceipt (receiptsPart bytes) list (countOf t i) k ∷ [])) (receipts-upto k (omega arith)) (receiver-read k l)
-      ∙ ap (λ (y : ℕ). receiptsOf (tabulate k (receivedAt t i list)) ++ (receivedAt t i list k .receiver ∷ y ∷ [])) (received-read k l)
+      ap₂ (λ (a : List ℕ) (x : ℕ). a ++ (x ∷ newReceipt (receiptsPart bytes) list (countOf t i) k ∷ [])) (receipts-upto k (omega arith)) (receiver-kept k l)
+      ∙ ap (λ (y : ℕ). receiptsOf (tabulate k (receivedAt t i list)) ++ (receivedAt t i list k .receiver ∷ y ∷ [])) (received-new k l)
       ∙ sym (entries-append (λ x. x .receiver) (λ x. x .received) (tabulate k (receivedAt t i list)) (receivedAt t i list k ∷ []))
       ∙ ap receiptsOf (sym (tabulate-more k (receivedAt t i list)) ∙ ap (λ (j : ℕ). tabulate j (receivedAt t i list)) (add-one k))
 

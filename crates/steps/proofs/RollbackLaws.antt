@@ -29,9 +29,9 @@ use Rattle.run_table.proofs.AcceptLaws.{accepted}
 use Rattle.run_table.proofs.CodingLaws.{entries-append}
 use Rattle.run_table.proofs.FormatLaws.{length-entries}
 use Rattle.run_table.proofs.NumberLaws.{length-putAt, length-u16s, putAt-none, tabulate-ext, tabulate-getD, u16s-append}
-use Rattle.run_table.proofs.ReadLaws.{message-is, processes-few, receipts-size, sends-size}
+use Rattle.run_table.proofs.ReadLaws.{message-good, processes-few, received-read, receiver-read, receipts-size, sender-read, sends-size, sent-read}
 use Rattle.run_table.specs.Checks.{tableRefusal}
-use Rattle.run_table.specs.Format.{checkpointAt, decode, entriesOf, messageAt, processAt, receiptsOf, receiptsPart, sendsOf, sendsPart}
+use Rattle.run_table.specs.Format.{decode, entriesOf, receiptsOf, receiptsPart, sendsOf, sendsPart}
 use Rattle.run_table.specs.Numbers.{putAt, tabulate, u16At, u16s}
 use Rattle.run_table.specs.Table.{Message, Table, countOf, messageCount, messageOf, noMessage, processCount}
 use Rattle.steps.proofs.PlaceLaws.{both-more}
@@ -206,43 +206,25 @@ module _ (bytes : List ℕ) (none : tableRefusal bytes ≡ 0) where
       send-within = rw read (omega (arith, sends-size bytes none))
 
       module _ (v : ℕ) (e : v ≡ u16At part (4 * k)) where
-        sender-is : v ≡ messageOf t k .sender
-        unfolding messageAt processAt
-        sender-is = e ∙ ap (λ (s : List ℕ). u16At s (4 * k)) read ∙ ap (λ (m : Message). m .sender) (message-is bytes none k h)
-
         pub sender-small : v < 32
-        sender-small = omega (arith, sender-is, accepted bytes none .well-formed .good-messages k h .sender-known, processes-few bytes none)
+        sender-small = omega (arith, sender-read bytes none k h part v read e, message-good bytes none k h .sender-known, processes-few bytes none)
 
         pub sender-left : v ≡ putBack (recoveryLine t) (messageOf t k) .sender
-        sender-left = sender-is ∙ sym (putBack-sender (recoveryLine t) (messageOf t k))
+        sender-left = sender-read bytes none k h part v read e ∙ sym (putBack-sender (recoveryLine t) (messageOf t k))
 
-      module _ (v : ℕ) (e : v ≡ u16At part (4 * k + 2)) where
-        sent-is : v ≡ messageOf t k .sent
-        unfolding messageAt checkpointAt
-        sent-is = e ∙ ap (λ (s : List ℕ). u16At s (4 * k + 2)) read ∙ ap (λ (m : Message). m .sent) (message-is bytes none k h)
-
-        pub sent-left : v ≡ putBack (recoveryLine t) (messageOf t k) .sent
-        sent-left = sent-is ∙ sym (putBack-sent (recoveryLine t) (messageOf t k))
+      pub sent-left : (v : ℕ) → v ≡ u16At part (4 * k + 2) → v ≡ putBack (recoveryLine t) (messageOf t k) .sent
+      sent-left v e = sent-read bytes none k h part v read e ∙ sym (putBack-sent (recoveryLine t) (messageOf t k))
 
     module _ (read : part ≡ receiptsPart bytes) where
       pub receipt-within : 4 * k + 3 < length part
       receipt-within = rw read (omega (arith, receipts-size bytes none))
 
       module _ (v : ℕ) (e : v ≡ u16At part (4 * k)) where
-        receiver-is : v ≡ messageOf t k .receiver
-        unfolding messageAt processAt
-        receiver-is = e ∙ ap (λ (s : List ℕ). u16At s (4 * k)) read ∙ ap (λ (m : Message). m .receiver) (message-is bytes none k h)
-
         pub receiver-small : v < 32
-        receiver-small = omega (arith, receiver-is, accepted bytes none .well-formed .good-messages k h .receiver-known, processes-few bytes none)
+        receiver-small = omega (arith, receiver-read bytes none k h part v read e, message-good bytes none k h .receiver-known, processes-few bytes none)
 
         pub receiver-left : v ≡ putBack (recoveryLine t) (messageOf t k) .receiver
-        receiver-left = receiver-is ∙ sym (putBack-receiver (recoveryLine t) (messageOf t k))
-
-      module _ (v : ℕ) (e : v ≡ u16At part (4 * k + 2)) where
-        received-is : v ≡ messageOf t k .received
-        unfolding messageAt checkpointAt
-        received-is = e ∙ ap (λ (s : List ℕ). u16At s (4 * k + 2)) read ∙ ap (λ (m : Message). m .received) (message-is bytes none k h)
+        receiver-left = receiver-read bytes none k h part v read e ∙ sym (putBack-receiver (recoveryLine t) (messageOf t k))
 
   -- beside the line
   module _ (line : List ℕ) (same : line ≡ arrayOf (recoveryLine t)) where
@@ -263,7 +245,7 @@ module _ (bytes : List ℕ) (none : tableRefusal bytes ≡ 0) where
       module _ (read : part ≡ sendsPart bytes) where
         stays-read : ltb c (getD line p 0) ≡ stays (recoveryLine t) (messageOf t k)
         unfolding stays
-        stays-read = ap₂ ltb (sent-is part k h read c read-c) (line-at p ∙ ap (at (recoveryLine t)) (sender-is part k h read p read-p))
+        stays-read = ap₂ ltb (sent-read bytes none k h part c read read-c) (line-at p ∙ ap (at (recoveryLine t)) (sender-read bytes none k h part p read read-p))
 
         pub found-staying : c < getD line p 0 → stays (recoveryLine t) (messageOf t k) ≡ true
         found-staying l = sym stays-read ∙ lt-ltb c (getD line p 0) l
@@ -274,7 +256,7 @@ module _ (bytes : List ℕ) (none : tableRefusal bytes ≡ 0) where
       pub received-left : part ≡ receiptsPart bytes → (v : ℕ) → v ≡ receiptLeft (getD line p 0) c → v ≡ putBack (recoveryLine t) (messageOf t k) .received
       unfolding putBack receiptLeft
       received-left read v is =
-          is ∙ ap₂ (λ (a b : ℕ). cond (ltb a b) 0 b) (line-at p ∙ ap (at (recoveryLine t)) (receiver-is part k h read p read-p)) (received-is part k h read c read-c)
+          is ∙ ap₂ (λ (a b : ℕ). cond (ltb a b) 0 b) (line-at p ∙ ap (at (recoveryLine t)) (receiver-read bytes none k h part p read read-p)) (received-read bytes none k h part c read read-c)
           ∙ go (ltb (at (recoveryLine t) (here .receiver)) (here .received))
         where
           here : Message

@@ -20,11 +20,11 @@ use Rattle.futures.proofs.StepLaws.{Waiting, good-position, rising, waiting-pos
 use Rattle.futures.specs.Steps.{badPosition, follows, notRising}
 use Rattle.run_table.proofs.CodingLaws.{even-number, odd-number}
 use Rattle.run_table.proofs.NumberLaws.{any-none, any-some, none-of, tabulate-more}
-use Rattle.run_table.proofs.ReadLaws.{message-is}
+use Rattle.run_table.proofs.ReadLaws.{received-read, receiver-read}
 use Rattle.run_table.specs.Checks.{tableRefusal}
-use Rattle.run_table.specs.Format.{checkpointAt, decode, messageAt, processAt, receiptsPart}
+use Rattle.run_table.specs.Format.{checkpointAt, decode, processAt, receiptsPart}
 use Rattle.run_table.specs.Numbers.{any, putAt, tabulate, u16At, u16Bytes, u16s}
-use Rattle.run_table.specs.Table.{Message, Table, messageCount, messageOf}
+use Rattle.run_table.specs.Table.{Table, messageCount}
 use Rattle.steps.proofs.PlaceLaws.{number-within}
 use Rattle.steps.specs.Saving.{newReceipt, receiptNumbers}
 
@@ -90,23 +90,19 @@ module _ (bytes : List ℕ) (none : tableRefusal bytes ≡ 0) (i k : ℕ) where
   bad-beyond l = is-bad t i k (λ w. omega (arith, w .a-message))
 
   module _ (l : k < messageCount t) (receipts : List ℕ) (is-r : receipts ≡ receiptsPart bytes) where
-    receiver-is : messageOf t k .receiver ≡ u16At receipts (4 * k)
-    unfolding messageAt processAt
-    receiver-is = ap (λ (m : Message). m .receiver) (sym (message-is bytes none k l)) ∙ ap (λ (p : List ℕ). u16At p (4 * k)) (sym is-r)
-
-    received-is : messageOf t k .received ≡ u16At receipts (4 * k + 2)
-    unfolding messageAt checkpointAt
-    received-is = ap (λ (m : Message). m .received) (sym (message-is bytes none k l)) ∙ ap (λ (p : List ℕ). u16At p (4 * k + 2)) (sym is-r)
-
     pub bad-receiver : (r : ℕ) → r ≡ u16At receipts (4 * k) → (r ≡ i → ⊥) → badPosition t i k ≡ true
-    bad-receiver r read other = is-bad t i k (λ w. other (read ∙ sym receiver-is ∙ w .to-process))
+    bad-receiver r read other = is-bad t i k (λ w. other (receiver-read bytes none k l receipts r is-r read ∙ w .to-process))
 
     pub bad-received : (r : ℕ) → r ≡ u16At receipts (4 * k + 2) → (r ≡ 0 → ⊥) → badPosition t i k ≡ true
-    bad-received r read delivered = is-bad t i k (λ w. delivered (read ∙ sym received-is ∙ w .undelivered))
+    bad-received r read delivered = is-bad t i k (λ w. delivered (received-read bytes none k l receipts r is-r read ∙ w .undelivered))
 
     pub good-here : (r s : ℕ) → r ≡ u16At receipts (4 * k) → s ≡ u16At receipts (4 * k + 2) → r ≡ i → s ≡ 0 → badPosition t i k ≡ false
     good-here r s read read′ same zero-is =
-        waiting-position t i k (record { a-message = l; to-process = receiver-is ∙ sym read ∙ same; undelivered = received-is ∙ sym read′ ∙ zero-is })
+        waiting-position t i k (record {
+          a-message = l;
+          to-process = sym (receiver-read bytes none k l receipts r is-r read) ∙ same;
+          undelivered = sym (received-read bytes none k l receipts s is-r read′) ∙ zero-is;
+        })
 
 -- ---- a loop over the listed positions, which writes their receipts
 -- a listed position, and any other
