@@ -166,7 +166,7 @@ static inline int is_kept(const uint16_t *lines, const uint16_t *lowest, struct 
     const uint16_t *of_sender = lines + u16_at(t.sends + 4 * k);
     const uint16_t *of_receiver = lines + u16_at(t.receipts + 4 * k);
     for (size_t l = 0; l < t.n; l++)
-        if (sent < of_sender[t.n * l] && of_receiver[t.n * l] < received)
+        if (of_receiver[t.n * l] < received && sent < of_sender[t.n * l])
             return 1;
     return 0;
 }

@@ -315,7 +315,7 @@ fn keep_sheet(table: &[u8], scratch: &mut [u16], answer: &mut [u8], written: &mu
     let lines = &scratch[..n * n];
     let lowest = lowest_line(lines, n);
     let is_kept = |((j, y), (i, r)): ((usize, u16), (usize, u16))| {
-        r == 0 || r > lowest[i] && lines.chunks_exact(n).any(|line| y < line[j] && line[i] < r)
+        r == 0 || r > lowest[i] && lines.chunks_exact(n).any(|line| line[i] < r && y < line[j])
     };
     let kept: usize = (0..n)
         .map(|i| kept_states(lines, n, i, parts.count(i)).count())

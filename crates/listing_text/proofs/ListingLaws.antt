@@ -32,10 +32,10 @@ use Rattle.listing_text.proofs.TextLaws.{Parts, each-rows, overlay-fron
 use Rattle.listing_text.specs.Listing.{checkpointRow, holdRow, lineRow, listing, listingAnswer, listingOf, listingUnless, messageRow, refusedRow, share, shareRow}
 use Rattle.listing_text.specs.Rows.{Answered, checkpointAt, checkpointRows, holdRows, lineAt, messageRows}
 use Rattle.listing_text.specs.Text.{Laid, each, overlay}
-use Rattle.retention.proofs.ListLaws.{rows-ext}
+use Rattle.kept.proofs.ListLaws.{rows-ext}
 use Rattle.retention.proofs.SheetLaws.{entry-is, holder-length, kept-few, lines-length, lines-stand, sheet-length}
 use Rattle.retention.specs.Lines.{holderLines}
-use Rattle.retention.specs.Scratch.{entryAt}
+use Rattle.kept.specs.Scratch.{entryAt}
 use Rattle.run_table.proofs.AcceptLaws.{accepted}
 use Rattle.run_table.proofs.CheckLaws.{areRefusals, clear, passed, stopped}
 use Rattle.run_table.proofs.NumberLaws.{tabulate-ext, tabulate-getD}

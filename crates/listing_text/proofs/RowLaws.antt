@@ -12,7 +12,7 @@ use lib.ListN.{take, drop}
 use Rattle.consistency.specs.Lowering.{sum}
 use Rattle.listing_text.specs.Listing.{checkpointRow}
 use Rattle.listing_text.specs.Rows.{checkpointAt, lineAt}
-use Rattle.retention.proofs.ScratchLaws.{cell-below}
+use Rattle.kept.proofs.ScratchLaws.{cell-below}
 use Rattle.run_table.proofs.NumberLaws.{tabulate-getD, tabulate-more}
 use Rattle.run_table.specs.Numbers.{tabulate, u16At}
 use Rattle.run_table.specs.Table.{Table, countOf, processCount}

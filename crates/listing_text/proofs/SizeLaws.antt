@@ -19,7 +19,7 @@ use Rattle.listing_text.proofs.ListingLaws.{share-fits}
 use Rattle.listing_text.proofs.TextLaws.{decimal-few, each-rows, tens}
 use Rattle.listing_text.specs.Listing.{checkpointRow, holdRow, lineRow, listing, listingOf, listingUnless, messageRow, refusedRow, share, shareRow}
 use Rattle.listing_text.specs.Text.{each, field, row}
-use Rattle.retention.proofs.ListLaws.{rows-most}
+use Rattle.kept.proofs.ListLaws.{rows-most}
 use Rattle.retention.proofs.SheetLaws.{kept-few}
 use Rattle.run_table.proofs.AcceptLaws.{accepted}
 use Rattle.run_table.proofs.ReadLaws.{messages-few, processes-few}

@@ -18,7 +18,7 @@ use lib.Dec.{ltb}
 use lib.ListN.{length, drop, getD, set, length-append}
 use Rattle.futures.specs.Sheet.{rows}
 use Rattle.listing_text.specs.Text.{Laid, decimal, digits, each, field, overlay, row}
-use Rattle.retention.proofs.ListLaws.{rows-more, rows-room}
+use Rattle.kept.proofs.ListLaws.{rows-more, rows-room}
 
 overlay-length : (b : List ℕ) (at : ℕ) (xs : List ℕ) → length (overlay b at xs) ≡ length b
 unfolding overlay

@@ -13,7 +13,7 @@ use lib.Dec.{eqb, ltb}
 use lib.ListN.{length, length-append, length-map}
 use Rattle.consistency.specs.Lines.{at}
 use Rattle.futures.specs.Sheet.{Kept, holderLine, keepsCheckpoint, keptCheckpoints, select}
-use Rattle.retention.proofs.ListLaws.{rows-most}
+use Rattle.kept.proofs.ListLaws.{rows-most}
 use Rattle.run_table.specs.Parts.{anyBelow}
 use Rattle.run_table.specs.Table.{Table, countOf, processCount}
 

@@ -26,11 +26,11 @@ use Rattle.lines.specs.Arrays.{arrayOf}
 use Rattle.process_set.proofs.SetLaws.{member-one}
 use Rattle.process_set.specs.Sets.{member}
 use Rattle.retention.proofs.FewLaws.{checkpoints-few}
-use Rattle.retention.proofs.ListLaws.{map-rows, rows-at, rows-ext, rows-length, select-ext, select-small}
-use Rattle.retention.proofs.ScratchLaws.{cell-below}
+use Rattle.kept.proofs.ListLaws.{map-rows, rows-at, rows-ext, rows-length, select-ext, select-small}
+use Rattle.kept.proofs.ScratchLaws.{cell-below}
 use Rattle.retention.proofs.WritingLaws.{room-checkpoints, room-positions, sheet-put}
 use Rattle.retention.specs.Lines.{holderLines}
-use Rattle.retention.specs.Scratch.{checkpointsAt, checkpointsOf, columnAt, columnOf, crossesLine, entryAt, isKept, positionsOf, shows, statesOf}
+use Rattle.kept.specs.Scratch.{checkpointsAt, checkpointsOf, columnAt, columnOf, crossesLine, entryAt, isKept, positionsOf, shows, statesOf}
 use Rattle.retention.specs.Writing.{Put}
 use Rattle.run_table.proofs.NumberLaws.{anyBelow-ext, length-u16s, tabulate-ext}
 use Rattle.run_table.proofs.ReadLaws.{count-is, counts-size, message-good, message-is, messages-few, processes-few, receipts-size, receivers-known, senders-known, sends-size}

@@ -17,9 +17,9 @@ use native.Mathlib.Omega.{arith}
 use lib.Dec.{lit<}
 use lib.ListN.{length, length-append, length-map}
 use Rattle.futures.specs.Sheet.{rows, select}
-use Rattle.retention.proofs.ListLaws.{map-append, rows-more, rows-room, select-more, select-room, select-skip}
-use Rattle.retention.proofs.ScratchLaws.{Standing, select-first, select-next, stands}
-use Rattle.retention.specs.Scratch.{First, columnAt, statesOf}
+use Rattle.kept.proofs.ListLaws.{map-append, rows-more, rows-room, select-more, select-room, select-skip}
+use Rattle.kept.proofs.ScratchLaws.{Standing, select-first, select-next, stands}
+use Rattle.kept.specs.Scratch.{First, columnAt, statesOf}
 use Rattle.retention.specs.Writing.{Put}
 use Rattle.retention.specs.Written.{written}
 use Rattle.retention.specs.declared.writer.SheetWriter.{SheetWriter}

@@ -1,9 +1,7 @@
 -- What the code reads and writes for the keep sheet.
 --     Lines      the lines of all single holders, one after another
---     Scratch    what the code reads off a scratch that has those lines
 --     Writing    numbers that are put into a buffer
 --     Written    writers that put them
 pub mod Lines
-pub mod Scratch
 pub mod Writing
 pub mod Written

@@ -1,11 +1,11 @@
-// Retention: the checkpoints and messages that a run must keep, from the lines of single holders, and
-// the keep sheet that says them.
-pub mod checkpoints;
-pub mod messages;
-pub mod scratch;
+// Retention: the lines of single holders, the sizes of what a run must keep, and the keep sheet that
+// says it.
 pub mod writer;
 pub mod writing;
 
+use kept::checkpoints;
+use kept::messages;
+use kept::scratch;
 use lines::line_of_holder;
 use lines::propagation::propagating;
 use run_table::parts;

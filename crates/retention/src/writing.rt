@@ -1,19 +1,19 @@
 // The numbers of a keep sheet, put into a buffer one after another. Each function answers the next
 // place. A number goes in by a writer, which `put_number` and `put_pair` make and end: the functions
 // above them have a buffer and a place.
-use crate::checkpoints::next_kept;
-use crate::messages::is_kept;
-use crate::messages::lowest_line;
 use crate::writer::place;
 use crate::writer::put;
 use crate::writer::writer_at;
+use kept::checkpoints::next_kept;
+use kept::messages::is_kept;
+use kept::messages::lowest_line;
 use run_table::numbers::u16_at;
 ghost use mathlib.Core.Bool.{cond, false, true};
 ghost use mathlib.Core.List.{_∷_, [], _++_};
 ghost use mathlib.Core.Path.{_≡_};
 ghost use Prim.Native.Nat.{ℕ, _+_, _*_, _<_, _≤_};
 ghost use lib.ListN.{length};
-ghost use Rattle.retention.specs.Scratch.{columnAt, columnOf, positionsOf, statesOf};
+ghost use Rattle.kept.specs.Scratch.{columnAt, columnOf, positionsOf, statesOf};
 ghost use Rattle.retention.specs.Writing.{Put};
 ghost use Rattle.run_table.specs.Format.{processAt};
 

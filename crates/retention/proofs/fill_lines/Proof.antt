@@ -8,7 +8,7 @@ use mathlib.Core.Path.{_≡_, refl, ap, sym, _∙_}
 use Prim.Native.Nat.{ℕ, _-_, _<_}
 use lib.ListN.{getD, length}
 use denote.Ref.{now}
-use Rattle.retention.proofs.ScratchLaws.{Lined, lined-none, lined-length, lined-room, lined-more, lined-all}
+use Rattle.kept.proofs.ScratchLaws.{Lined, lined-none, lined-length, lined-room, lined-more, lined-all}
 use Rattle.retention.proofs.SheetLaws.{holder-length, holder-numbers, lines-fit}
 use Rattle.consistency.specs.Ceilings.{propagatesFrom}
 use Rattle.futures.specs.Sheet.{holderLine, rows}

@@ -5,7 +5,7 @@ use mathlib.Core.Path.{refl}
 use Prim.Native.Nat.{_-_, zero-le}
 use Rattle.futures.specs.Sheet.{rows}
 use Rattle.retention.proofs.WritingLaws.{Putting, putting-none, putting-length, putting-all, row-room, row-more, column-read}
-use Rattle.retention.specs.Scratch.{columnAt, columnOf, statesOf}
+use Rattle.kept.specs.Scratch.{columnAt, columnOf, statesOf}
 use Rattle.run_table.specs.Format.{countAt}
 use Rattle.retention.proofs.writing.put_column.Statement.{statement}
 use Rattle.retention.proofs.writing.put_column.Tie as tie

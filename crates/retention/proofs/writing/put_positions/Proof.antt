@@ -6,9 +6,9 @@ use mathlib.Core.Path.{refl}
 use borrow.Author.Tests.{not-true, not-false}
 use Prim.Native.Nat.{_-_, zero-le}
 use Rattle.futures.specs.Sheet.{select}
-use Rattle.retention.proofs.ScratchLaws.{lowest-read}
+use Rattle.kept.proofs.ScratchLaws.{lowest-read}
 use Rattle.retention.proofs.WritingLaws.{Putting, putting-none, putting-length, putting-all, passing-room, passing-skip, passing-more}
-use Rattle.retention.specs.Scratch.{isKept, positionsOf}
+use Rattle.kept.specs.Scratch.{isKept, positionsOf}
 use Rattle.run_table.specs.Format.{messageAt, processAt}
 use Rattle.retention.proofs.writing.put_positions.Statement.{statement}
 use Rattle.retention.proofs.writing.put_positions.Tie as tie

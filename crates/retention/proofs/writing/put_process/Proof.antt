@@ -3,7 +3,7 @@
 use native.Mathlib.Omega.{arith}
 use Prim.Native.Nat.{_-_}
 use Rattle.retention.proofs.WritingLaws.{Laying, laying-first, laying-room, laying-more, putting-all, putting-length}
-use Rattle.retention.specs.Scratch.{shows, statesOf}
+use Rattle.kept.specs.Scratch.{shows, statesOf}
 use Rattle.retention.proofs.writing.put_process.Statement.{statement}
 use Rattle.retention.proofs.writing.put_process.Tie as tie
 

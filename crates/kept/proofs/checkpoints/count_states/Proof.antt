@@ -2,10 +2,10 @@
 -- Assumes nothing.
 use native.Mathlib.Omega.{arith}
 use Prim.Native.Nat.{_-_}
-use Rattle.retention.proofs.ScratchLaws.{Counted, counted-first, counted-small, counted-more, counted-all}
-use Rattle.retention.specs.Scratch.{shows, statesOf}
-use Rattle.retention.proofs.checkpoints.count_states.Statement.{statement}
-use Rattle.retention.proofs.checkpoints.count_states.Tie as tie
+use Rattle.kept.proofs.ScratchLaws.{Counted, counted-first, counted-small, counted-more, counted-all}
+use Rattle.kept.specs.Scratch.{shows, statesOf}
+use Rattle.kept.proofs.checkpoints.count_states.Statement.{statement}
+use Rattle.kept.proofs.checkpoints.count_states.Tie as tie
 
 abbrev Inv-loop : tie.InvT-loop
 Inv-loop scratch n i count kept₀ state₀ kept state = Counted (shows scratch n i) count kept state

@@ -2,10 +2,10 @@
 -- Assumes nothing.
 use borrow.Author.Needs.{needs}
 use native.Mathlib.Omega.{arith}
-use Rattle.retention.proofs.ScratchLaws.{undelivered-kept, old-kept, delivered-kept}
+use Rattle.kept.proofs.ScratchLaws.{undelivered-kept, old-kept, delivered-kept}
 use Rattle.run_table.specs.Format.{processAt}
-use Rattle.retention.proofs.messages.is_kept.Statement.{statement}
-use Rattle.retention.proofs.messages.is_kept.Tie as tie
+use Rattle.kept.proofs.messages.is_kept.Statement.{statement}
+use Rattle.kept.proofs.messages.is_kept.Tie as tie
 
 mul-u16-at : tie.Need-mul-u16-at
 mul-u16-at c = search needs

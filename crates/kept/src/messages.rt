@@ -5,7 +5,7 @@ use run_table::numbers::u16_at;
 ghost use mathlib.Core.Path.{_≡_};
 ghost use Prim.Native.Nat.{ℕ, _+_, _*_, _<_, _≤_};
 ghost use lib.ListN.{length};
-ghost use Rattle.retention.specs.Scratch.{crossesLine, isKept, lowestAt, lowestLine, positionsOf};
+ghost use Rattle.kept.specs.Scratch.{crossesLine, isKept, lowestAt, lowestLine, positionsOf};
 ghost use Rattle.run_table.specs.Format.{messageAt, processAt};
 
 // The lowest line: at each process the least number that any of n lines has there.
@@ -24,7 +24,7 @@ pub fn lowest_line(scratch: &[u16], n: usize) -> [u16; 32]
 }
 
 // Whether a message crosses some line: sent before the line of its sender, and received after that of
-// its receiver.
+// its receiver. Most messages were received at or before most lines, so that is asked first.
 fn crosses_line(
     scratch: &[u16],
     n: usize,
@@ -40,13 +40,14 @@ fn crosses_line(
 {
     let mut k = 0;
     while k < n {
-        let of_sender = entry(scratch, n, k, sender);
-        let of_receiver = entry(scratch, n, k, receiver);
+        let here = k;
         k += 1;
-        if of_sender <= sent {
+        let of_receiver = entry(scratch, n, here, receiver);
+        if received <= of_receiver {
             continue;
         }
-        if received <= of_receiver {
+        let of_sender = entry(scratch, n, here, sender);
+        if of_sender <= sent {
             continue;
         }
         return true;

@@ -4,7 +4,7 @@ use run_table::numbers::u16_at;
 ghost use mathlib.Core.Path.{_≡_};
 ghost use Prim.Native.Nat.{_*_, _<_, _≤_};
 ghost use lib.ListN.{length};
-ghost use Rattle.retention.specs.Scratch.{First, checkpointsOf, shows, statesOf};
+ghost use Rattle.kept.specs.Scratch.{First, checkpointsOf, shows, statesOf};
 
 // The smallest state from a start on, below a count, that some line has at process i; the count where
 // there is none.

@@ -4,9 +4,9 @@ use native.Mathlib.Omega.{arith}
 use mathlib.Core.Path.{refl}
 use Prim.Native.Nat.{_-_}
 use lib.ListN.{getD}
-use Rattle.retention.proofs.ScratchLaws.{Copied, copied-none, copied-more, copied-all}
-use Rattle.retention.proofs.scratch.copy_line.Statement.{statement}
-use Rattle.retention.proofs.scratch.copy_line.Tie as tie
+use Rattle.kept.proofs.ScratchLaws.{Copied, copied-none, copied-more, copied-all}
+use Rattle.kept.proofs.scratch.copy_line.Statement.{statement}
+use Rattle.kept.proofs.scratch.copy_line.Tie as tie
 
 abbrev Inv-loop : tie.InvT-loop
 Inv-loop n scratch₀ at line p₀ scratch p = Copied (λ p. getD line p 0) n at scratch₀ scratch p

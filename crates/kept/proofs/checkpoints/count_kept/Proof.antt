@@ -2,11 +2,11 @@
 -- Assumes nothing.
 use native.Mathlib.Omega.{arith}
 use Prim.Native.Nat.{_-_}
-use Rattle.retention.proofs.ScratchLaws.{Totalled, totalled-none, totalled-more, totalled-all, states-read, states-small}
-use Rattle.retention.specs.Scratch.{checkpointsAt, checkpointsOf, statesOf}
+use Rattle.kept.proofs.ScratchLaws.{Totalled, totalled-none, totalled-more, totalled-all, states-read, states-small}
+use Rattle.kept.specs.Scratch.{checkpointsAt, checkpointsOf, statesOf}
 use Rattle.run_table.specs.Format.{countAt}
-use Rattle.retention.proofs.checkpoints.count_kept.Statement.{statement}
-use Rattle.retention.proofs.checkpoints.count_kept.Tie as tie
+use Rattle.kept.proofs.checkpoints.count_kept.Statement.{statement}
+use Rattle.kept.proofs.checkpoints.count_kept.Tie as tie
 
 abbrev Inv-loop : tie.InvT-loop
 Inv-loop scratch n counts total₀ i₀ total i = Totalled (λ j. checkpointsAt j (statesOf scratch n j (countAt counts j))) n total i

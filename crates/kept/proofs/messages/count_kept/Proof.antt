@@ -4,11 +4,11 @@ use borrow.Author.Needs.{needs}
 use native.Mathlib.Omega.{arith}
 use borrow.Author.Tests.{not-true, not-false}
 use Prim.Native.Nat.{_-_}
-use Rattle.retention.proofs.ScratchLaws.{Tallied, tallied-none, tallied-small, tallied-skip, tallied-more, tallied-all, lowest-read}
-use Rattle.retention.specs.Scratch.{isKept, positionsOf}
+use Rattle.kept.proofs.ScratchLaws.{Tallied, tallied-none, tallied-small, tallied-skip, tallied-more, tallied-all, lowest-read}
+use Rattle.kept.specs.Scratch.{isKept, positionsOf}
 use Rattle.run_table.specs.Format.{messageAt, processAt}
-use Rattle.retention.proofs.messages.count_kept.Statement.{statement}
-use Rattle.retention.proofs.messages.count_kept.Tie as tie
+use Rattle.kept.proofs.messages.count_kept.Statement.{statement}
+use Rattle.kept.proofs.messages.count_kept.Tie as tie
 
 abbrev Inv-loop : tie.InvT-loop
 Inv-loop scratch n sends receipts m lowest kept₀ k₀ kept k = Tallied (λ j. isKept scratch n (messageAt sends receipts j)) m kept k

@@ -1,11 +1,12 @@
 -- `messages::crosses_line` meets its contract: the loop leaves at the first line that the message crosses.
 -- Assumes nothing.
 use native.Mathlib.Omega.{arith}
+use mathlib.Core.Path.{refl}
 use Prim.Native.Nat.{_-_}
-use Rattle.retention.proofs.ScratchLaws.{Uncrossed, uncrossed-none, sent-after, received-before, crossed, uncrossed-all}
-use Rattle.retention.specs.Scratch.{crossesLine, entryAt}
-use Rattle.retention.proofs.messages.crosses_line.Statement.{statement}
-use Rattle.retention.proofs.messages.crosses_line.Tie as tie
+use Rattle.kept.proofs.ScratchLaws.{Uncrossed, uncrossed-none, sent-after, received-before, crossed, uncrossed-all}
+use Rattle.kept.specs.Scratch.{crossesLine, entryAt}
+use Rattle.kept.proofs.messages.crosses_line.Statement.{statement}
+use Rattle.kept.proofs.messages.crosses_line.Tie as tie
 
 abbrev Inv-loop : tie.InvT-loop
 Inv-loop scratch n sender sent receiver received k₀ k = Uncrossed (λ j. entryAt scratch n j sender) (λ j. entryAt scratch n j receiver) sent received n k
@@ -16,30 +17,30 @@ abbrev μ-loop : tie.MeasureT-loop
 loop-holds : tie.Need-loop-holds Inv-loop μ-loop
 loop-holds c = uncrossed-none _ _ _ _ _
 
-entry-requires : tie.Need-entry-requires Inv-loop μ-loop
-entry-requires c κs = omega arith
-
-entry-requires-2 : tie.Need-entry-requires-2 Inv-loop μ-loop
-entry-requires-2 c κs = omega arith
-
 add-k : tie.Need-add-k Inv-loop μ-loop
 add-k c = omega arith
+
+entry-requires : tie.Need-entry-requires Inv-loop μ-loop
+entry-requires c κs = omega arith
 
 loop-less : tie.Need-loop-less Inv-loop μ-loop
 loop-less c = omega arith
 
 loop-again : tie.Need-loop-again Inv-loop μ-loop
-loop-again c = sent-after _ _ _ _ _ _ (c .before .before .before .before .loop .inv) (c .before .before .before .loop-test .taken) _ _ (c .before .before .entry .ensures) (c .before .entry2 .ensures) (c .if1 .taken)
+loop-again c = received-before _ _ _ _ _ _ (c .before .before .before .loop .inv) (c .before .before .loop-test .taken) _ _ refl (c .before .entry .ensures) (c .if1 .taken)
+
+entry-requires-2 : tie.Need-entry-requires-2 Inv-loop μ-loop
+entry-requires-2 c κs = omega arith
 
 loop-less-2 : tie.Need-loop-less-2 Inv-loop μ-loop
 loop-less-2 c = omega arith
 
 loop-again-2 : tie.Need-loop-again-2 Inv-loop μ-loop
-loop-again-2 c = received-before _ _ _ _ _ _ (c .before .before .before .before .before .loop .inv) (c .before .before .before .before .loop-test .taken) _ _ (c .before .before .before .entry .ensures) (c .before .before .entry2 .ensures) (c .if2 .taken)
+loop-again-2 c = sent-after _ _ _ _ _ _ (c .before .before .before .before .before .loop .inv) (c .before .before .before .before .loop-test .taken) _ _ (c .before .entry2 .ensures) (c .before .before .before .entry .ensures) (c .if2 .taken)
 
 returns : tie.Need-returns Inv-loop μ-loop
 unfolding crossesLine
-returns c = crossed _ _ _ _ _ _ (c .before .before .before .before .before .loop .inv) (c .before .before .before .before .loop-test .taken) _ _ (c .before .before .before .entry .ensures) (c .before .before .entry2 .ensures) (c .before .if1 .left) (c .if2 .left)
+returns c = crossed _ _ _ _ _ _ (c .before .before .before .before .before .loop .inv) (c .before .before .before .before .loop-test .taken) _ _ (c .before .entry2 .ensures) (c .before .before .before .entry .ensures) (c .if2 .left) (c .before .before .if1 .left)
 
 returns-2 : tie.Need-returns-2 Inv-loop μ-loop
 unfolding crossesLine
@@ -52,11 +53,11 @@ crosses-line-spec =
     Inv-loop
     μ-loop
     loop-holds
-    entry-requires
-    entry-requires-2
     add-k
+    entry-requires
     loop-less
     loop-again
+    entry-requires-2
     loop-less-2
     loop-again-2
     returns

@@ -3,10 +3,10 @@
 use native.Mathlib.Omega.{arith}
 use Prim.Native.Nat.{_-_}
 use lib.ListN.{replicate}
-use Rattle.retention.proofs.ScratchLaws.{Copied, copied-none, copied-more, copied-all, lowest-first}
-use Rattle.retention.specs.Scratch.{lowestAt, lowestLine}
-use Rattle.retention.proofs.messages.lowest_line.Statement.{statement}
-use Rattle.retention.proofs.messages.lowest_line.Tie as tie
+use Rattle.kept.proofs.ScratchLaws.{Copied, copied-none, copied-more, copied-all, lowest-first}
+use Rattle.kept.specs.Scratch.{lowestAt, lowestLine}
+use Rattle.kept.proofs.messages.lowest_line.Statement.{statement}
+use Rattle.kept.proofs.messages.lowest_line.Tie as tie
 
 abbrev Inv-loop : tie.InvT-loop
 Inv-loop scratch n lowest₀ i₀ lowest i = Copied (lowestAt scratch n) n 0 (replicate 32 0) lowest i

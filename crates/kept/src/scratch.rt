@@ -2,7 +2,7 @@
 ghost use mathlib.Core.Path.{_≡_};
 ghost use Prim.Native.Nat.{_+_, _*_, _<_, _≤_};
 ghost use lib.ListN.{getD, length};
-ghost use Rattle.retention.specs.Scratch.{entryAt};
+ghost use Rattle.kept.specs.Scratch.{entryAt};
 ghost use Rattle.run_table.specs.Numbers.{putAt, tabulate};
 
 // Copies the first n numbers of a line to a place of a scratch that has room for them.

@@ -2,10 +2,10 @@
 -- Assumes nothing.
 use native.Mathlib.Omega.{arith}
 use Prim.Native.Nat.{_-_}
-use Rattle.retention.proofs.ScratchLaws.{Searching, search-begins, search-passes, search-finds, search-ends}
-use Rattle.retention.specs.Scratch.{entryAt, shows}
-use Rattle.retention.proofs.checkpoints.next_kept.Statement.{statement}
-use Rattle.retention.proofs.checkpoints.next_kept.Tie as tie
+use Rattle.kept.proofs.ScratchLaws.{Searching, search-begins, search-passes, search-finds, search-ends}
+use Rattle.kept.specs.Scratch.{entryAt, shows}
+use Rattle.kept.proofs.checkpoints.next_kept.Statement.{statement}
+use Rattle.kept.proofs.checkpoints.next_kept.Tie as tie
 
 abbrev Inv-loop : tie.InvT-loop
 Inv-loop scratch n i from count least₀ k₀ least k = Searching (λ j. entryAt scratch n j i) n from count least k

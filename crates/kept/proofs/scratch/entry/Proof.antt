@@ -1,11 +1,11 @@
 -- `scratch::entry` meets its contract: the place is within the n × n numbers.
 -- Assumes nothing.
 use native.Mathlib.Omega.{arith}
-use Rattle.retention.proofs.ScratchLaws.{cell-below}
-use Rattle.retention.specs.Scratch.{entryAt}
+use Rattle.kept.proofs.ScratchLaws.{cell-below}
+use Rattle.kept.specs.Scratch.{entryAt}
 use mathlib.Core.Path.{refl}
-use Rattle.retention.proofs.scratch.entry.Statement.{statement}
-use Rattle.retention.proofs.scratch.entry.Tie as tie
+use Rattle.kept.proofs.scratch.entry.Statement.{statement}
+use Rattle.kept.proofs.scratch.entry.Tie as tie
 
 mul-result : tie.Need-mul-result
 mul-result c = omega (arith, cell-below _ _ _ (c .pre .1 .0) (c .pre .1 .1))

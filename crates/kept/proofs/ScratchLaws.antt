@@ -19,8 +19,8 @@ use lib.Dec.{eqb, ltb}
 use lib.ListN.{length, getD, set, take, drop, length-append, length-map, length-set, List·getD-append}
 use lib.Seq.{set-split}
 use Rattle.futures.specs.Sheet.{rows, select}
-use Rattle.retention.proofs.ListLaws.{below-none, rows-grow, rows-more, rows-room, select-gap, select-more, select-skip, select-small}
-use Rattle.retention.specs.Scratch.{First, checkpointsAt, crossesLine, entryAt, isKept, leastBelow, lowestAt, lowestLine, shows, statesOf}
+use Rattle.kept.proofs.ListLaws.{below-none, rows-grow, rows-more, rows-room, select-gap, select-more, select-skip, select-small}
+use Rattle.kept.specs.Scratch.{First, checkpointsAt, crossesLine, entryAt, isKept, leastBelow, lowestAt, lowestLine, shows, statesOf}
 use Rattle.run_table.proofs.NumberLaws.{anyBelow-found, anyBelow-more, found-below, getD-tabulate, length-putAt, length-tabulate, none-below, putAt-more, putAt-none, tabulate-more}
 use Rattle.run_table.proofs.WriteLaws.{front-first, front-next}
 use Rattle.run_table.specs.Format.{checkpointAt, countAt, messageAt, processAt}
