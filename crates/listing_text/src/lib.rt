@@ -6,7 +6,7 @@ use keeper::keeper_keep_sheet;
 use run_table::lookups;
 use run_table::numbers::u16_at;
 use run_table::parts;
-use steps::rollback::recovery_line;
+use rollback::recovery_line;
 ghost use mathlib.Core.Path.{_≡_};
 ghost use Prim.Native.Nat.{ℕ, _≤_};
 ghost use lib.ListN.{length};

@@ -1,5 +1,3 @@
--- What the code of the steps writes, part by part.
+-- What the code of a save writes, part by part.
 --     Saving      the counts and the receipts after a checkpoint
---     Rollback    a receipt beside the recovery line
-pub mod Rollback
 pub mod Saving

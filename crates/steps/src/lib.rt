@@ -1,5 +1,5 @@
-// The steps of a run on tables: each writes the table that the step leaves to the front of a buffer.
+// Send and save on tables: each writes the table that the step leaves to the front of a buffer. The fall
+// back is the crate `rollback`.
 pub mod copying;
-pub mod rollback;
 pub mod saving;
 pub mod sending;

@@ -1,11 +1,11 @@
--- `rollback::recovery_line` meets its contract: all processes are in the set of all 32 bits.
+-- `recovery_line` meets its contract: all processes are in the set of all 32 bits.
 -- Assumes nothing.
 use borrow.Author.Needs.{needs}
 use mathlib.Core.Path.{ap, _∙_}
 use Rattle.lines.proofs.ArrayLaws.{all-hold}
 use Rattle.lines.specs.Arrays.{arrayOf}
-use Rattle.steps.proofs.rollback.recovery_line.Statement.{statement}
-use Rattle.steps.proofs.rollback.recovery_line.Tie as tie
+use Rattle.rollback.proofs.recovery_line.Statement.{statement}
+use Rattle.rollback.proofs.recovery_line.Tie as tie
 
 line-of-set-requires : tie.Need-line-of-set-requires
 line-of-set-requires c κs = search needs

@@ -1,9 +1,9 @@
 // A rollback of the run to its recovery line: how many messages stay, and the table that it leaves.
-use crate::copying::put_pair;
 use lines::line_of_set;
 use run_table::numbers::put_u16;
 use run_table::numbers::u16_at;
 use run_table::parts;
+use steps::copying::put_pair;
 ghost use mathlib.Core.Path.{_≡_};
 ghost use Prim.Native.Nat.{ℕ, _+_, _*_, _≤_, _<_};
 ghost use lib.ListN.{getD, length};
@@ -14,7 +14,7 @@ ghost use Rattle.run_table.specs.Checks.{tableRefusal};
 ghost use Rattle.run_table.specs.Format.{decode, encode, receiptsOf, sendsOf};
 ghost use Rattle.run_table.specs.Numbers.{putAt, tabulate, u16s};
 ghost use Rattle.run_table.specs.Table.{messageCount, processCount};
-ghost use Rattle.steps.specs.Rollback.{receiptLeft};
+ghost use Rattle.rollback.specs.Rollback.{receiptLeft};
 
 // The recovery line of an accepted table: the line of all processes.
 pub fn recovery_line(table: &[u8]) -> [u16; 32]

@@ -1,4 +1,4 @@
--- `rollback::count_remaining` meets its contract: the loop counts what remains of the first k messages.
+-- `count_remaining` meets its contract: the loop counts what remains of the first k messages.
 -- Assumes nothing.
 use borrow.Author.Needs.{needs}
 use native.Mathlib.Omega.{arith}
@@ -12,9 +12,9 @@ use Rattle.futures.specs.Steps.{stays}
 use Rattle.run_table.proofs.ReadLaws.{messages-few}
 use Rattle.run_table.specs.Format.{decode}
 use Rattle.run_table.specs.Table.{Table, messageOf}
-use Rattle.steps.proofs.RollbackLaws.{soFar, counted-none, counted-skips, counted-adds, counted-fits, counted-all, send-within, sender-small, found-staying, found-going}
-use Rattle.steps.proofs.rollback.count_remaining.Statement.{statement}
-use Rattle.steps.proofs.rollback.count_remaining.Tie as tie
+use Rattle.rollback.proofs.RollbackLaws.{soFar, counted-none, counted-skips, counted-adds, counted-fits, counted-all, send-within, sender-small, found-staying, found-going}
+use Rattle.rollback.proofs.count_remaining.Statement.{statement}
+use Rattle.rollback.proofs.count_remaining.Tie as tie
 
 abbrev Inv-loop : tie.InvT-loop
 Inv-loop table line m sends remaining₀ k₀ remaining k = remaining ≡ length (soFar (decode table) k)

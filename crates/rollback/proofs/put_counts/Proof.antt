@@ -1,12 +1,12 @@
--- `rollback::put_counts` meets its contract: the loop writes one number after another.
+-- `put_counts` meets its contract: the loop writes one number after another.
 -- Assumes nothing.
 use native.Mathlib.Omega.{arith}
 use mathlib.Core.Path.{refl}
 use Prim.Native.Nat.{_+_, _-_}
 use lib.ListN.{getD}
 use Rattle.run_table.proofs.WriteLaws.{Written, written-none, written-more, written-all}
-use Rattle.steps.proofs.rollback.put_counts.Statement.{statement}
-use Rattle.steps.proofs.rollback.put_counts.Tie as tie
+use Rattle.rollback.proofs.put_counts.Statement.{statement}
+use Rattle.rollback.proofs.put_counts.Tie as tie
 
 abbrev Inv-loop : tie.InvT-loop
 Inv-loop n buffer₀ at line p₀ buffer p = Written (λ p. getD line p 0 + 1) n at buffer₀ buffer p

@@ -1,4 +1,4 @@
--- `rollback::put_messages` meets its contract: the loop writes one message after another.
+-- `put_messages` meets its contract: the loop writes one message after another.
 -- Assumes nothing.
 use borrow.Author.Needs.{needs}
 use native.Mathlib.Omega.{arith}
@@ -11,9 +11,9 @@ use Rattle.consistency.specs.Ceilings.{recoveryLine}
 use Rattle.futures.specs.Steps.{stays}
 use Rattle.run_table.specs.Format.{decode}
 use Rattle.run_table.specs.Table.{Table, messageOf}
-use Rattle.steps.proofs.RollbackLaws.{Gathered, gathered-none, gathered-skips, gathered-adds, gathered-room, gathered-all, send-within, receipt-within, sender-small, receiver-small, found-staying, found-going, sender-left, sent-left, receiver-left, received-left}
-use Rattle.steps.proofs.rollback.put_messages.Statement.{statement}
-use Rattle.steps.proofs.rollback.put_messages.Tie as tie
+use Rattle.rollback.proofs.RollbackLaws.{Gathered, gathered-none, gathered-skips, gathered-adds, gathered-room, gathered-all, send-within, receipt-within, sender-small, receiver-small, found-staying, found-going, sender-left, sent-left, receiver-left, received-left}
+use Rattle.rollback.proofs.put_messages.Statement.{statement}
+use Rattle.rollback.proofs.put_messages.Tie as tie
 
 abbrev Inv-loop : tie.InvT-loop
 Inv-loop table m buffer₀ at line all sends receipts place₀ k₀ buffer place k = Gathered (decode table) at m buffer₀ k place buffer

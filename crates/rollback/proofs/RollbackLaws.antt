@@ -34,8 +34,8 @@ use Rattle.run_table.specs.Checks.{tableRefusal}
 use Rattle.run_table.specs.Format.{decode, entriesOf, receiptsOf, receiptsPart, sendsOf, sendsPart}
 use Rattle.run_table.specs.Numbers.{putAt, tabulate, u16At, u16s}
 use Rattle.run_table.specs.Table.{Message, Table, countOf, messageCount, messageOf, noMessage, processCount}
 use Rattle.steps.proofs.PlaceLaws.{both-more}
-use Rattle.steps.specs.Rollback.{receiptLeft}
+use Rattle.rollback.specs.Rollback.{receiptLeft}
 
 -- ---- what remains of the first k messages
 module _ (l : List ℕ) where

@@ -1,4 +1,4 @@
--- `rollback::put_rollback` meets its contract: the parts of the table, one after another.
+-- `put_rollback` meets its contract: the parts of the table, one after another.
 -- Assumes nothing.
 use borrow.Author.Needs.{needs}
 use native.Mathlib.Omega.{arith}
@@ -7,10 +7,10 @@ use denote.Ref.{now}
 use Rattle.futures.proofs.StepLaws.{rollback-fewer, rollback-processes}
 use Rattle.run_table.proofs.ReadLaws.{messages-few, processes-few}
 use Rattle.run_table.specs.Format.{decode}
 use Rattle.steps.proofs.PutLaws.{head-put, table-put}
-use Rattle.steps.proofs.RollbackLaws.{counts-left, line-small}
-use Rattle.steps.proofs.rollback.put_rollback.Statement.{statement}
-use Rattle.steps.proofs.rollback.put_rollback.Tie as tie
+use Rattle.rollback.proofs.RollbackLaws.{counts-left, line-small}
+use Rattle.rollback.proofs.put_rollback.Statement.{statement}
+use Rattle.rollback.proofs.put_rollback.Tie as tie
 
 process-count-requires : tie.Need-process-count-requires
 process-count-requires c κs = search needs
