@@ -3,10 +3,10 @@ pub mod rows;
 pub mod text;
 
 use keeper::keeper_keep_sheet;
+use rollback::recovery_line;
 use run_table::lookups;
 use run_table::numbers::u16_at;
 use run_table::parts;
-use rollback::recovery_line;
 ghost use mathlib.Core.Path.{_≡_};
 ghost use Prim.Native.Nat.{ℕ, _≤_};
 ghost use lib.ListN.{length};
