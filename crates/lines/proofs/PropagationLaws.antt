@@ -7,10 +7,10 @@
 --     holder-ceiling                  the line of one process from which no rollback propagates is its ceiling
 -- Assumes nothing.
 use mathlib.Core.Bool.{Bool, true, false, _&&_, and-false}
-use mathlib.Core.List.{List, _∷_}
-use mathlib.Core.Path.{_≡_, refl, sym, ap, ap₂, _∙_}
-use Prim.Native.Nat.{ℕ, zero, suc, _+_, _-_, _*_, _^_, _≤_, _<_, zero-le}
-use native.Mathlib.Nat.{le-antisymm, le-of-suc-le-suc, not-suc-le-zero}
+use mathlib.Core.List.{List}
+use mathlib.Core.Path.{_≡_, refl, sym, ap, _∙_}
+use Prim.Native.Nat.{ℕ, _+_, _-_, _*_, _^_, _≤_, _<_, zero-le}
+use native.Mathlib.Nat.{le-antisymm}
 use native.Mathlib.Numerals.{add-one}
 use native.Mathlib.Omega.{arith}
 use borrow.Author.Tests.{eqb-true, eq-eqb, ne-eqb, le-leb, lt-leb, lt-ltb}
@@ -21,21 +21,13 @@ use Rattle.consistency.specs.Ceilings.{ceilingOf, lineOf, orphaned, propagatesF
 use Rattle.process_set.proofs.SetLaws.{member-one}
 use Rattle.process_set.specs.Sets.{member}
 use Rattle.run_table.proofs.AcceptLaws.{accepted}
-use Rattle.run_table.proofs.NumberLaws.{anyBelow-found, tabulate-ext}
+use Rattle.run_table.proofs.NumberLaws.{anyBelow-found, set-tabulate, tabulate-ext}
 use Rattle.run_table.proofs.ReadLaws.{count-is, counts-size, message-good, received-read, receipts-size, sender-read, sends-size, sent-read}
 use Rattle.run_table.specs.Checks.{tableRefusal}
 use Rattle.run_table.specs.Format.{countAt, countsPart, decode, receiptsPart, sendsPart}
 use Rattle.run_table.specs.Numbers.{tabulate, u16At}
 use Rattle.run_table.specs.Parts.{anyBelow}
 use Rattle.run_table.specs.Table.{Table, countOf, messageCount, messageOf, processCount}
-
--- one entry of a list that is given by its entries
-set-tabulate : {A : Type 0} (n : ℕ) (f g : ℕ → A) (i : ℕ) (v : A) → i < n → v ≡ g i → ((p : ℕ) → (p ≡ i → ⊥) → f p ≡ g p) → set (tabulate n f) i v ≡ tabulate n g
-unfolding tabulate
-set-tabulate zero f g i v l here other = absurd (not-suc-le-zero l)
-set-tabulate (suc n) f g zero v l here other = ap₂ _∷_ here (tabulate-ext n _ _ (λ p _. other (suc p) (λ e. omega arith)))
-set-tabulate (suc n) f g (suc i) v l here other =
-    ap₂ _∷_ (other zero (λ e. omega arith)) (set-tabulate n _ _ i v (le-of-suc-le-suc l) here (λ p e. other (suc p) (λ e′. e (omega arith))))
 
 module _ (t : Table) where
   -- process p sent message k, which a rollback of p orphans

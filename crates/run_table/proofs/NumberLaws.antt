@@ -6,6 +6,8 @@
 --     length-tabulate, getD-tabulate           the two laws of `tabulate`
 --     tabulate-ext, tabulate-getD              two such lists are equal by their entries; every list is one
 --     tabulate-append, tabulate-more           one after another; one entry more
+--     set-tabulate                             one entry set
+--     any-last                                 `any`, of a list with one entry more
 --     any-none, any-some, none-of              `any`, by the entries of the list
 --     anyBelow-more, anyBelow-found, none-below          `anyBelow`, as a loop finds it
 --     found-below                              an index that passes, where some index does
@@ -15,7 +17,7 @@
 use mathlib.Core.Bool.{Bool, true, false, _&&_, _||_, or-true, true≢false, false≢true}
 use mathlib.Core.List.{List, [], _∷_, _++_, append-assoc}
 use mathlib.Core.Logic.{⊎-elim}
-use mathlib.Core.Path.{_≡_, refl, sym, ap, _∙_}
+use mathlib.Core.Path.{_≡_, refl, sym, ap, ap₂, _∙_}
 use Prim.Native.Nat.{ℕ, zero, suc, _+_, _*_, _/_, _%_, _<_, _≤_, zero-le, suc-le-suc}
 use native.Mathlib.Nat.{add-zero, zero-add, suc-add, le-of-suc-le-suc, not-suc-le-zero, eq-or-lt-of-le}
 use native.Mathlib.Numerals.{add-one}
@@ -141,6 +143,10 @@ pub or-false-right : (a b : Bool) → (a || b) ≡ false → b ≡ false
 or-false-right true b e = absurd (true≢false e)
 or-false-right false b e = e
 
+pub or-none : (b : Bool) → (b || false) ≡ b
+or-none true = refl
+or-none false = refl
+
 module _ {A : Type 0} where
   pub length-tabulate : (n : ℕ) (f : ℕ → A) → length (tabulate n f) ≡ n
   unfolding tabulate
@@ -176,6 +182,22 @@ module _ {A : Type 0} where
   pub tabulate-more : (n : ℕ) (f : ℕ → A) → tabulate (n + 1) f ≡ tabulate n f ++ (f n ∷ [])
   unfolding tabulate
   tabulate-more n f = tabulate-append n 1 f ∙ ap (λ (k : ℕ). tabulate n f ++ (f k ∷ [])) (add-zero n)
+
+  pub set-tabulate : (n : ℕ) (f g : ℕ → A) (i : ℕ) (v : A) → i < n → v ≡ g i → ((p : ℕ) → (p ≡ i → ⊥) → f p ≡ g p) → set (tabulate n f) i v ≡ tabulate n g
+  unfolding tabulate
+  set-tabulate zero f g i v l here other = absurd (not-suc-le-zero l)
+  set-tabulate (suc n) f g zero v l here other = ap₂ _∷_ here (tabulate-ext n _ _ (λ p _. other (suc p) (λ e. omega arith)))
+  set-tabulate (suc n) f g (suc i) v l here other =
+      ap₂ _∷_ (other zero (λ e. omega arith)) (set-tabulate n _ _ i v (le-of-suc-le-suc l) here (λ p e. other (suc p) (λ e′. e (omega arith))))
+
+  pub any-last : (test : A → Bool) (xs : List A) (x : A) → any test (xs ++ (x ∷ [])) ≡ (any test xs || test x)
+  unfolding any
+  any-last test [] x = or-none (test x)
+  any-last test (y ∷ rest) x = go (test y) (any-last test rest x)
+    where
+      go : (b : Bool) → any test (rest ++ (x ∷ [])) ≡ (any test rest || test x) → (b || any test (rest ++ (x ∷ []))) ≡ ((b || any test rest) || test x)
+      go true e = refl
+      go false e = e
 
   pub any-none : (test : A → Bool) (l : List A) (d : A) → ((k : ℕ) → k < length l → test (getD l k d) ≡ false) → any test l ≡ false
   unfolding any

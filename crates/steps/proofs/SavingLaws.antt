@@ -19,7 +19,7 @@ use lib.Seq.{set-append-left, set-append-seam, take-all, take-suc}
 use Rattle.futures.proofs.StepLaws.{Waiting, good-position, rising, waiting-position}
 use Rattle.futures.specs.Steps.{badPosition, follows, notRising}
 use Rattle.run_table.proofs.CodingLaws.{even-number, odd-number}
-use Rattle.run_table.proofs.NumberLaws.{any-none, any-some, none-of, tabulate-more}
+use Rattle.run_table.proofs.NumberLaws.{any-last, any-none, any-some, none-of, or-none, tabulate-more}
 use Rattle.run_table.proofs.ReadLaws.{received-read, receiver-read}
 use Rattle.run_table.specs.Checks.{tableRefusal}
 use Rattle.run_table.specs.Format.{checkpointAt, decode, processAt, receiptsPart}
@@ -105,20 +105,6 @@ module _ (bytes : List ℕ) (none : tableRefusal bytes ≡ 0) (i k : ℕ) where
         })
 
 -- ---- a loop over the listed positions, which writes their receipts
--- a listed position, and any other
-or-none : (b : Bool) → (b || false) ≡ b
-or-none true = refl
-or-none false = refl
-
-any-last : (test : ℕ → Bool) (xs : List ℕ) (x : ℕ) → any test (xs ++ (x ∷ [])) ≡ (any test xs || test x)
-unfolding any
-any-last test [] x = or-none (test x)
-any-last test (y ∷ rest) x = go (test y) (any-last test rest x)
-  where
-    go : (b : Bool) → any test (rest ++ (x ∷ [])) ≡ (any test rest || test x) → (b || any test (rest ++ (x ∷ []))) ≡ ((b || any test rest) || test x)
-    go true e = refl
-    go false e = e
-
 module _ (receipts : List ℕ) (number : ℕ) where
   abbrev numbers : ℕ → List ℕ → List ℕ
   numbers m list = receiptNumbers m receipts list number

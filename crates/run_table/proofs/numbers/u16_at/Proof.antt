@@ -4,27 +4,19 @@ use borrow.Author.Needs.{needs}
 use Rattle.run_table.specs.Numbers.{u16At}
 use Rattle.run_table.proofs.numbers.u16_at.Statement.{statement}
 use Rattle.run_table.proofs.numbers.u16_at.Tie as tie
-use Rattle.run_table.proofs.numbers.u16_at.Reads as reads
-use Rattle.run_table.proofs.numbers.u16_at.Lts as lts
-use Rattle.run_table.proofs.numbers.u16_of.Reads as u16-of-reads
 
--- src/numbers.rt:19:12
 shared-slice-read-u16-of : tie.Need-shared-slice-read-u16-of
 shared-slice-read-u16-of c = search needs
 
--- src/numbers.rt:19:29
 add-u16-of : tie.Need-add-u16-of
 add-u16-of c = search needs
 
--- src/numbers.rt:19:23
 shared-slice-read-u16-of-2 : tie.Need-shared-slice-read-u16-of-2
 shared-slice-read-u16-of-2 c = search needs
 
--- src/numbers.rt:19:5
 u16-of-requires : tie.Need-u16-of-requires
 u16-of-requires c κs = search needs
 
--- src/numbers.rt:15:1
 returns : tie.Need-returns
 unfolding u16At
 returns c = search needs

@@ -7,38 +7,27 @@ use denote.Ref.{now}
 use Rattle.run_table.proofs.NumberLaws.{u16At-beyond, u16At-last}
 use Rattle.run_table.proofs.numbers.u16_or_zero.Statement.{statement}
 use Rattle.run_table.proofs.numbers.u16_or_zero.Tie as tie
-use Rattle.run_table.proofs.numbers.u16_or_zero.Reads as reads
-use Rattle.run_table.proofs.numbers.u16_or_zero.Lts as lts
-use Rattle.run_table.proofs.numbers.u16_at.Reads as u16-at-reads
-use Rattle.run_table.proofs.numbers.u16_of.Reads as u16-of-reads
 
--- src/numbers.rt:28:9
 returns : tie.Need-returns
 returns c = sym (u16At-beyond (now (c .before .before .args .bytes)) (c .before .before .args .at) (search needs))
 
--- src/numbers.rt:30:8
 sub-if2 : tie.Need-sub-if2
 sub-if2 c = search needs
 
--- src/numbers.rt:31:23
 shared-slice-read-u16-of : tie.Need-shared-slice-read-u16-of
 shared-slice-read-u16-of c = search needs
 
--- src/numbers.rt:31:9
 u16-of-requires : tie.Need-u16-of-requires
 u16-of-requires c κs = search needs
 
--- src/numbers.rt:31:9
 returns-2 : tie.Need-returns-2
 returns-2 c =
     let start = c .before .before .before .before .before in
     omega (arith, c .u16-of .ensures, u16At-last (now (start .args .bytes)) (start .args .at) (omega arith))
 
--- src/numbers.rt:33:5
 u16-at-requires : tie.Need-u16-at-requires
 u16-at-requires c κs = search needs
 
--- src/numbers.rt:23:1
 returns-3 : tie.Need-returns-3
 returns-3 c = search needs
 
