@@ -1,14 +1,10 @@
--- The numbers that a checkpoint changes, as the code writes them from the parts of a table. Assumes nothing.
+-- The receipts after a checkpoint, as the code writes them from the part of a table. Assumes nothing.
 use mathlib.Core.Bool.{cond}
 use mathlib.Core.List.{List, [], _∷_, _++_}
-use Prim.Native.Nat.{ℕ, zero, suc, _+_}
+use Prim.Native.Nat.{ℕ, zero, suc}
 use lib.Dec.{eqb}
-use Rattle.run_table.specs.Format.{checkpointAt, countAt, processAt}
+use Rattle.run_table.specs.Format.{checkpointAt, processAt}
 use Rattle.run_table.specs.Numbers.{any}
-
--- Count p, one more at the process that takes the checkpoint.
-unfoldable pub raisedCount : List ℕ → ℕ → ℕ → ℕ
-raisedCount counts process p = cond (eqb p process) (countAt counts p + 1) (countAt counts p)
 
 -- The receipt number of entry k: the new one where k is listed.
 unfoldable pub newReceipt : List ℕ → List ℕ → ℕ → ℕ → ℕ

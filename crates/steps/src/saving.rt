@@ -1,19 +1,19 @@
 // Checkpoint (document 01: save): the listed messages are received, and the count of the process grows.
 use crate::copying::copy_numbers;
-use crate::copying::put_pair;
+use crate::copying::put_head;
 use run_table::numbers::put_u16;
 use run_table::numbers::u16_at;
 use run_table::parts;
-ghost use mathlib.Core.Bool.{cond, false};
+ghost use mathlib.Core.Bool.{false};
 ghost use mathlib.Core.Path.{_≡_};
 ghost use Prim.Native.Nat.{ℕ, _+_, _*_, _<_, _≤_};
 ghost use lib.ListN.{getD, length};
 ghost use Rattle.futures.specs.Steps.{afterCheckpoint, badPosition, notRising};
 ghost use Rattle.run_table.specs.Checks.{tableRefusal};
-ghost use Rattle.run_table.specs.Format.{countAt, decode, encode};
-ghost use Rattle.run_table.specs.Numbers.{any, putAt, tabulate, u16s};
+ghost use Rattle.run_table.specs.Format.{decode, encode};
+ghost use Rattle.run_table.specs.Numbers.{any, putAt, u16s};
 ghost use Rattle.run_table.specs.Table.{messageCount, processCount};
-ghost use Rattle.steps.specs.Saving.{raisedCount, receiptNumbers};
+ghost use Rattle.steps.specs.Saving.{receiptNumbers};
 
 // Whether a position of the list is not above the one before it.
 pub fn not_rising(list: &[u16]) -> bool
@@ -53,35 +53,6 @@ pub fn bad_position(table: &[u8], process: u16, list: &[u16]) -> bool
     false
 }
 
-// A count, one more where it grows.
-fn raised(count: u16, grows: bool) -> u16
-    requires { ⌜ count < 65535 ⌝ }
-    ensures { λ r. ⌜ r ≡ cond grows (count + 1) count ⌝ }
-{
-    if grows {
-        return count + 1;
-    }
-    count
-}
-
-// Writes n counts, that of one process raised by one, to a place of a buffer that has room for them.
-fn put_raised(counts: &[u8], n: usize, process: usize, answer: &mut [u8], at: usize)
-    requires { ⌜ length (now counts) ≡ 2 * n ⌝ }
-    requires { ⌜ ((p : ℕ) → p < n → countAt (now counts) p < 65535) ⌝ }
-    requires { ⌜ at + 2 * n ≤ length (now answer) ⌝ }
-    ensures { λ _. ⌜ now (answer .exit) ≡ putAt (now (answer .entry)) at (u16s (tabulate n (raisedCount (now (counts .entry)) process))) ⌝ }
-{
-    let mut p = 0;
-    while p < n {
-        put_u16(
-            answer,
-            at + 2 * p,
-            raised(u16_at(counts, 2 * p), p == process),
-        );
-        p += 1;
-    }
-}
-
 // Writes the receipts of m messages, those at the listed positions with a new number, to a place of a
 // buffer that has room for them.
 fn put_receipts(receipts: &[u8], m: usize, list: &[u16], number: u16, answer: &mut [u8], at: usize)
@@ -110,10 +81,9 @@ pub fn put_checkpoint(table: &[u8], process: u16, list: &[u16], answer: &mut [u8
 {
     let n = parts::process_count(table);
     let m = parts::message_count(table);
-    let counts = parts::counts(table);
-    let number = u16_at(counts, 2 * (process as usize));
-    put_pair(answer, 0, n as u16, m as u16);
-    put_raised(counts, n, process as usize, answer, 4);
+    let number = u16_at(parts::counts(table), 2 * (process as usize));
+    put_head(table, m, answer);
+    put_u16(answer, 4 + 2 * (process as usize), number + 1);
     copy_numbers(parts::sends(table), 2 * m, answer, 4 + 2 * n);
     put_receipts(
         parts::receipts(table),
