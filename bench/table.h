@@ -36,38 +36,23 @@ static inline struct parts parts_of(const uint8_t *table)
     return t;
 }
 
-/* Whether one of the checks 6 to 9 catches a message. A process is known before its count is read. */
-static inline int is_faulty(struct parts t, size_t k)
+/* The first of the checks 6 to 9 that catches a message, or 0. A process is known before its count is read. */
+static inline uint32_t fault_at(struct parts t, size_t k)
 {
     uint16_t sender = u16_at(t.sends + 4 * k), receiver = u16_at(t.receipts + 4 * k);
-    return sender >= t.n || receiver >= t.n || sender == receiver
-        || u16_at(t.sends + 4 * k + 2) >= u16_at(t.counts + 2 * sender)
-        || u16_at(t.receipts + 4 * k + 2) >= u16_at(t.counts + 2 * receiver);
-}
-
-/* Checks 6 to 9, each over all messages before the next begins. */
-static inline uint32_t first_fault(struct parts t)
-{
-    for (size_t k = 0; k < t.m; k++)
-        if (u16_at(t.sends + 4 * k) >= t.n)
-            return 6;
-    for (size_t k = 0; k < t.m; k++)
-        if (u16_at(t.receipts + 4 * k) >= t.n)
-            return 6;
-    for (size_t k = 0; k < t.m; k++)
-        if (u16_at(t.sends + 4 * k) == u16_at(t.receipts + 4 * k))
-            return 7;
-    for (size_t k = 0; k < t.m; k++)
-        if (u16_at(t.sends + 4 * k + 2) >= u16_at(t.counts + 2 * u16_at(t.sends + 4 * k)))
-            return 8;
-    for (size_t k = 0; k < t.m; k++)
-        if (u16_at(t.receipts + 4 * k + 2) >= u16_at(t.counts + 2 * u16_at(t.receipts + 4 * k)))
-            return 9;
+    if (sender >= t.n || receiver >= t.n)
+        return 6;
+    if (sender == receiver)
+        return 7;
+    if (u16_at(t.sends + 4 * k + 2) >= u16_at(t.counts + 2 * sender))
+        return 8;
+    if (u16_at(t.receipts + 4 * k + 2) >= u16_at(t.counts + 2 * receiver))
+        return 9;
     return 0;
 }
 
-/* Checks 1 to 9: the number of the first that catches, or 0. One loop looks for any faulty message, and
-   the checks 6 to 9 run in their order only where there is one. */
+/* Checks 1 to 9: the number of the first that catches, or 0. Of the checks 6 to 9 the smallest number that
+   catches a message is that of the first. */
 static uint32_t check(const uint8_t *table, size_t length)
 {
     if (length < 4)
@@ -84,10 +69,15 @@ static uint32_t check(const uint8_t *table, size_t length)
         if (count == 0 || count > MOST_STATES)
             return 5;
     }
-    for (size_t k = 0; k < t.m; k++)
-        if (is_faulty(t, k))
-            return first_fault(t);
-    return 0;
+    uint32_t first = 0;
+    for (size_t k = 0; k < t.m; k++) {
+        uint32_t fault = fault_at(t, k);
+        if (fault == 0)
+            continue;
+        if (first == 0 || fault < first)
+            first = fault;
+    }
+    return first;
 }
 
 /* A line as an answer. */

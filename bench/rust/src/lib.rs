@@ -66,32 +66,8 @@ impl<'a> Parts<'a> {
     }
 }
 
-/// Checks 6 to 9, each over all messages before the next begins.
-fn first_fault(parts: &Parts, counts: &Line) -> u32 {
-    let unknown = |part: &[[u8; 4]]| part.iter().any(|e| entry(e).0 >= parts.n);
-    if unknown(parts.sends) || unknown(parts.receipts) {
-        return 6;
-    }
-    if parts.messages().any(|((j, _), (i, _))| j == i) {
-        return 7;
-    }
-    let not_below = |part: &[[u8; 4]]| {
-        part.iter().any(|e| {
-            let (process, number) = entry(e);
-            number >= counts[process]
-        })
-    };
-    if not_below(parts.sends) {
-        return 8;
-    }
-    if not_below(parts.receipts) {
-        return 9;
-    }
-    0
-}
-
-/// Checks 1 to 9: one loop looks for any faulty message, and the checks 6 to 9
-/// run in their order only where there is one.
+/// Checks 1 to 9: of the checks 6 to 9 the smallest number that catches a message
+/// is that of the first.
 fn check(table: &[u8]) -> u32 {
     if table.len() < 4 {
         return 1;
@@ -115,13 +91,27 @@ fn check(table: &[u8]) -> u32 {
     if counts[..n].iter().any(|&c| c == 0 || c > MOST_STATES) {
         return 5;
     }
-    let faulty = |((j, sent), (i, received)): ((usize, u16), (usize, u16))| {
-        j >= n || i >= n || j == i || sent >= counts[j] || received >= counts[i]
+    let fault = |((j, sent), (i, received)): ((usize, u16), (usize, u16))| {
+        if j >= n || i >= n {
+            6
+        } else if j == i {
+            7
+        } else if sent >= counts[j] {
+            8
+        } else if received >= counts[i] {
+            9
+        } else {
+            0
+        }
     };
-    if parts.messages().any(faulty) {
-        return first_fault(&parts, &counts);
+    let mut first = 0;
+    for message in parts.messages() {
+        let caught = fault(message);
+        if caught != 0 && (first == 0 || caught < first) {
+            first = caught;
+        }
     }
-    0
+    first
 }
 
 fn ceiling_of_set(parts: &Parts, set: u32) -> Line {

@@ -2,7 +2,6 @@
 --     passed, stopped, clear      the first check of a list that catches
 --     cleared                     none of a list catches
 --     append-stopped, append-passed    further checks behind a list
---     no-fault                    no message is faulty: none of the checks 6 to 9 catches
 --     parts-refusal               checks 5 to 9 on the parts of a table are the document's, on the decoded table
 -- Assumes nothing.
 use mathlib.Core.Bool.{Bool, true, false, cond, not, _&&_, _||_}
@@ -14,11 +13,11 @@ use borrow.Author.Tests.{leb-false, lt-ltb, ltb-true, le-ltb, eq-eqb, ne-eqb}
 use lib.Dec.{leb, ltb}
 use lib.ListN.{length, take, drop}
 use Rattle.run_table.proofs.FormatLaws.{decode-count, decode-processes}
-use Rattle.run_table.proofs.NumberLaws.{and-left, and-right, any-tabulate, anyBelow-ext, anyBelow-or, neither-below, none-below, or-false-left, or-false-right}
+use Rattle.run_table.proofs.NumberLaws.{and-left, and-right, any-tabulate, anyBelow-ext, anyBelow-or, none-below, or-false-left, or-false-right}
 use Rattle.run_table.specs.Checks.{Check, badCount, badLength, badProcessCount, badReceipt, badSend, firstCaught, outside, tableChecks, tableRefusal, toItself, tooManyMessages, tooShort, unknownProcess}
 use Rattle.run_table.specs.Format.{checkpointAt, countAt, countsPart, decode, messageAt, messagesIn, processAt, processesIn, receiptsPart, sendsPart, tableLength}
 use Rattle.run_table.specs.Numbers.{any, u16At}
-use Rattle.run_table.specs.Parts.{anyBelow, badCountAt, faultyAt, messageChecks, notBelowAt, partsRefusal, toItselfAt, unknownAt}
+use Rattle.run_table.specs.Parts.{anyBelow, badCountAt, notBelowAt, partsRefusal, toItselfAt, unknownAt}
 use Rattle.run_table.specs.Table.{Message, Table, countOf, processCount}
 
 -- a check that catches nothing is passed over; one that catches gives its number; a list that ends gives 0
@@ -136,18 +135,6 @@ module _ (bytes : List ℕ) where
         let sends : 4 + 2 * n + 4 * m - (4 + 2 * n) ≡ 4 * m = omega arith in
         let receipts : 4 + 2 * n + 4 * m + 4 * m - (4 + 2 * n + 4 * m) ≡ 4 * m = omega arith in
         rw (counts, sends, receipts, read-n, read-m)
-
--- the checks 6 to 9, where no message is faulty
-pub no-fault : (n m : ℕ) (counts sends receipts : List ℕ) → anyBelow m (faultyAt n counts sends receipts) ≡ false
-    → firstCaught (messageChecks n m counts sends receipts) ≡ 0
-unfolding faultyAt
-no-fault n m counts sends receipts none =
-    let senders = neither-below _ _ m none in
-    let receivers = neither-below _ _ m (senders .1) in
-    let pairs = neither-below _ _ m (receivers .1) in
-    let checkpoints = neither-below _ _ m (pairs .1) in
-    passed _ _ _ (senders .0) (passed _ _ _ (receivers .0) (passed _ _ _ (pairs .0)
-    (passed _ _ _ (checkpoints .0) (passed _ _ _ (checkpoints .1) clear))))
 
 -- checks 5 to 9 of the decoded table, in terms of the parts of its bytes
 module _ (bytes : List ℕ) where

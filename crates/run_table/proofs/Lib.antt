@@ -3,13 +3,15 @@
 --     FormatLaws    the parts of a table's bytes, and the entries of the decoded table
 --     CodingLaws    reading and writing undo each other
 --     CheckLaws     the first check that catches; the checks in terms of the parts
+--     FaultLaws     checks of messages, as one loop finds them
 --     AcceptLaws    an accepted table's facts
 --     ReadLaws      what the code knows of an accepted table once it has read N and M
---     ScanLaws      what the loops of the checks find
+--     ScanLaws      what the loop of check 5 finds, and a message's entry
 --     WriteLaws     numbers that a loop writes, one after another
 pub mod AcceptLaws
 pub mod CheckLaws
 pub mod CodingLaws
+mod FaultLaws
 pub mod FormatLaws
 pub mod NumberLaws
 pub mod ReadLaws

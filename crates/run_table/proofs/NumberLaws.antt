@@ -12,7 +12,6 @@
 --     anyBelow-more, anyBelow-found, none-below          `anyBelow`, as a loop finds it
 --     found-below                              an index that passes, where some index does
 --     any-tabulate, anyBelow-ext, anyBelow-or  one test in the other's terms
---     neither-below                            no index passes the or of two tests
 -- Assumes nothing.
 use mathlib.Core.Bool.{Bool, true, false, _&&_, _||_, or-true, true≢false, false≢true}
 use mathlib.Core.List.{List, [], _∷_, _++_, append-assoc}
@@ -271,11 +270,6 @@ pub anyBelow-or : (a b : ℕ → Bool) (n : ℕ) → anyBelow n (λ k. a k || b 
 unfolding anyBelow
 anyBelow-or a b zero = refl
 anyBelow-or a b (suc n) = ap (λ (r : Bool). (a n || b n) || r) (anyBelow-or a b n) ∙ or-exchange (a n) (b n) (anyBelow n a) (anyBelow n b)
-
-pub neither-below : (a b : ℕ → Bool) (n : ℕ) → anyBelow n (λ k. a k || b k) ≡ false → (anyBelow n a ≡ false) × (anyBelow n b ≡ false)
-neither-below a b n none =
-    let each = sym (anyBelow-or a b n) ∙ none in
-    (or-false-left (anyBelow n a) (anyBelow n b) each, or-false-right (anyBelow n a) (anyBelow n b) each)
 
 -- a test over a list that is given by its entries
 module _ {A : Type 0} (test : A → Bool) (n : ℕ) (f : ℕ → A) where

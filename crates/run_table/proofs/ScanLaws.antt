@@ -1,4 +1,4 @@
--- What the loops of the checks find. A loop goes up over the indices below n and leaves at the first that passes its test.
+-- What the loop of check 5 finds. It goes up over the indices below n and leaves at the first that passes its test.
 --     Passed                               the loop's invariant: no index below k passes
 --     passed-none, passed-more, passed-all how it begins, goes on and ends
 --     outside-zero, outside-above, inside  a number and its limit

@@ -1,7 +1,7 @@
 -- What the loops of the code read off a part of a table's bytes, entry by entry. The laws join these to the checks. Assumes nothing.
-use mathlib.Core.Bool.{Bool, false, _||_}
-use mathlib.Core.List.{List, [], _∷_}
-use Prim.Native.Nat.{ℕ, zero, suc}
+use mathlib.Core.Bool.{Bool, cond, false, _||_}
+use mathlib.Core.List.{List, [], _∷_, map}
+use Prim.Native.Nat.{ℕ, zero, suc, min}
 use lib.Dec.{eqb, leb}
 use Rattle.run_table.specs.Checks.{Check, badCount, firstCaught}
 use Rattle.run_table.specs.Format.{checkpointAt, countAt, processAt}
@@ -27,24 +27,36 @@ toItselfAt sends receipts k = eqb (processAt sends k) (processAt receipts k)
 unfoldable pub notBelowAt : List ℕ → List ℕ → ℕ → Bool
 notBelowAt counts part k = leb (countAt counts (processAt part k)) (checkpointAt part k)
 
--- One of the checks 6 to 9 catches message k.
-unfoldable pub faultyAt : ℕ → List ℕ → List ℕ → List ℕ → ℕ → Bool
-faultyAt n counts sends receipts k =
-    unknownAt n sends k || (unknownAt n receipts k || (toItselfAt sends receipts k || (notBelowAt counts sends k || notBelowAt counts receipts k)))
+-- A check of messages: whether it catches message k, and its number.
+pub record MessageCheck : Type 0 where
+  pub catches : ℕ → Bool
+  pub number : ℕ
 
--- Checks 6 to 9 on the parts of a table of n processes and m messages.
-abbrev pub messageChecks : ℕ → ℕ → List ℕ → List ℕ → List ℕ → List Check
-messageChecks n m counts sends receipts =
-    record { caught = anyBelow m (unknownAt n sends); number = 6 }
-    ∷ record { caught = anyBelow m (unknownAt n receipts); number = 6 }
-    ∷ record { caught = anyBelow m (toItselfAt sends receipts); number = 7 }
-    ∷ record { caught = anyBelow m (notBelowAt counts sends); number = 8 }
-    ∷ record { caught = anyBelow m (notBelowAt counts receipts); number = 9 }
+-- Checks 6 to 9, on the parts of a table of n processes.
+abbrev pub messageChecks : ℕ → List ℕ → List ℕ → List ℕ → List MessageCheck
+messageChecks n counts sends receipts =
+    record { catches = unknownAt n sends; number = 6 }
+    ∷ record { catches = unknownAt n receipts; number = 6 }
+    ∷ record { catches = toItselfAt sends receipts; number = 7 }
+    ∷ record { catches = notBelowAt counts sends; number = 8 }
+    ∷ record { catches = notBelowAt counts receipts; number = 9 }
     ∷ []
 
--- Checks 5 to 9 on these.
+-- Such checks of message k alone.
+abbrev pub checksAt : List MessageCheck → ℕ → List Check
+checksAt checks k = map (λ c. record { caught = c .catches k; number = c .number }) checks
+
+-- Such checks of m messages, each over all of them before the next.
+abbrev pub checksBelow : List MessageCheck → ℕ → List Check
+checksBelow checks m = map (λ c. record { caught = anyBelow m (c .catches); number = c .number }) checks
+
+-- Of two refusals the one whose check comes first; 0 is none.
+unfoldable pub sooner : ℕ → ℕ → ℕ
+sooner a b = cond (eqb b 0) a (cond (eqb a 0) b (min a b))
+
+-- Checks 5 to 9, on the parts of a table of n processes and m messages.
 abbrev pub partsChecks : ℕ → ℕ → List ℕ → List ℕ → List ℕ → List Check
-partsChecks n m counts sends receipts = record { caught = anyBelow n (badCountAt counts); number = 5 } ∷ messageChecks n m counts sends receipts
+partsChecks n m counts sends receipts = record { caught = anyBelow n (badCountAt counts); number = 5 } ∷ checksBelow (messageChecks n counts sends receipts) m
 
 abbrev pub partsRefusal : ℕ → ℕ → List ℕ → List ℕ → List ℕ → ℕ
 partsRefusal n m counts sends receipts = firstCaught (partsChecks n m counts sends receipts)

@@ -6,7 +6,7 @@ ghost use mathlib.Core.Bool.{false};
 ghost use Prim.Native.Nat.{_+_, _*_, _<_};
 ghost use lib.ListN.{length};
 ghost use Rattle.run_table.specs.Checks.{firstCaught, tableRefusal};
-ghost use Rattle.run_table.specs.Parts.{anyBelow, badCountAt, unknownAt, toItselfAt, notBelowAt, faultyAt, messageChecks, partsRefusal};
+ghost use Rattle.run_table.specs.Parts.{anyBelow, badCountAt, unknownAt, toItselfAt, notBelowAt, messageChecks, checksAt, checksBelow, sooner, partsRefusal};
 
 // Whether one of the n counts of a part is 0 or above 4,096 (check 5).
 fn bad_count(counts: &[u8], n: usize) -> bool
@@ -60,92 +60,67 @@ fn not_below_at(counts: &[u8], part: &[u8], n: usize, k: usize) -> bool
     count <= checkpoint
 }
 
-// Whether one of the checks 6 to 9 catches message k. A process is known before its count is read.
-fn faulty_at(counts: &[u8], sends: &[u8], receipts: &[u8], n: usize, k: usize) -> bool
+// The number of the first of the checks 6 to 9 that catches message k, or 0. A process is known before
+// its count is read.
+fn fault_at(counts: &[u8], sends: &[u8], receipts: &[u8], n: usize, k: usize) -> u32
     requires { ⌜ length (now counts) ≡ 2 * n ⌝ }
     requires { ⌜ 4 * k + 3 < length (now sends) ⌝ }
     requires { ⌜ 4 * k + 3 < length (now receipts) ⌝ }
-    ensures { λ r. ⌜ r ≡ faultyAt n (now (counts .entry)) (now (sends .entry)) (now (receipts .entry)) k ⌝ }
+    ensures { λ r. ⌜ r ≡ firstCaught (checksAt (messageChecks n (now (counts .entry)) (now (sends .entry)) (now (receipts .entry))) k) ⌝ }
 {
     if unknown_at(sends, n, k) {
-        return true;
+        return 6;
     }
     if unknown_at(receipts, n, k) {
-        return true;
+        return 6;
     }
     if to_itself_at(sends, receipts, k) {
-        return true;
+        return 7;
     }
     if not_below_at(counts, sends, n, k) {
-        return true;
+        return 8;
     }
-    not_below_at(counts, receipts, n, k)
+    if not_below_at(counts, receipts, n, k) {
+        return 9;
+    }
+    0
 }
 
-// Whether one of the m messages is caught by one of the checks 6 to 9: one look at each message.
-fn faulty_message(counts: &[u8], sends: &[u8], receipts: &[u8], n: usize, m: usize) -> bool
+// Of two refusals the one whose check comes first; 0 is none.
+fn sooner_of(a: u32, b: u32) -> u32
+    ensures { λ r. ⌜ r ≡ sooner a b ⌝ }
+{
+    if b == 0 {
+        return a;
+    }
+    if a == 0 {
+        return b;
+    }
+    if b < a {
+        return b;
+    }
+    a
+}
+
+// Checks 6 to 9 of m messages: the number of the first that catches one of them, or 0. One look at each
+// message is enough, since a check with a smaller number comes first.
+fn first_fault(counts: &[u8], sends: &[u8], receipts: &[u8], n: usize, m: usize) -> u32
     requires { ⌜ length (now counts) ≡ 2 * n ⌝ }
     requires { ⌜ length (now sends) ≡ 4 * m ⌝ }
     requires { ⌜ length (now receipts) ≡ 4 * m ⌝ }
-    ensures { λ r. ⌜ r ≡ anyBelow m (faultyAt n (now (counts .entry)) (now (sends .entry)) (now (receipts .entry))) ⌝ }
+    ensures { λ r. ⌜ r ≡ firstCaught (checksBelow (messageChecks n (now (counts .entry)) (now (sends .entry)) (now (receipts .entry))) m) ⌝ }
 {
+    let mut first = 0;
     let mut k = 0;
     while k < m {
-        if faulty_at(counts, sends, receipts, n, k) {
-            return true;
-        }
+        let fault = fault_at(counts, sends, receipts, n, k);
         k += 1;
-    }
-    false
-}
-
-// Whether one of the m entries of a part names a process of n or above (half of check 6).
-fn unknown_process(part: &[u8], m: usize, n: usize) -> bool
-    requires { ⌜ length (now part) ≡ 4 * m ⌝ }
-    ensures { λ r. ⌜ r ≡ anyBelow m (unknownAt n (now (part .entry))) ⌝ }
-{
-    let mut k = 0;
-    while k < m {
-        if unknown_at(part, n, k) {
-            return true;
+        if fault == 0 {
+            continue;
         }
-        k += 1;
+        first = sooner_of(first, fault);
     }
-    false
-}
-
-// Whether one of the m messages has the same sender and receiver (check 7).
-fn to_itself(sends: &[u8], receipts: &[u8], m: usize) -> bool
-    requires { ⌜ length (now sends) ≡ 4 * m ⌝ }
-    requires { ⌜ length (now receipts) ≡ 4 * m ⌝ }
-    ensures { λ r. ⌜ r ≡ anyBelow m (toItselfAt (now (sends .entry)) (now (receipts .entry))) ⌝ }
-{
-    let mut k = 0;
-    while k < m {
-        if to_itself_at(sends, receipts, k) {
-            return true;
-        }
-        k += 1;
-    }
-    false
-}
-
-// Whether one of the m entries of a part names a checkpoint that is not below the count of its
-// process (check 8 of the sends, check 9 of the receipts). Every process named has a count.
-fn not_below(counts: &[u8], part: &[u8], m: usize, n: usize) -> bool
-    requires { ⌜ length (now counts) ≡ 2 * n ⌝ }
-    requires { ⌜ length (now part) ≡ 4 * m ⌝ }
-    requires { ⌜ anyBelow m (unknownAt n (now part)) ≡ false ⌝ }
-    ensures { λ r. ⌜ r ≡ anyBelow m (notBelowAt (now (counts .entry)) (now (part .entry))) ⌝ }
-{
-    let mut k = 0;
-    while k < m {
-        if not_below_at(counts, part, n, k) {
-            return true;
-        }
-        k += 1;
-    }
-    false
+    first
 }
 
 // The refusal of a table's bytes: the number of the first of the checks 1 to 9 that catches, or 0.
@@ -178,8 +153,7 @@ pub fn check(table: &[u8]) -> u32
     entry_checks(counts, sends, receipts, n, m)
 }
 
-// Checks 5 to 9, on the three parts of a table whose length is right. Where no message is faulty, as in
-// an accepted table, one look at each is enough.
+// Checks 5 to 9, on the three parts of a table whose length is right.
 fn entry_checks(counts: &[u8], sends: &[u8], receipts: &[u8], n: usize, m: usize) -> u32
     requires { ⌜ length (now counts) ≡ 2 * n ⌝ }
     requires { ⌜ length (now sends) ≡ 4 * m ⌝ }
@@ -189,33 +163,5 @@ fn entry_checks(counts: &[u8], sends: &[u8], receipts: &[u8], n: usize, m: usize
     if bad_count(counts, n) {
         return 5;
     }
-    if faulty_message(counts, sends, receipts, n, m) {
-        return first_fault(counts, sends, receipts, n, m);
-    }
-    0
-}
-
-// Checks 6 to 9, in their order.
-fn first_fault(counts: &[u8], sends: &[u8], receipts: &[u8], n: usize, m: usize) -> u32
-    requires { ⌜ length (now counts) ≡ 2 * n ⌝ }
-    requires { ⌜ length (now sends) ≡ 4 * m ⌝ }
-    requires { ⌜ length (now receipts) ≡ 4 * m ⌝ }
-    ensures { λ r. ⌜ r ≡ firstCaught (messageChecks n m (now (counts .entry)) (now (sends .entry)) (now (receipts .entry))) ⌝ }
-{
-    if unknown_process(sends, m, n) {
-        return 6;
-    }
-    if unknown_process(receipts, m, n) {
-        return 6;
-    }
-    if to_itself(sends, receipts, m) {
-        return 7;
-    }
-    if not_below(counts, sends, m, n) {
-        return 8;
-    }
-    if not_below(counts, receipts, m, n) {
-        return 9;
-    }
-    0
+    first_fault(counts, sends, receipts, n, m)
 }

@@ -1,91 +1,60 @@
--- `checks::first_fault` meets its contract: each call answers one check of the list, in its order.
+-- `checks::first_fault` meets its contract: the loop looks at one message after another.
 -- Assumes nothing.
-use borrow.Author.Needs.{needs}
 use native.Mathlib.Omega.{arith}
-use mathlib.Core.List.{List}
-use mathlib.Core.Path.{_≡_, sym, _∙_}
-use Prim.Native.Nat.{ℕ}
-use lib.ListN.{drop}
-use denote.Ref.{now}
-use Rattle.run_table.proofs.CheckLaws.{passed, stopped, clear}
-use Rattle.run_table.specs.Checks.{Check, firstCaught}
+use mathlib.Core.Path.{refl}
+use Prim.Native.Nat.{_-_}
+use Rattle.run_table.proofs.FaultLaws.{Looked, looked-none, looked-more, looked-all, risesFrom, sooner-none}
 use Rattle.run_table.specs.Parts.{messageChecks}
 use Rattle.run_table.proofs.checks.first_fault.Statement.{statement}
 use Rattle.run_table.proofs.checks.first_fault.Tie as tie
 
--- the checks, and their refusal where the first ones catch nothing
-abbrev checks : tie.Else1 → List Check
-checks c =
-    let args = c .before .before .before .before .before .args in
-    messageChecks (args .n) (args .m) (now (args .counts)) (now (args .sends)) (now (args .receipts))
+abbrev Inv-loop : tie.InvT-loop
+Inv-loop counts sends receipts n m first₀ k₀ first k = Looked (messageChecks n counts sends receipts) m k first
 
-abbrev Past : tie.Else1 → ℕ → Type 0
-Past c i = (x : ℕ) → firstCaught (drop i (checks c)) ≡ x → firstCaught (checks c) ≡ x
+abbrev μ-loop : tie.MeasureT-loop
+μ-loop counts sends receipts n m first₀ k₀ first k = m - k
 
-past-1 : (c : tie.Else1) → Past c 1
-past-1 c x later = passed _ _ _ (sym (c .before .unknown-process .ensures) ∙ c .if1 .left) later
+loop-holds : tie.Need-loop-holds Inv-loop μ-loop
+loop-holds c = looked-none _ _
 
-past-2 : (c : tie.Else2) → Past (c .before .before) 2
-past-2 c x later = past-1 (c .before .before) x (passed _ _ _ (sym (c .before .unknown-process2 .ensures) ∙ c .if2 .left) later)
+fault-at-requires : tie.Need-fault-at-requires Inv-loop μ-loop
+fault-at-requires c κs = omega arith
 
-past-3 : (c : tie.Else3) → Past (c .before .before .before .before) 3
-past-3 c x later = past-2 (c .before .before) x (passed _ _ _ (sym (c .before .to-itself .ensures) ∙ c .if3 .left) later)
+add-k : tie.Need-add-k Inv-loop μ-loop
+add-k c = omega arith
 
-past-4 : (c : tie.Else4) → Past (c .before .before .before .before .before .before) 4
-past-4 c x later = past-3 (c .before .before) x (passed _ _ _ (sym (c .before .not-below .ensures) ∙ c .if4 .left) later)
+loop-less : tie.Need-loop-less Inv-loop μ-loop
+loop-less c = omega arith
 
-past-5 : (c : tie.Else5) → Past (c .before .before .before .before .before .before .before .before) 5
-past-5 c x later = past-4 (c .before .before) x (passed _ _ _ (sym (c .before .not-below2 .ensures) ∙ c .if5 .left) later)
+loop-again : tie.Need-loop-again Inv-loop μ-loop
+unfolding risesFrom
+loop-again c = looked-more _ _ _ _ (c .before .before .before .loop .inv) refl (c .before .before .loop-test .taken) _ _ (c .before .fault-at .ensures) (sooner-none _ _ (c .if1 .taken))
 
-unknown-process-requires : tie.Need-unknown-process-requires
-unknown-process-requires c κs = search needs
+sooner-of-requires : tie.Need-sooner-of-requires Inv-loop μ-loop
+sooner-of-requires c κs = tt
 
-returns : tie.Need-returns
-returns c = sym (stopped _ _ (sym (c .before .unknown-process .ensures) ∙ c .if1 .taken))
+loop-less-2 : tie.Need-loop-less-2 Inv-loop μ-loop
+loop-less-2 c = omega arith
 
-unknown-process-requires-2 : tie.Need-unknown-process-requires-2
-unknown-process-requires-2 c κs = search needs
+loop-again-2 : tie.Need-loop-again-2 Inv-loop μ-loop
+unfolding risesFrom
+loop-again-2 c = looked-more _ _ _ _ (c .before .before .before .before .loop .inv) refl (c .before .before .before .loop-test .taken) _ _ (c .before .before .fault-at .ensures) (c .sooner-of .ensures)
 
-returns-2 : tie.Need-returns-2
-returns-2 c = sym (past-1 (c .before .before) _ (stopped _ _ (sym (c .before .unknown-process2 .ensures) ∙ c .if2 .taken)))
-
-to-itself-requires : tie.Need-to-itself-requires
-to-itself-requires c κs = search needs
-
-returns-3 : tie.Need-returns-3
-returns-3 c = sym (past-2 (c .before .before) _ (stopped _ _ (sym (c .before .to-itself .ensures) ∙ c .if3 .taken)))
-
-not-below-requires : tie.Need-not-below-requires
-not-below-requires c κs =
-    let known = c .before .before .before .before in
-    (omega arith, (omega arith, sym (known .before .unknown-process .ensures) ∙ known .if1 .left))
-
-returns-4 : tie.Need-returns-4
-returns-4 c = sym (past-3 (c .before .before) _ (stopped _ _ (sym (c .before .not-below .ensures) ∙ c .if4 .taken)))
-
-not-below-requires-2 : tie.Need-not-below-requires-2
-not-below-requires-2 c κs =
-    let known = c .before .before .before .before in
-    (omega arith, (omega arith, sym (known .before .unknown-process2 .ensures) ∙ known .if2 .left))
-
-returns-5 : tie.Need-returns-5
-returns-5 c = sym (past-4 (c .before .before) _ (stopped _ _ (sym (c .before .not-below2 .ensures) ∙ c .if5 .taken)))
-
-returns-6 : tie.Need-returns-6
-returns-6 c = sym (past-5 c _ clear)
+returns : tie.Need-returns Inv-loop μ-loop
+returns c = looked-all _ _ _ _ (c .before .loop .inv) (c .loop-test .left)
 
 pub first-fault-spec : {M : Type 1} → statement M
 first-fault-spec =
     tie.close
     (tie.spec
-    unknown-process-requires
-    returns
-    unknown-process-requires-2
-    returns-2
-    to-itself-requires
-    returns-3
-    not-below-requires
-    returns-4
-    not-below-requires-2
-    returns-5
-    returns-6)
+    Inv-loop
+    μ-loop
+    loop-holds
+    fault-at-requires
+    add-k
+    loop-less
+    loop-again
+    sooner-of-requires
+    loop-less-2
+    loop-again-2
+    returns)
