@@ -1,9 +1,9 @@
 -- Laws of ceilings and of the lines of sets.
 --     ceiling-length, ceiling-at    the ceiling of a set, process by process
+--     orphan-in                     an orphan is a message of the table
 --     set-latest, set-length        the line of a set is the latest one under its ceiling
 --     counts-consistent, counts-latest    the counts are a consistent line, and the line under themselves
 --     line-of-none                  the line of the empty set is the counts
---     line-is-ceiling               the line of a set is its ceiling, where a rollback of none of its members propagates
 --     line-smallest                 the line of a set is the minimum of the counts and of its members' lines
 --     smallest-below, smallest-of   such a minimum is at or below each member's line, and is one of them
 --     line-of-members               the line of a non-empty set is the minimum of its members' lines
@@ -19,14 +19,19 @@ use borrow.Author.Tests.{eq-eqb, ne-eqb, le-leb, lt-ltb, le-ltb}
 use lib.Dec.{eqb, ltb}
 use lib.ListN.{length, getD, List·getD-eq-default}
 use Rattle.consistency.proofs.LineLaws.{latest-min, latest-same, latest-unique}
-use Rattle.consistency.proofs.LoweringLaws.{line-consistent, line-is, line-latest, line-length}
-use Rattle.consistency.specs.Ceilings.{Holders, ceilingOf, lineOf, orphaned, propagatesFrom, single, smallest}
+use Rattle.consistency.proofs.LoweringLaws.{line-is, line-latest, line-length}
+use Rattle.consistency.specs.Ceilings.{Holders, ceilingOf, lineOf, single}
 use Rattle.consistency.specs.Lines.{AtOrBelow, Consistent, Latest, Line, Orphan, at}
 use Rattle.run_table.proofs.FormatLaws.{count-beyond, message-beyond}
-use Rattle.run_table.proofs.NumberLaws.{anyBelow-found, getD-tabulate, length-tabulate}
+use Rattle.run_table.proofs.ListLaws.{getD-tabulate, length-tabulate}
 use Rattle.run_table.specs.Checks.{WellFormed}
-use Rattle.run_table.specs.Numbers.{tabulate}
+use Rattle.run_table.specs.Lists.{tabulate}
 use Rattle.run_table.specs.Table.{Message, Table, countOf, messageCount, messageOf, processCount}
+
+-- The place-by-place minimum of a line and of the lines of a set's members below n.
+unfoldable pub smallest : ℕ → Holders → (ℕ → Line) → Line → Line
+smallest zero holds lines base p = base p
+smallest (suc n) holds lines base p = cond (holds n) (min (lines n p) (smallest n holds lines base p)) (smallest n holds lines base p)
 
 -- without a checkpoint, a process stands at 0 either way
 pub all-zero : (b : Bool) (c : ℕ) → c ≡ 0 → cond b (c - 1) c ≡ 0
@@ -71,7 +76,7 @@ module _ (t : Table) (holds : Holders) where
   set-below p = le-trans (set-latest .under p) (ceiling-below p)
 
 -- an orphan is a message of the table
-orphan-in : (t : Table) (k : ℕ) (l : Line) → Orphan (messageOf t k) l → k < messageCount t
+pub orphan-in : (t : Table) (k : ℕ) (l : Line) → Orphan (messageOf t k) l → k < messageCount t
 orphan-in t k l o = go (decLt k (messageCount t))
   where
     go : Dec (k < messageCount t) → k < messageCount t
@@ -93,21 +98,6 @@ module _ (t : Table) (w : WellFormed t) where
       sym (line-is (t .messages) (ceilingOf t (λ p. false)) (t .counts) (sym (ceiling-length t (λ p. false)))
       (latest-same (t .messages) (countOf t) (at (ceilingOf t (λ p. false))) (countOf t) (at (t .counts))
       (λ p. sym (ceiling-at t (λ p. false) p)) (λ p. refl) counts-latest))
-
-  -- an orphan of the ceiling is orphaned by a rollback of its sender, which holds
-  pub line-is-ceiling : (holds : Holders) → ((p : ℕ) → holds p ≡ true → propagatesFrom t p ≡ false) → lineOf t holds ≡ ceilingOf t holds
-  unfolding lineOf messageOf propagatesFrom orphaned
-  line-is-ceiling holds none = sym (line-consistent (t .messages) (ceilingOf t holds) (λ k o. go k o (holds (messageOf t k .sender)) refl))
-    where
-      go : (k : ℕ) → Orphan (messageOf t k) (at (ceilingOf t holds)) → (b : Bool) → holds (messageOf t k .sender) ≡ b → ⊥
-      go k o true e =
-          let m = messageOf t k in
-          let last : countOf t (m .sender) - 1 ≤ m .sent = omega (arith, o .sent-after, rw e at (ceiling-at t holds (m .sender))) in
-          false≢true (sym (none (m .sender) e) ∙ anyBelow-found _ (messageCount t) k (orphan-in t k _ o)
-          (rw (eq-eqb (m .sender) (m .sender) refl, le-leb _ _ last, lt-ltb 0 (m .received) (o .delivered))))
-      go k o false e =
-          let m = messageOf t k in
-          omega (arith, o .sent-after, rw e at (ceiling-at t holds (m .sender)), w .good-messages k (orphan-in t k _ o) .sent-below)
 
   -- the minimum over the members, one after another: of the lines under the minimum of the ceilings
   smallest-latest : (holds : Holders) (n : ℕ)

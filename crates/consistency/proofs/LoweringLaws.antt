@@ -24,8 +24,9 @@ use lib.ListN.{length, getD, set, length-set, List·getD-eq-default}
 use lib.Seq.{ext-getD, getD-set-same, getD-set-other}
 use Rattle.consistency.proofs.LineLaws.{latest-from, latest-unique, orphan-free, zero-consistent}
 use Rattle.consistency.specs.Lines.{AtOrBelow, Consistent, Latest, Line, Orphan, at}
-use Rattle.consistency.specs.Lowering.{isOrphan, lineUnder, lower, pass, passes, sum}
-use Rattle.run_table.proofs.NumberLaws.{and-left, and-right}
+use Rattle.consistency.specs.Lowering.{isOrphan, lineUnder, lower, pass, passes}
+use Rattle.run_table.proofs.ListLaws.{and-left, and-right}
+use Rattle.run_table.specs.Lists.{sum}
 use Rattle.run_table.specs.Table.{Message, noMessage}
 
 -- ---- the test of an orphan

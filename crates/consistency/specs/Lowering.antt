@@ -1,10 +1,11 @@
 -- The computed line (document 01, "Lowering rule"): rollback propagation. Assumes nothing.
 use mathlib.Core.Bool.{Bool, cond, _&&_}
 use mathlib.Core.List.{List, [], _∷_}
-use Prim.Native.Nat.{ℕ, zero, suc, _+_, _-_}
+use Prim.Native.Nat.{ℕ, zero, suc, _-_}
 use lib.Dec.{leb, ltb}
 use lib.ListN.{set}
 use Rattle.consistency.specs.Lines.{at}
+use Rattle.run_table.specs.Lists.{sum}
 use Rattle.run_table.specs.Table.{Message}
 
 -- Whether a message is an orphan of a line.
@@ -24,11 +25,6 @@ pass (m ∷ rest) l = lower m (pass rest l)
 unfoldable pub passes : ℕ → List Message → List ℕ → List ℕ
 passes zero messages l = l
 passes (suc n) messages l = passes n messages (pass messages l)
-
--- The sum of a line.
-unfoldable pub sum : List ℕ → ℕ
-sum [] = 0
-sum (n ∷ rest) = n + sum rest
 
 -- The line under a ceiling: as many passes as the ceiling's sum, since a pass that lowers anything lowers the sum, and one
 -- that lowers nothing is followed by none that does.

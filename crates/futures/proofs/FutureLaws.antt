@@ -28,7 +28,7 @@ use Rattle.futures.specs.Futures.{FollowedTo, Future, NeedsCheckpoint, N
 use Rattle.futures.specs.Steps.{Step, afterCheckpoint, afterRollback, afterSend, checkpoint, checkpointChecks, putBack, receivedAt, remaining, rollback, send, sendChecks, stays, step}
 use Rattle.run_table.proofs.FormatLaws.{count-beyond, message-beyond}
 use Rattle.run_table.specs.Checks.{WellFormed, firstCaught}
-use Rattle.run_table.specs.Numbers.{any}
+use Rattle.run_table.specs.Lists.{any}
 use Rattle.run_table.specs.Table.{Message, Table, countOf, messageCount, messageOf, processCount}
 
 pub end-well-formed : (t : Table) → WellFormed t → (future : Future) → WellFormed (endOf t future)

@@ -22,9 +22,9 @@ use lib.Seq.{getD-append-add}
 use Rattle.consistency.specs.Lines.{Line, at}
 use Rattle.futures.proofs.FutureLaws.{known-process}
 use Rattle.futures.specs.Demand3.{Listed}
-use Rattle.futures.specs.Sheet.{Kept, crosses, holderLine, keepsCheckpoint, keepsMessage, keptCheckpoints, keptMessages, rows, select}
-use Rattle.run_table.proofs.NumberLaws.{and-left, and-right, anyBelow-found, found-below}
-use Rattle.run_table.specs.Parts.{anyBelow}
+use Rattle.futures.specs.Sheet.{Kept, crosses, holderLine, keepsCheckpoint, keepsMessage, keptCheckpoints, keptMessages}
+use Rattle.run_table.proofs.ListLaws.{and-left, and-right, anyBelow-found, found-below, one, select-rows}
+use Rattle.run_table.specs.Lists.{anyBelow, rows, select}
 use Rattle.run_table.specs.Table.{Message, Table, countOf, messageCount, messageOf, processCount}
 
 -- ---- membership
@@ -173,15 +173,7 @@ module _ {A : Type 0} (f : ℕ → List A) where
 
 -- ---- the numbers that pass a test
 module _ (test : ℕ → Bool) where
-  abbrev one : ℕ → List ℕ
-  one k = cond (test k) (k ∷ []) []
-
-  select-rows : (n : ℕ) → select test n ≡ rows one n
-  unfolding select rows
-  select-rows zero = refl
-  select-rows (suc n) = ap (λ (l : List ℕ). l ++ one n) (select-rows n)
-
-  one-listed : (k i : ℕ) → Listed k (one i) → (i ≡ k) × (test i ≡ true)
+  one-listed : (k i : ℕ) → Listed k (one test i) → (i ≡ k) × (test i ≡ true)
   one-listed k i h = go (test i) refl h
     where
       go : (b : Bool) → test i ≡ b → Listed k (cond b (i ∷ []) []) → (i ≡ k) × (test i ≡ true)
@@ -189,21 +181,21 @@ module _ (test : ℕ → Bool) where
       go false e l = absurd (listed-none k l)
 
   pub select-listed : (n k : ℕ) → Listed k (select test n) ↔ ((k < n) × (test k ≡ true))
-  select-listed n k = subst⁻¹ (λ (l : List ℕ). Listed k l ↔ ((k < n) × (test k ≡ true))) (select-rows n) (there, back)
+  select-listed n k = subst⁻¹ (λ (l : List ℕ). Listed k l ↔ ((k < n) × (test k ≡ true))) (select-rows test n) (there, back)
     where
-      there : Listed k (rows one n) → (k < n) × (test k ≡ true)
+      there : Listed k (rows (one test) n) → (k < n) × (test k ≡ true)
       there h =
-          let row = rows-listed one k n h in
+          let row = rows-listed (one test) k n h in
           let passes = one-listed k (row .0) (row .2) in
           (subst (λ (i : ℕ). i < n) (passes .0) (row .1), ap test (sym (passes .0)) ∙ passes .1)
 
-      back : (k < n) × (test k ≡ true) → Listed k (rows one n)
-      back h = listed-rows one k n k (h .0) (subst⁻¹ (λ (b : Bool). Listed k (cond b (k ∷ []) [])) (h .1) (listed-one k k .1 refl))
+      back : (k < n) × (test k ≡ true) → Listed k (rows (one test) n)
+      back h = listed-rows (one test) k n k (h .0) (subst⁻¹ (λ (b : Bool). Listed k (cond b (k ∷ []) [])) (h .1) (listed-one k k .1 refl))
 
   pub select-ordered : (n : ℕ) → Ordered _<_ (select test n)
   select-ordered n =
-      subst⁻¹ (λ (l : List ℕ). Ordered _<_ l) (select-rows n)
-      (rows-ordered one _<_ (λ i. each i (test i))
+      subst⁻¹ (λ (l : List ℕ). Ordered _<_ l) (select-rows test n)
+      (rows-ordered (one test) _<_ (λ i. each i (test i))
       (λ i j x y b h k. omega (arith, one-listed x i h .0, one-listed y j k .0)) n)
     where
       each : (i : ℕ) (b : Bool) → Ordered _<_ (cond b (i ∷ []) [])

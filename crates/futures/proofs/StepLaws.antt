@@ -39,9 +39,9 @@ use Rattle.consistency.specs.Lines.{AtOrBelow, Latest, Orphan, at}
 use Rattle.futures.specs.Steps.{Step, afterCheckpoint, afterRollback, afterSend, badPosition, checkpoint, checkpointChecks, follows, notRising, putBack, receivedAt, remaining, rollback, send, sendChecks, stays, step, unlessCaught, waitsFor}
 use Rattle.run_table.proofs.CheckLaws.{clear, cleared, passed}
 use Rattle.run_table.proofs.FormatLaws.{count-beyond, message-beyond}
-use Rattle.run_table.proofs.NumberLaws.{and-left, and-right, any-none, getD-tabulate, length-tabulate, or-false-left, or-false-right}
+use Rattle.run_table.proofs.ListLaws.{and-left, and-right, any-none, getD-tabulate, length-tabulate, or-false-left, or-false-right}
 use Rattle.run_table.specs.Checks.{Check, GoodMessage, Limits, WellFormed, firstCaught}
-use Rattle.run_table.specs.Numbers.{any}
+use Rattle.run_table.specs.Lists.{any}
 use Rattle.run_table.specs.Table.{Message, Table, countOf, messageCount, messageOf, noMessage, processCount}
 
 -- A message with another receipt number.

@@ -28,7 +28,7 @@ use Rattle.futures.specs.Futures.{CheckpointNeeded, FollowedTo, Future, 
 use Rattle.futures.specs.Sheet.{holderLine, keepsCheckpoint, keepsMessage}
 use Rattle.futures.specs.Steps.{afterCheckpoint, checkpoint, checkpointChecks, notRising, step}
 use Rattle.run_table.specs.Checks.{WellFormed}
-use Rattle.run_table.specs.Numbers.{any}
+use Rattle.run_table.specs.Lists.{any}
 use Rattle.run_table.specs.Table.{Message, Table, countOf, messageCount, messageOf, noMessage, processCount}
 
 -- Each process below n outside a set checkpoints once, receiving nothing.

@@ -1,19 +1,23 @@
 -- The keep sheet (document 01, "The keep sheet"): retained checkpoints and message logs, from the lines of single holders.
 -- Assumes nothing.
-use mathlib.Core.Bool.{Bool, cond, _&&_, _||_}
-use mathlib.Core.List.{List, [], _∷_, _++_, map}
-use Prim.Native.Nat.{ℕ, zero, suc}
+use mathlib.Core.Bool.{Bool, _&&_, _||_}
+use mathlib.Core.List.{List, _∷_, _++_, map}
+use Prim.Native.Nat.{ℕ}
 use lib.Dec.{eqb, ltb}
 use lib.ListN.{length}
 use Rattle.consistency.specs.Ceilings.{lineOf, single}
 use Rattle.consistency.specs.Lines.{at}
+use Rattle.run_table.specs.Lists.{anyBelow, rows, select}
 use Rattle.run_table.specs.Numbers.{u16s}
-use Rattle.run_table.specs.Parts.{anyBelow}
 use Rattle.run_table.specs.Table.{Message, Table, countOf, messageCount, messageOf, processCount}
 
 -- The line whose holding set is process k alone.
 unfoldable pub holderLine : Table → ℕ → List ℕ
 holderLine t k = lineOf t (single k)
+
+-- The N lines of single holders, each of N numbers, one after another: the line of process 0 first.
+unfoldable pub holderLines : Table → List ℕ
+holderLines t = rows (holderLine t) (processCount t)
 
 -- Checkpoint c of process i is kept when c is below the count of i and some single holder's line has c at i.
 unfoldable pub keepsCheckpoint : Table → ℕ → ℕ → Bool
@@ -26,16 +30,6 @@ crosses l m = ltb (m .sent) (at l (m .sender)) && ltb (at l (m .receiver)) (m .r
 -- A message is kept when it is undelivered, or when it crosses some single holder's line.
 unfoldable pub keepsMessage : Table → Message → Bool
 keepsMessage t m = eqb (m .received) 0 || anyBelow (processCount t) (λ k. crosses (holderLine t k) m)
-
--- The numbers below n that pass a test, rising.
-unfoldable pub select : (ℕ → Bool) → ℕ → List ℕ
-select test zero = []
-select test (suc n) = select test n ++ cond (test n) (n ∷ []) []
-
--- Lists for the numbers below n, one after another.
-unfoldable pub rows : {A : Type 0} → (ℕ → List A) → ℕ → List A
-rows f zero = []
-rows f (suc n) = rows f n ++ f n
 
 -- A checkpoint of a process.
 pub record Kept : Type 0 where

@@ -8,7 +8,7 @@ use lib.ListN.{set}
 use Rattle.consistency.specs.Ceilings.{recoveryLine}
 use Rattle.consistency.specs.Lines.{at}
 use Rattle.run_table.specs.Checks.{Check, firstCaught}
-use Rattle.run_table.specs.Numbers.{any, tabulate}
+use Rattle.run_table.specs.Lists.{any, tabulate}
 use Rattle.run_table.specs.Table.{Message, Table, countOf, messageCount, messageOf, processCount}
 
 -- A step: a send from one process to another, a checkpoint of a process after receiving the messages at a list of positions,

@@ -14,10 +14,12 @@ use Rattle.consistency.specs.Lines.{Latest, at}
 use Rattle.keeper.proofs.AnswerLaws.{put-in-front}
 use Rattle.keeper.specs.Calls.{HoldsLatest}
 use Rattle.run_table.proofs.AcceptLaws.{accepted}
-use Rattle.run_table.proofs.NumberLaws.{getD-tabulate, length-tabulate, length-u16s, u16At-u16s}
+use Rattle.run_table.proofs.ListLaws.{getD-tabulate, length-tabulate}
+use Rattle.run_table.proofs.NumberLaws.{length-u16s, u16At-u16s}
 use Rattle.run_table.specs.Checks.{tableRefusal}
 use Rattle.run_table.specs.Format.{decode}
-use Rattle.run_table.specs.Numbers.{putAt, tabulate, u16At, u16s}
+use Rattle.run_table.specs.Lists.{tabulate}
+use Rattle.run_table.specs.Numbers.{putAt, u16At, u16s}
 use Rattle.run_table.specs.Table.{Table, processCount}
 
 pub line-size : (t : Table) (holds : Holders) → length (u16s (lineOf t holds)) ≡ 2 * processCount t

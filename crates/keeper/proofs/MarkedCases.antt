@@ -4,18 +4,18 @@ use mathlib.Core.Bool.{true}
 use mathlib.Core.Path.{_≡_, refl}
 use Rattle.run_table.specs.Checks.{badCount, badLength, badProcessCount, badReceipt, badSend, firstCaught, outside, tableChecks, tableRefusal, toItself, tooManyMessages, tooShort, unknownProcess}
 use Rattle.run_table.specs.Format.{checkpointAt, countAt, countsPart, decode, encode, entriesOf, messageAt, messagesIn, processAt, processesIn, receiptsPart, sendsPart, tableLength}
-use Rattle.run_table.specs.Numbers.{any, tabulate, u16At, u16Bytes, u16s}
-use Rattle.run_table.specs.Parts.{anyBelow}
+use Rattle.run_table.specs.Lists.{any, anyBelow, rows, select, sum, tabulate}
+use Rattle.run_table.specs.Numbers.{u16At, u16Bytes, u16s}
 use Rattle.run_table.specs.Table.{countOf, messageCount, messageOf, processCount}
 use Rattle.consistency.specs.Ceilings.{ceilingOf, lineOf, recoveryLine, single}
-use Rattle.consistency.specs.Lowering.{isOrphan, lineUnder, lower, pass, passes, sum}
-use Rattle.process_set.specs.Sets.{anyBelow as anyBit, highBit, member}
+use Rattle.consistency.specs.Lowering.{isOrphan, lineUnder, lower, pass, passes}
+use Rattle.process_set.specs.Sets.{highBit, member}
 use Rattle.futures.specs.Steps.{afterRollback, putBack, remaining, stays}
-use Rattle.futures.specs.Sheet.{crosses, holderLine, keepsCheckpoint, keepsMessage, keptCheckpoints, keptMessages, rows, select, sheet}
+use Rattle.futures.specs.Sheet.{crosses, holderLine, keepsCheckpoint, keepsMessage, keptCheckpoints, keptMessages, sheet}
 use Rattle.keeper.specs.Answers.{answer, unless}
 use Rattle.keeper.specs.Calls.{fallBackAnswer, keepSheetAnswer, lineOfSetAnswer, recoveryLineAnswer, scratchChecks}
 use Rattle.keeper.specs.Cases.{allHold, answerOf, lateReceipt, lateSend, markedCases, sameAnswer, sameBytes, tableA, tableB, tableC, tableD}
 
 pub marked-cases : allHold markedCases ≡ true
-unfolding firstCaught outside tooShort badProcessCount tooManyMessages badLength badCount unknownProcess toItself badSend badReceipt tableChecks tableRefusal processesIn messagesIn tableLength countsPart sendsPart receiptsPart countAt processAt checkpointAt messageAt decode entriesOf encode u16At u16Bytes u16s tabulate any anyBelow processCount messageCount countOf messageOf ceilingOf lineOf recoveryLine single isOrphan lower pass passes sum lineUnder member anyBit highBit stays putBack remaining afterRollback holderLine keepsCheckpoint crosses keepsMessage select rows keptCheckpoints keptMessages sheet unless answer recoveryLineAnswer lineOfSetAnswer scratchChecks keepSheetAnswer fallBackAnswer tableA tableB tableC tableD lateReceipt lateSend answerOf sameBytes sameAnswer allHold markedCases
+unfolding firstCaught outside tooShort badProcessCount tooManyMessages badLength badCount unknownProcess toItself badSend badReceipt tableChecks tableRefusal processesIn messagesIn tableLength countsPart sendsPart receiptsPart countAt processAt checkpointAt messageAt decode entriesOf encode u16At u16Bytes u16s tabulate any anyBelow processCount messageCount countOf messageOf ceilingOf lineOf recoveryLine single isOrphan lower pass passes sum lineUnder member highBit stays putBack remaining afterRollback holderLine keepsCheckpoint crosses keepsMessage select rows keptCheckpoints keptMessages sheet unless answer recoveryLineAnswer lineOfSetAnswer scratchChecks keepSheetAnswer fallBackAnswer tableA tableB tableC tableD lateReceipt lateSend answerOf sameBytes sameAnswer allHold markedCases
 marked-cases = refl

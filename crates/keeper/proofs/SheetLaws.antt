@@ -8,11 +8,10 @@ use Prim.Native.Nat.{ℕ, zero, suc, _+_, _*_, _≤_, _<_}
 use native.Mathlib.Omega.{arith}
 use borrow.Author.Tests.{le-ltb, lt-ltb}
 use lib.ListN.{length}
-use Rattle.futures.specs.Sheet.{keptCheckpoints, keptMessages, sheet}
+use Rattle.futures.specs.Sheet.{holderLines, keptCheckpoints, keptMessages, sheet}
 use Rattle.keeper.proofs.AnswerLaws.{put-in-front}
 use Rattle.keeper.specs.Calls.{linesUnless, scratchAfter, scratchChecks}
 use Rattle.retention.proofs.SheetLaws.{sheet-length}
-use Rattle.retention.specs.Lines.{holderLines}
 use Rattle.run_table.proofs.CheckLaws.{append-passed, append-stopped, clear, passed, stopped, table-refusals}
 use Rattle.run_table.specs.Checks.{firstCaught, tableChecks, tableRefusal}
 use Rattle.run_table.specs.Format.{decode}

@@ -23,7 +23,8 @@ use Rattle.run_table.proofs.CheckLaws.{clear, cleared, passed, stopped}
 use Rattle.run_table.proofs.FormatLaws.{encode-length}
 use Rattle.run_table.specs.Checks.{Accepted, Limits, WellFormed, firstCaught, tableRefusal}
 use Rattle.run_table.specs.Format.{decode, encode, tableLength}
-use Rattle.run_table.specs.Numbers.{any, putAt}
+use Rattle.run_table.specs.Lists.{any}
+use Rattle.run_table.specs.Numbers.{putAt}
 use Rattle.run_table.specs.Table.{Table, countOf, messageCount, processCount}
 
 -- ---- the checks of a send

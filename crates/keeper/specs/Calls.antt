@@ -8,14 +8,14 @@ use lib.ListN.{length, take, drop}
 use Rattle.consistency.specs.Ceilings.{Holders, ceilingOf, lineOf, recoveryLine}
 use Rattle.consistency.specs.Lines.{Latest, at}
 use Rattle.futures.specs.Futures.{CheckpointNeeded, MessageNeeded}
-use Rattle.futures.specs.Sheet.{sheet}
+use Rattle.futures.specs.Sheet.{holderLines, sheet}
 use Rattle.futures.specs.Steps.{afterCheckpoint, afterRollback, afterSend, checkpointChecks, sendChecks}
 use Rattle.keeper.specs.Answers.{Answer, answer}
 use Rattle.process_set.specs.Sets.{highBit, member}
-use Rattle.retention.specs.Lines.{holderLines}
 use Rattle.run_table.specs.Checks.{Accepted, Check, firstCaught, tableChecks}
 use Rattle.run_table.specs.Format.{decode, encode}
-use Rattle.run_table.specs.Numbers.{tabulate, u16At, u16s}
+use Rattle.run_table.specs.Lists.{tabulate}
+use Rattle.run_table.specs.Numbers.{u16At, u16s}
 use Rattle.run_table.specs.Table.{Table, countOf, messageCount, processCount}
 
 -- The recovery line of the run: checks 1 to 9, 16.

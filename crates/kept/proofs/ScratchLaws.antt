@@ -18,14 +18,13 @@ use borrow.Author.Tests.{eq-eqb, eqb-false, eqb-true, ne-eqb, lt-ltb, le-ltb}
 use lib.Dec.{eqb, ltb}
 use lib.ListN.{length, getD, set, take, drop, length-append, length-map, length-set, List·getD-append}
 use lib.Seq.{set-split}
-use Rattle.futures.specs.Sheet.{rows, select}
-use Rattle.kept.proofs.ListLaws.{below-none, rows-grow, rows-more, rows-room, select-gap, select-more, select-skip, select-small}
 use Rattle.kept.specs.Scratch.{First, checkpointsAt, crossesLine, entryAt, isKept, leastBelow, lowestAt, lowestLine, shows, statesOf}
-use Rattle.run_table.proofs.NumberLaws.{anyBelow-found, anyBelow-more, found-below, getD-tabulate, length-putAt, length-tabulate, none-below, putAt-more, putAt-none, tabulate-more}
+use Rattle.run_table.proofs.ListLaws.{anyBelow-found, anyBelow-more, anyBelow-none, found-below, getD-tabulate, length-tabulate, none-below, rows-grow, rows-more, rows-room, select-gap, select-more, select-skip, select-small, tabulate-more}
+use Rattle.run_table.proofs.NumberLaws.{length-putAt, putAt-more, putAt-none}
 use Rattle.run_table.proofs.WriteLaws.{front-first, front-next}
 use Rattle.run_table.specs.Format.{checkpointAt, countAt, messageAt, processAt}
-use Rattle.run_table.specs.Numbers.{putAt, tabulate, u16At}
-use Rattle.run_table.specs.Parts.{anyBelow}
+use Rattle.run_table.specs.Lists.{anyBelow, rows, select, tabulate}
+use Rattle.run_table.specs.Numbers.{putAt, u16At}
 
 pub cell-below : (n k i : ℕ) → k < n → i < n → n * k + i < n * n
 cell-below n k i l b = omega (arith, mul-suc n k, mul-le-mul-left n l)
@@ -111,7 +110,7 @@ module _ (e : ℕ → ℕ) (n from limit : ℕ) where
     search-ends l = record {
       from-on = s .from-on;
       within = s .below;
-      none-before = λ c b b′. below-none (λ j. eqb (e j) c) n (λ j d. ne-eqb (e j) c (λ same. omega (arith, s .least-yet j (omega (arith, s .within)) (omega arith))));
+      none-before = λ c b b′. anyBelow-none (λ j. eqb (e j) c) n (λ j d. ne-eqb (e j) c (λ same. omega (arith, s .least-yet j (omega (arith, s .within)) (omega arith))));
       passes = s .found;
     }
 
@@ -203,7 +202,7 @@ uncrossed-old : (s : List ℕ) (n sender sent receiver received : ℕ) → recei
     → crossesLine s n sender sent receiver received ≡ false
 unfolding crossesLine lowestAt
 uncrossed-old s n sender sent receiver received b =
-    below-none _ n
+    anyBelow-none _ n
     (λ k l.
     let before : received ≤ entryAt s n k receiver = omega (arith, least-at-most (λ j. entryAt s n j receiver) n k l) in
     rw (le-ltb (entryAt s n k receiver) received before) (and-false (ltb sent (entryAt s n k sender))))

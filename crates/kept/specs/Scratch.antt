@@ -7,10 +7,10 @@ use mathlib.Core.Path.{_≡_}
 use Prim.Native.Nat.{ℕ, zero, suc, min, _+_, _*_, _≤_, _<_}
 use lib.Dec.{eqb, ltb}
 use lib.ListN.{getD, replicate}
-use Rattle.futures.specs.Sheet.{Kept, rows, select}
+use Rattle.futures.specs.Sheet.{Kept}
 use Rattle.run_table.specs.Format.{countAt, messageAt}
-use Rattle.run_table.specs.Numbers.{putAt, tabulate}
-use Rattle.run_table.specs.Parts.{anyBelow}
+use Rattle.run_table.specs.Lists.{anyBelow, rows, select, tabulate}
+use Rattle.run_table.specs.Numbers.{putAt}
 use Rattle.run_table.specs.Table.{Message}
 
 -- The number of line k at process i.

@@ -3,7 +3,8 @@ ghost use mathlib.Core.Path.{_≡_};
 ghost use Prim.Native.Nat.{_+_, _*_, _<_, _≤_};
 ghost use lib.ListN.{getD, length};
 ghost use Rattle.kept.specs.Scratch.{entryAt};
-ghost use Rattle.run_table.specs.Numbers.{putAt, tabulate};
+ghost use Rattle.run_table.specs.Lists.{tabulate};
+ghost use Rattle.run_table.specs.Numbers.{putAt};
 
 // Copies the first n numbers of a line to a place of a scratch that has room for them.
 pub fn copy_line(line: [u16; 32], n: usize, scratch: &mut [u16], at: usize)

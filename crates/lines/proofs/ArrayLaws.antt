@@ -25,11 +25,12 @@ use Rattle.lines.specs.Arrays.{arrayOf, heightAt, messagesOf}
 use Rattle.process_set.proofs.SetLaws.{all-member}
 use Rattle.process_set.specs.Sets.{allProcesses, member}
 use Rattle.run_table.proofs.FormatLaws.{count-beyond, decode-messages}
-use Rattle.run_table.proofs.NumberLaws.{getD-tabulate, length-tabulate, tabulate-ext, tabulate-getD}
+use Rattle.run_table.proofs.ListLaws.{getD-tabulate, length-tabulate, tabulate-ext, tabulate-getD}
 use Rattle.run_table.proofs.ReadLaws.{count-is, counts-positive, counts-size, processes-few, receipts-size, receivers-known, senders-known, sends-size}
 use Rattle.run_table.specs.Checks.{tableRefusal}
 use Rattle.run_table.specs.Format.{countAt, countsPart, decode, messageAt, processAt, receiptsPart, sendsPart}
-use Rattle.run_table.specs.Numbers.{tabulate, u16At}
+use Rattle.run_table.specs.Lists.{tabulate}
+use Rattle.run_table.specs.Numbers.{u16At}
 use Rattle.run_table.specs.Table.{Message, countOf, messageCount, processCount}
 
 module _ (l : List ℕ) where

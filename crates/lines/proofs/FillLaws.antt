@@ -9,8 +9,8 @@ use native.Mathlib.Decide.{decLt, ℕ-discrete}
 use native.Mathlib.Omega.{arith}
 use lib.ListN.{length, getD, set, replicate, length-replicate, length-set, getD-replicate, List·getD-eq-default}
 use lib.Seq.{ext-getD, getD-set-same, getD-set-other}
-use Rattle.run_table.proofs.NumberLaws.{getD-tabulate, length-tabulate}
-use Rattle.run_table.specs.Numbers.{tabulate}
+use Rattle.run_table.proofs.ListLaws.{getD-tabulate, length-tabulate}
+use Rattle.run_table.specs.Lists.{tabulate}
 
 -- The first p of n entries hold f, and the others 0.
 pub record Filled (f : ℕ → ℕ) (n p : ℕ) (l : List ℕ) : Type 0 where

@@ -14,11 +14,12 @@ use native.Mathlib.Omega.{arith}
 use lib.ListN.{length, getD, set, length-set, List·getD-eq-default}
 use Rattle.consistency.proofs.LoweringLaws.{line-consistent, line-put-back, put-back-falls}
 use Rattle.consistency.specs.Lines.{Consistent, Orphan, at}
-use Rattle.consistency.specs.Lowering.{lineUnder, sum}
+use Rattle.consistency.specs.Lowering.{lineUnder}
 use Rattle.lines.specs.Arrays.{messagesOf}
 use Rattle.run_table.proofs.CodingLaws.{message-path}
-use Rattle.run_table.proofs.NumberLaws.{getD-tabulate, length-tabulate}
+use Rattle.run_table.proofs.ListLaws.{getD-tabulate, length-tabulate}
 use Rattle.run_table.specs.Format.{checkpointAt, messageAt, processAt}
+use Rattle.run_table.specs.Lists.{sum}
 use Rattle.run_table.specs.Numbers.{u16At}
 use Rattle.run_table.specs.Table.{Message, noMessage}
 

@@ -4,9 +4,10 @@
 --     Parts, counts-length, ..        the parts of an accepted table, as the code read them
 --     sender-is, sender-known, count-positive        the numbers that it read of a message
 --     sent-before, undelivered, orphaned-here        what its tests say of that message
+--     line-is-ceiling                 the line of a set is its ceiling, where a rollback of none of its members propagates
 --     holder-ceiling                  the line of one process from which no rollback propagates is its ceiling
 -- Assumes nothing.
-use mathlib.Core.Bool.{Bool, true, false, _&&_, and-false}
+use mathlib.Core.Bool.{Bool, true, false, _&&_, and-false, false≢true}
 use mathlib.Core.List.{List}
 use mathlib.Core.Path.{_≡_, refl, sym, ap, _∙_}
 use Prim.Native.Nat.{ℕ, _+_, _-_, _*_, _^_, _≤_, _<_, zero-le}
@@ -16,17 +17,20 @@ use native.Mathlib.Omega.{arith}
 use borrow.Author.Tests.{eqb-true, eq-eqb, ne-eqb, le-leb, lt-leb, lt-ltb}
 use lib.Dec.{eqb, leb, ltb}
 use lib.ListN.{length, set, replicate}
-use Rattle.consistency.proofs.CeilingLaws.{line-is-ceiling}
-use Rattle.consistency.specs.Ceilings.{ceilingOf, lineOf, orphaned, propagatesFrom}
+use Rattle.consistency.proofs.CeilingLaws.{ceiling-at, orphan-in}
+use Rattle.consistency.proofs.LoweringLaws.{line-consistent}
+use Rattle.consistency.specs.Ceilings.{Holders, ceilingOf, lineOf}
+use Rattle.consistency.specs.Lines.{Orphan, at}
+use Rattle.lines.specs.Propagation.{orphaned, propagatesFrom}
 use Rattle.process_set.proofs.SetLaws.{member-one}
 use Rattle.process_set.specs.Sets.{member}
 use Rattle.run_table.proofs.AcceptLaws.{accepted}
-use Rattle.run_table.proofs.NumberLaws.{anyBelow-found, set-tabulate, tabulate-ext}
+use Rattle.run_table.proofs.ListLaws.{anyBelow-found, set-tabulate, tabulate-ext}
 use Rattle.run_table.proofs.ReadLaws.{count-is, counts-size, message-good, received-read, receipts-size, sender-read, sends-size, sent-read}
-use Rattle.run_table.specs.Checks.{tableRefusal}
+use Rattle.run_table.specs.Checks.{WellFormed, tableRefusal}
 use Rattle.run_table.specs.Format.{countAt, countsPart, decode, receiptsPart, sendsPart}
-use Rattle.run_table.specs.Numbers.{tabulate, u16At}
-use Rattle.run_table.specs.Parts.{anyBelow}
+use Rattle.run_table.specs.Lists.{anyBelow, tabulate}
+use Rattle.run_table.specs.Numbers.{u16At}
 use Rattle.run_table.specs.Table.{Table, countOf, messageCount, messageOf, processCount}
 
 module _ (t : Table) where
@@ -125,7 +129,24 @@ module _ {bytes counts sends receipts : List ℕ} (parts : Parts bytes counts se
       pub orphaned-here : count - 1 ≤ sent → (received ≡ 0 → ⊥) → orphaned T (messageOf T k) ≡ true
       orphaned-here b d = orphaned-is received read-received ∙ rw (le-leb (count - 1) sent b, lt-ltb 0 received (omega arith))
 
--- ---- the line of one process
+-- ---- lines that are their ceilings
+module _ (t : Table) (w : WellFormed t) where
+  -- the line of a set is its ceiling, where no rollback of a member propagates: an orphan of the ceiling is orphaned by a rollback of
+  -- its sender, which holds
+  pub line-is-ceiling : (holds : Holders) → ((p : ℕ) → holds p ≡ true → propagatesFrom t p ≡ false) → lineOf t holds ≡ ceilingOf t holds
+  unfolding lineOf messageOf propagatesFrom orphaned
+  line-is-ceiling holds none = sym (line-consistent (t .messages) (ceilingOf t holds) (λ k o. go k o (holds (messageOf t k .sender)) refl))
+    where
+      go : (k : ℕ) → Orphan (messageOf t k) (at (ceilingOf t holds)) → (b : Bool) → holds (messageOf t k .sender) ≡ b → ⊥
+      go k o true e =
+          let m = messageOf t k in
+          let last : countOf t (m .sender) - 1 ≤ m .sent = omega (arith, o .sent-after, rw e at (ceiling-at t holds (m .sender))) in
+          false≢true (sym (none (m .sender) e) ∙ anyBelow-found _ (messageCount t) k (orphan-in t k _ o)
+          (rw (eq-eqb (m .sender) (m .sender) refl, le-leb _ _ last, lt-ltb 0 (m .received) (o .delivered))))
+      go k o false e =
+          let m = messageOf t k in
+          omega (arith, o .sent-after, rw e at (ceiling-at t holds (m .sender)), w .good-messages k (orphan-in t k _ o) .sent-below)
+
 pub holder-ceiling : (bytes : List ℕ) → tableRefusal bytes ≡ 0 → (k : ℕ) → propagatesFrom (decode bytes) k ≡ false
     → ceilingOf (decode bytes) (member (2 ^ k)) ≡ lineOf (decode bytes) (member (2 ^ k))
 holder-ceiling bytes none k e =

@@ -6,7 +6,7 @@ use lib.Dec.{ltb}
 use lib.ListN.{getD}
 use Rattle.process_set.specs.Sets.{member}
 use Rattle.run_table.specs.Format.{countAt, messageAt}
-use Rattle.run_table.specs.Numbers.{tabulate}
+use Rattle.run_table.specs.Lists.{tabulate}
 use Rattle.run_table.specs.Table.{Message}
 
 -- A line as an array of 32 numbers: what stands at N and beyond is 0.

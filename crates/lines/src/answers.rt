@@ -3,7 +3,8 @@ use run_table::numbers::put_u16;
 ghost use mathlib.Core.Path.{_≡_};
 ghost use Prim.Native.Nat.{_*_, _≤_};
 ghost use lib.ListN.{getD, length};
-ghost use Rattle.run_table.specs.Numbers.{putAt, tabulate, u16s};
+ghost use Rattle.run_table.specs.Lists.{tabulate};
+ghost use Rattle.run_table.specs.Numbers.{putAt, u16s};
 
 // Writes the first n numbers of a line to the front of a buffer that has room for them.
 pub fn put_line(line: [u16; 32], n: usize, answer: &mut [u8])

@@ -7,7 +7,7 @@ ghost use Prim.Native.Nat.{ℕ, _*_, _-_, _<_, _≤_};
 ghost use lib.ListN.{length};
 ghost use Rattle.lines.specs.Arrays.{heightAt};
 ghost use Rattle.run_table.specs.Format.{countAt};
-ghost use Rattle.run_table.specs.Numbers.{tabulate};
+ghost use Rattle.run_table.specs.Lists.{tabulate};
 
 // How high a process of so many checkpoints may stand: at its last one where it holds, and else at
 // its virtual one.

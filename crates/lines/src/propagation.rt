@@ -2,10 +2,10 @@
 use run_table::numbers::u16_at;
 use run_table::parts;
 ghost use mathlib.Core.Path.{_≡_};
-ghost use Rattle.consistency.specs.Ceilings.{propagatesFrom};
+ghost use Rattle.lines.specs.Propagation.{propagatesFrom};
 ghost use Rattle.run_table.specs.Checks.{tableRefusal};
 ghost use Rattle.run_table.specs.Format.{decode};
-ghost use Rattle.run_table.specs.Numbers.{tabulate};
+ghost use Rattle.run_table.specs.Lists.{tabulate};
 
 // Whether a rollback of each process of an accepted table to its last checkpoint propagates: whether a
 // message that it sent since then was received.

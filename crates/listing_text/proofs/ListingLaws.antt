@@ -18,8 +18,7 @@ use lib.Seq.{getD-drop, take-append-seam}
 use Rattle.consistency.proofs.CeilingLaws.{set-length}
 use Rattle.consistency.specs.Ceilings.{recoveryLine}
 use Rattle.consistency.specs.Lines.{at}
-use Rattle.consistency.specs.Lowering.{sum}
-use Rattle.futures.specs.Sheet.{Kept, holderLine, keptCheckpoints, keptMessages, rows, sheet}
+use Rattle.futures.specs.Sheet.{Kept, holderLine, holderLines, keptCheckpoints, keptMessages, sheet}
 use Rattle.keeper.proofs.AnswerLaws.{all-answered, put-in-front, table-refused}
 use Rattle.keeper.proofs.SheetBytes.{read-kept, read-logged, read-position, read-process, read-state}
 use Rattle.keeper.proofs.SheetLaws.{long-passed, scratch-filled}
@@ -32,17 +31,16 @@ use Rattle.listing_text.proofs.TextLaws.{Parts, each-rows, overlay-fron
 use Rattle.listing_text.specs.Listing.{checkpointRow, holdRow, lineRow, listing, listingAnswer, listingOf, listingUnless, messageRow, refusedRow, share, shareRow}
 use Rattle.listing_text.specs.Rows.{Answered, checkpointAt, checkpointRows, holdRows, lineAt, messageRows}
 use Rattle.listing_text.specs.Text.{Laid, each, overlay}
-use Rattle.kept.proofs.ListLaws.{rows-ext}
 use Rattle.retention.proofs.SheetLaws.{entry-is, holder-length, kept-few, lines-length, lines-stand, sheet-length}
-use Rattle.retention.specs.Lines.{holderLines}
 use Rattle.kept.specs.Scratch.{entryAt}
 use Rattle.run_table.proofs.AcceptLaws.{accepted}
 use Rattle.run_table.proofs.CheckLaws.{areRefusals, clear, passed, stopped}
-use Rattle.run_table.proofs.NumberLaws.{tabulate-ext, tabulate-getD}
+use Rattle.run_table.proofs.ListLaws.{rows-ext, tabulate-ext, tabulate-getD}
 use Rattle.run_table.proofs.ReadLaws.{processes-few}
 use Rattle.run_table.specs.Checks.{firstCaught, tableRefusal}
 use Rattle.run_table.specs.Format.{decode}
-use Rattle.run_table.specs.Numbers.{putAt, tabulate, u16At}
+use Rattle.run_table.specs.Lists.{rows, sum, tabulate}
+use Rattle.run_table.specs.Numbers.{putAt, u16At}
 use Rattle.run_table.specs.Table.{Table, countOf, processCount}
 
 -- the first n numbers of a list that has them

@@ -9,12 +9,12 @@ use Prim.Native.Nat.{ℕ, _+_, _*_, _-_, _≤_, _<_}
 use native.Mathlib.Nat.{le-antisymm}
 use native.Mathlib.Omega.{arith}
 use lib.ListN.{take, drop}
-use Rattle.consistency.specs.Lowering.{sum}
 use Rattle.listing_text.specs.Listing.{checkpointRow}
 use Rattle.listing_text.specs.Rows.{checkpointAt, lineAt}
 use Rattle.kept.proofs.ScratchLaws.{cell-below}
-use Rattle.run_table.proofs.NumberLaws.{tabulate-getD, tabulate-more}
-use Rattle.run_table.specs.Numbers.{tabulate, u16At}
+use Rattle.run_table.proofs.ListLaws.{tabulate-getD, tabulate-more}
+use Rattle.run_table.specs.Lists.{sum, tabulate}
+use Rattle.run_table.specs.Numbers.{u16At}
 use Rattle.run_table.specs.Table.{Table, countOf, processCount}
 
 pub checkpoint-read : (sheet : List ℕ) (k e process state : ℕ) → process ≡ u16At sheet (4 + 2 * e) → state ≡ u16At sheet (4 + 2 * k + 2 * e)

@@ -10,21 +10,21 @@ use native.Mathlib.Omega.{arith}
 use lib.ListN.{length, getD, length-append}
 use Rattle.consistency.proofs.CeilingLaws.{set-below, set-length}
 use Rattle.consistency.specs.Ceilings.{Holders, lineOf, recoveryLine, single}
-use Rattle.consistency.specs.Lowering.{sum}
 use Rattle.futures.proofs.FutureLaws.{known-process}
 use Rattle.futures.proofs.SheetLaws.{checkpoints-listed, keeps-checkpoint, listed-at, messages-listed}
 use Rattle.futures.specs.Demand3.{Listed}
-use Rattle.futures.specs.Sheet.{Kept, holderLine, keptCheckpoints, keptMessages, rows}
+use Rattle.futures.specs.Sheet.{Kept, holderLine, keptCheckpoints, keptMessages}
 use Rattle.listing_text.proofs.ListingLaws.{share-fits}
 use Rattle.listing_text.proofs.TextLaws.{decimal-few, each-rows, tens}
 use Rattle.listing_text.specs.Listing.{checkpointRow, holdRow, lineRow, listing, listingOf, listingUnless, messageRow, refusedRow, share, shareRow}
 use Rattle.listing_text.specs.Text.{each, field, row}
-use Rattle.kept.proofs.ListLaws.{rows-most}
 use Rattle.retention.proofs.SheetLaws.{kept-few}
 use Rattle.run_table.proofs.AcceptLaws.{accepted}
+use Rattle.run_table.proofs.ListLaws.{rows-most}
 use Rattle.run_table.proofs.ReadLaws.{messages-few, processes-few}
 use Rattle.run_table.specs.Checks.{tableRefusal}
 use Rattle.run_table.specs.Format.{decode}
+use Rattle.run_table.specs.Lists.{rows, sum}
 use Rattle.run_table.specs.Table.{Table, countOf, messageCount, processCount}
 
 -- ---- fields and rows

@@ -16,9 +16,9 @@ use native.Mathlib.Nat.{le-antisymm}
 use native.Mathlib.Omega.{arith}
 use lib.Dec.{ltb}
 use lib.ListN.{length, drop, getD, set, length-append}
-use Rattle.futures.specs.Sheet.{rows}
 use Rattle.listing_text.specs.Text.{Laid, decimal, digits, each, field, overlay, row}
-use Rattle.kept.proofs.ListLaws.{rows-more, rows-room}
+use Rattle.run_table.proofs.ListLaws.{rows-more, rows-room}
+use Rattle.run_table.specs.Lists.{rows}
 
 overlay-length : (b : List ℕ) (at : ℕ) (xs : List ℕ) → length (overlay b at xs) ≡ length b
 unfolding overlay

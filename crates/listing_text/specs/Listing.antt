@@ -4,12 +4,12 @@ use Prim.Native.Nat.{ℕ, zero, suc, _*_, _/_}
 use lib.Dec.{ltb}
 use lib.ListN.{length}
 use Rattle.consistency.specs.Ceilings.{recoveryLine}
-use Rattle.consistency.specs.Lowering.{sum}
-use Rattle.futures.specs.Sheet.{Kept, holderLine, keptCheckpoints, keptMessages, rows}
+use Rattle.futures.specs.Sheet.{Kept, holderLine, keptCheckpoints, keptMessages}
 use Rattle.keeper.specs.Answers.{Answer, unless}
 use Rattle.listing_text.specs.Text.{each, row}
 use Rattle.run_table.specs.Checks.{firstCaught, tableRefusal}
 use Rattle.run_table.specs.Format.{decode}
+use Rattle.run_table.specs.Lists.{rows, sum}
 use Rattle.run_table.specs.Table.{Table, processCount}
 
 -- `line` and a line.

@@ -3,9 +3,9 @@ use mathlib.Core.List.{List}
 use mathlib.Core.Path.{_≡_}
 use Prim.Native.Nat.{ℕ, _+_, _*_}
 use lib.ListN.{length, take, drop}
-use Rattle.futures.specs.Sheet.{Kept, rows, sheet}
+use Rattle.futures.specs.Sheet.{Kept, holderLines, sheet}
 use Rattle.listing_text.specs.Listing.{checkpointRow, holdRow, messageRow}
-use Rattle.retention.specs.Lines.{holderLines}
+use Rattle.run_table.specs.Lists.{rows}
 use Rattle.run_table.specs.Numbers.{u16At}
 use Rattle.run_table.specs.Table.{Table, processCount}
 

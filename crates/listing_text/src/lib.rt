@@ -10,7 +10,6 @@ use run_table::parts;
 ghost use mathlib.Core.Path.{_≡_};
 ghost use Prim.Native.Nat.{ℕ, _≤_};
 ghost use lib.ListN.{length};
-ghost use Rattle.consistency.specs.Lowering.{sum};
 ghost use Rattle.futures.specs.Sheet.{keptCheckpoints};
 ghost use Rattle.keeper.specs.Answers.{Yields};
 ghost use Rattle.listing_text.specs.Listing.{listing, listingAnswer, listingOf, share};
@@ -18,6 +17,7 @@ ghost use Rattle.listing_text.specs.Rows.{Answered};
 ghost use Rattle.listing_text.specs.Text.{Laid};
 ghost use Rattle.run_table.specs.Checks.{tableRefusal};
 ghost use Rattle.run_table.specs.Format.{decode};
+ghost use Rattle.run_table.specs.Lists.{sum};
 
 // The sum of the counts of an accepted table.
 fn count_sum(table: &[u8]) -> usize

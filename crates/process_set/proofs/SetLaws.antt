@@ -12,36 +12,15 @@ use lib.Pow.{pow-pos, pow-mono, pow-lt, pow-add, shl-shr, high-ones}
 use lib.Bits.{bitAnd, and-high}
 use lib.Count.{leading-top}
 use borrow.Author.Tests.{eqb-true, eqb-false, leb-true, leb-false, ltb-true, ltb-false, le-leb, lt-leb, ne-eqb, not-false}
-use Rattle.process_set.specs.Sets.{member, anyBelow, highBit, allProcesses}
+use Rattle.process_set.specs.Sets.{member, highBit, allProcesses}
+use Rattle.run_table.proofs.ListLaws.{anyBelow-found, anyBelow-none, none-below}
+use Rattle.run_table.specs.Lists.{anyBelow}
 
 -- ---- a test of the numbers below n
 
-or-false : (a b : Bool) → a || b ≡ false → (a ≡ false) × (b ≡ false)
-or-false true b e = absurd (true≢false e)
-or-false false b e = (refl, e)
-
-fails-below : (n : ℕ) (test : ℕ → Bool) → anyBelow n test ≡ false → (p : ℕ) → p < n → test p ≡ false
-unfolding anyBelow
-fails-below zero test e p h = absurd (not-suc-le-zero h)
-fails-below (suc n) test e p h =
-    let parts = or-false (test n) (anyBelow n test) e in
-    ⊎-elim (λ same. ap test same ∙ parts .0) (λ less. fails-below n test (parts .1) p less) (eq-or-lt-of-le (le-of-suc-le-suc h))
-
-none-below : (n : ℕ) (test : ℕ → Bool) → ((p : ℕ) → p < n → test p ≡ false) → anyBelow n test ≡ false
-unfolding anyBelow
-none-below zero test fails = refl
-none-below (suc n) test fails = rw (fails n (le-refl (suc n))) (none-below n test (λ p h. fails p (omega arith)))
-
-some-below : (n : ℕ) (test : ℕ → Bool) (p : ℕ) → p < n → test p ≡ true → anyBelow n test ≡ true
-some-below n test p h passes = go (anyBelow n test) refl
-  where
-    go : (b : Bool) → anyBelow n test ≡ b → b ≡ true
-    go true e = refl
-    go false e = sym (fails-below n test e p h) ∙ passes
-
 -- A test that no number below n fails, passes at each. Where n is written out, antt computes the premise, and `refl` proves it.
 pub passes-below : (n : ℕ) (test : ℕ → Bool) → anyBelow n (λ p. not (test p)) ≡ false → (p : ℕ) → p < n → test p ≡ true
-passes-below n test e p h = not-false (test p) (fails-below n (λ k. not (test k)) e p h)
+passes-below n test e p h = not-false (test p) (none-below (λ k. not (test k)) n e p h)
 
 -- ---- the members of a set
 
@@ -107,11 +86,11 @@ mask-is-member set p = rw (and-bit set p) (digit-is-one (set / 2 ^ p % 2) (2 ^ p
 
 pub no-high-bit : (set n : ℕ) → highBit set n ≡ false → (p : ℕ) → n ≤ p → p < 32 → member set p ≡ false
 unfolding highBit
-no-high-bit set n e p l h = rw (le-leb n p l) at (fails-below 32 (λ q. leb n q && member set q) e p h)
+no-high-bit set n e p l h = rw (le-leb n p l) at (none-below (λ q. leb n q && member set q) 32 e p h)
 
 pub no-high-bit-from-32 : (set n : ℕ) → 32 ≤ n → highBit set n ≡ false
 unfolding highBit
-no-high-bit-from-32 set n l = none-below 32 (λ p. leb n p && member set p) (λ p h. rw (lt-leb n p (omega arith)))
+no-high-bit-from-32 set n l = anyBelow-none (λ p. leb n p && member set p) 32 (λ p h. rw (lt-leb n p (omega arith)))
 
 -- From 2 ^ n on, a set's highest bit stands at n or above; a lower set has no bit there.
 pub high-bit-is : (set n : ℕ) → set < 2 ^ 32 → highBit set n ≡ leb (2 ^ n) set
@@ -124,8 +103,8 @@ high-bit-is set n fits = go (leb (2 ^ n) set) refl
         let top = leading-top 32 set (lt-of-lt-of-le (pow-pos n) large) fits in
         let j = top .0 in
         let from-n : n ≤ j = le-of-suc-le-suc (lt-of-not-le (λ (past : suc j ≤ n). not-le-of-lt (top .3) (le-trans (pow-mono past) large))) in
-        some-below 32 (λ p. leb n p && member set p) j (omega (arith, top .1)) (rw (le-leb n j from-n) (top-member set j (top .2) (top .3)))
-    go false e = none-below 32 (λ p. leb n p && member set p) (λ p l. outside p (leb n p) refl)
+        anyBelow-found (λ p. leb n p && member set p) 32 j (omega (arith, top .1)) (rw (le-leb n j from-n) (top-member set j (top .2) (top .3)))
+    go false e = anyBelow-none (λ p. leb n p && member set p) 32 (λ p l. outside p (leb n p) refl)
       where
         outside : (p : ℕ) (b : Bool) → leb n p ≡ b → b && member set p ≡ false
         outside p true l = no-member-from set n p (leb-false (2 ^ n) set e) (leb-true n p l)

@@ -12,9 +12,9 @@ use borrow.Author.Tests.{eq-eqb, ne-eqb}
 use lib.Dec.{eqb, ltb}
 use lib.ListN.{length, length-append, length-map}
 use Rattle.consistency.specs.Lines.{at}
-use Rattle.futures.specs.Sheet.{Kept, holderLine, keepsCheckpoint, keptCheckpoints, select}
-use Rattle.kept.proofs.ListLaws.{rows-most}
-use Rattle.run_table.specs.Parts.{anyBelow}
+use Rattle.futures.specs.Sheet.{Kept, holderLine, keepsCheckpoint, keptCheckpoints}
+use Rattle.run_table.proofs.ListLaws.{rows-most}
+use Rattle.run_table.specs.Lists.{anyBelow, select}
 use Rattle.run_table.specs.Table.{Table, countOf, processCount}
 
 -- a number where it passes

@@ -20,23 +20,23 @@ use Rattle.consistency.proofs.CeilingLaws.{set-length}
 use Rattle.consistency.specs.Ceilings.{ceilingOf, lineOf, single}
 use Rattle.consistency.specs.Lines.{at}
 use Rattle.consistency.specs.Lowering.{lineUnder}
-use Rattle.futures.specs.Sheet.{Kept, crosses, holderLine, keepsCheckpoint, keepsMessage, keptCheckpoints, keptMessages, rows, select, sheet}
+use Rattle.futures.specs.Sheet.{Kept, crosses, holderLine, holderLines, keepsCheckpoint, keepsMessage, keptCheckpoints, keptMessages, sheet}
 use Rattle.lines.proofs.ArrayLaws.{line-numbers}
 use Rattle.lines.specs.Arrays.{arrayOf}
 use Rattle.process_set.proofs.SetLaws.{member-one}
 use Rattle.process_set.specs.Sets.{member}
 use Rattle.retention.proofs.FewLaws.{checkpoints-few}
-use Rattle.kept.proofs.ListLaws.{map-rows, rows-at, rows-ext, rows-length, select-ext, select-small}
 use Rattle.kept.proofs.ScratchLaws.{cell-below}
 use Rattle.retention.proofs.WritingLaws.{room-checkpoints, room-positions, sheet-put}
-use Rattle.retention.specs.Lines.{holderLines}
 use Rattle.kept.specs.Scratch.{checkpointsAt, checkpointsOf, columnAt, columnOf, crossesLine, entryAt, isKept, positionsOf, shows, statesOf}
 use Rattle.retention.specs.Writing.{Put}
-use Rattle.run_table.proofs.NumberLaws.{anyBelow-ext, length-u16s, tabulate-ext}
+use Rattle.run_table.proofs.ListLaws.{anyBelow-ext, map-rows, rows-at, rows-ext, rows-length, select-ext, select-small, tabulate-ext}
+use Rattle.run_table.proofs.NumberLaws.{length-u16s}
 use Rattle.run_table.proofs.ReadLaws.{count-is, counts-size, message-good, message-is, messages-few, processes-few, receipts-size, receivers-known, senders-known, sends-size}
 use Rattle.run_table.specs.Checks.{tableRefusal}
 use Rattle.run_table.specs.Format.{countAt, countsPart, decode, processAt, receiptsPart, sendsPart}
-use Rattle.run_table.specs.Numbers.{putAt, tabulate, u16s}
+use Rattle.run_table.specs.Lists.{rows, select, tabulate}
+use Rattle.run_table.specs.Numbers.{putAt, u16s}
 use Rattle.run_table.specs.Table.{Message, Table, countOf, messageCount, messageOf, processCount}
 
 -- ---- the lines of single holders

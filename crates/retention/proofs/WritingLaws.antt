@@ -16,15 +16,15 @@ use native.Mathlib.Nat.{le-antisymm, mul-add-div, mul-add-mod-self-left}
 use native.Mathlib.Omega.{arith}
 use lib.Dec.{lit<}
 use lib.ListN.{length, length-append, length-map}
-use Rattle.futures.specs.Sheet.{rows, select}
-use Rattle.kept.proofs.ListLaws.{map-append, rows-more, rows-room, select-more, select-room, select-skip}
 use Rattle.kept.proofs.ScratchLaws.{Standing, select-first, select-next, stands}
 use Rattle.kept.specs.Scratch.{First, columnAt, statesOf}
 use Rattle.retention.specs.Writing.{Put}
 use Rattle.retention.specs.Written.{written}
 use Rattle.retention.specs.declared.writer.SheetWriter.{SheetWriter}
+use Rattle.run_table.proofs.ListLaws.{map-append, rows-more, rows-room, select-more, select-room, select-skip}
 use Rattle.run_table.proofs.NumberLaws.{length-putAt, length-u16s, putAt-more, putAt-none, u16s-append}
 use Rattle.run_table.specs.Format.{countAt}
+use Rattle.run_table.specs.Lists.{rows, select}
 use Rattle.run_table.specs.Numbers.{putAt, u16At, u16Bytes, u16s}
 
 pub put-none : (before : List ℕ) (at : ℕ) → Put before before at [] at

@@ -28,11 +28,13 @@ use Rattle.lines.specs.Arrays.{arrayOf}
 use Rattle.run_table.proofs.AcceptLaws.{accepted}
 use Rattle.run_table.proofs.CodingLaws.{entries-append}
 use Rattle.run_table.proofs.FormatLaws.{length-entries}
-use Rattle.run_table.proofs.NumberLaws.{length-putAt, length-u16s, putAt-none, tabulate-ext, tabulate-getD, u16s-append}
+use Rattle.run_table.proofs.ListLaws.{tabulate-ext, tabulate-getD}
+use Rattle.run_table.proofs.NumberLaws.{length-putAt, length-u16s, putAt-none, u16s-append}
 use Rattle.run_table.proofs.ReadLaws.{message-good, processes-few, received-read, receiver-read, receipts-size, sender-read, sends-size, sent-read}
 use Rattle.run_table.specs.Checks.{tableRefusal}
 use Rattle.run_table.specs.Format.{decode, entriesOf, receiptsOf, receiptsPart, sendsOf, sendsPart}
-use Rattle.run_table.specs.Numbers.{putAt, tabulate, u16At, u16s}
+use Rattle.run_table.specs.Lists.{tabulate}
+use Rattle.run_table.specs.Numbers.{putAt, u16At, u16s}
 use Rattle.run_table.specs.Table.{Message, Table, countOf, messageCount, messageOf, noMessage, processCount}
 use Rattle.steps.proofs.PlaceLaws.{both-more}
 use Rattle.rollback.specs.Rollback.{receiptLeft}

@@ -12,7 +12,8 @@ ghost use Rattle.futures.specs.Steps.{afterRollback};
 ghost use Rattle.lines.specs.Arrays.{arrayOf};
 ghost use Rattle.run_table.specs.Checks.{tableRefusal};
 ghost use Rattle.run_table.specs.Format.{decode, encode, receiptsOf, sendsOf};
-ghost use Rattle.run_table.specs.Numbers.{putAt, tabulate, u16s};
+ghost use Rattle.run_table.specs.Lists.{tabulate};
+ghost use Rattle.run_table.specs.Numbers.{putAt, u16s};
 ghost use Rattle.run_table.specs.Table.{messageCount, processCount};
 ghost use Rattle.rollback.specs.Rollback.{receiptLeft};
 

@@ -15,11 +15,11 @@ use lib.ListN.{length}
 use Rattle.run_table.proofs.CheckLaws.{clear, cleared, few-messages, not-short, passed, process-count as checked-processes, right-length}
 use Rattle.run_table.proofs.CodingLaws.{AreBytes, Fits16, decode-encode, encode-decode}
 use Rattle.run_table.proofs.FormatLaws.{decode-messages, decode-processes, encode-length}
-use Rattle.run_table.proofs.NumberLaws.{any-none, none-of, or-false-left, or-false-right}
+use Rattle.run_table.proofs.ListLaws.{any-none, none-of, or-false-left, or-false-right}
 use Rattle.run_table.proofs.ScanLaws.{inside}
 use Rattle.run_table.specs.Checks.{Accepted, GoodMessage, Limits, WellFormed, badCount, badLength, badProcessCount, badReceipt, badSend, outside, tableChecks, tableRefusal, toItself, tooManyMessages, unknownProcess}
 use Rattle.run_table.specs.Format.{decode, encode, messagesIn, processesIn, tableLength}
-use Rattle.run_table.specs.Numbers.{any}
+use Rattle.run_table.specs.Lists.{any}
 use Rattle.run_table.specs.Table.{Message, Table, countOf, messageCount, messageOf, noMessage, processCount}
 
 -- a number that is not outside its limit

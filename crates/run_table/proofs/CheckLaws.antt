@@ -13,11 +13,12 @@ use borrow.Author.Tests.{leb-false, lt-ltb, ltb-true, le-ltb, eq-eqb, ne-eqb}
 use lib.Dec.{leb, ltb}
 use lib.ListN.{length, take, drop}
 use Rattle.run_table.proofs.FormatLaws.{decode-count, decode-processes}
-use Rattle.run_table.proofs.NumberLaws.{and-left, and-right, any-tabulate, anyBelow-ext, anyBelow-or, none-below, or-false-left, or-false-right}
+use Rattle.run_table.proofs.ListLaws.{and-left, and-right, any-tabulate, anyBelow-ext, anyBelow-or, none-below, or-false-left, or-false-right}
 use Rattle.run_table.specs.Checks.{Check, badCount, badLength, badProcessCount, badReceipt, badSend, firstCaught, outside, tableChecks, tableRefusal, toItself, tooManyMessages, tooShort, unknownProcess}
 use Rattle.run_table.specs.Format.{checkpointAt, countAt, countsPart, decode, messageAt, messagesIn, processAt, processesIn, receiptsPart, sendsPart, tableLength}
-use Rattle.run_table.specs.Numbers.{any, u16At}
-use Rattle.run_table.specs.Parts.{anyBelow, badCountAt, notBelowAt, partsRefusal, toItselfAt, unknownAt}
+use Rattle.run_table.specs.Lists.{any, anyBelow}
+use Rattle.run_table.specs.Numbers.{u16At}
+use Rattle.run_table.specs.Parts.{badCountAt, notBelowAt, partsRefusal, toItselfAt, unknownAt}
 use Rattle.run_table.specs.Table.{Message, Table, countOf, processCount}
 
 -- a check that catches nothing is passed over; one that catches gives its number; a list that ends gives 0

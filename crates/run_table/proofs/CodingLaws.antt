@@ -12,9 +12,11 @@ use native.Mathlib.Omega.{arith}
 use lib.ListN.{length, getD, length-append, List·getD-append}
 use lib.Seq.{ext-getD, getD-append-add}
 use Rattle.run_table.proofs.FormatLaws.{count-place, count-some, decode-messages, decode-processes, length-entries, message-some, receipt-place, send-place}
-use Rattle.run_table.proofs.NumberLaws.{tabulate-append, tabulate-ext, u16At-drop, u16At-u16s}
+use Rattle.run_table.proofs.ListLaws.{tabulate-append, tabulate-ext}
+use Rattle.run_table.proofs.NumberLaws.{u16At-drop, u16At-u16s}
 use Rattle.run_table.specs.Format.{checkpointAt, countAt, countsPart, decode, encode, entriesOf, messageAt, messagesIn, processAt, processesIn, receiptsOf, receiptsPart, sendsOf, sendsPart, tableLength}
-use Rattle.run_table.specs.Numbers.{tabulate, u16At, u16Bytes, u16s}
+use Rattle.run_table.specs.Lists.{tabulate}
+use Rattle.run_table.specs.Numbers.{u16At, u16Bytes, u16s}
 use Rattle.run_table.specs.Table.{Message, Table, countOf, messageCount, messageOf, noMessage, processCount}
 
 pub message-path : (m m′ : Message) → m .sender ≡ m′ .sender → m .sent ≡ m′ .sent → m .receiver ≡ m′ .receiver → m .received ≡ m′ .received → m ≡ m′

@@ -13,9 +13,10 @@ use native.Mathlib.Numerals.{add-one}
 use native.Mathlib.Omega.{arith}
 use borrow.Author.Tests.{leb-true, ne-eqb}
 use lib.Dec.{leb}
-use Rattle.run_table.proofs.NumberLaws.{and-left, and-right}
+use Rattle.run_table.proofs.ListLaws.{and-left, and-right}
 use Rattle.run_table.specs.Checks.{firstCaught}
-use Rattle.run_table.specs.Parts.{MessageCheck, anyBelow, checksAt, checksBelow, sooner}
+use Rattle.run_table.specs.Lists.{anyBelow}
+use Rattle.run_table.specs.Parts.{MessageCheck, checksAt, checksBelow, sooner}
 
 -- ---- of two refusals the one that comes first
 module _ (a b : ℕ) where

@@ -8,7 +8,8 @@ use mathlib.Core.Path.{_≡_, refl, sym, _∙_, subst, subst⁻¹}
 use Prim.Native.Nat.{ℕ, _+_, _*_, _<_, _≤_}
 use native.Mathlib.Omega.{arith}
 use lib.ListN.{length, length-append, drop, length-take, length-drop, List·getD-eq-default}
-use Rattle.run_table.proofs.NumberLaws.{length-tabulate, getD-tabulate, length-u16s, u16At-take, u16At-drop}
+use Rattle.run_table.proofs.ListLaws.{getD-tabulate, length-tabulate}
+use Rattle.run_table.proofs.NumberLaws.{length-u16s, u16At-take, u16At-drop}
 use Rattle.run_table.specs.Format.{checkpointAt, countAt, countsPart, decode, encode, entriesOf, messageAt, messagesIn, processAt, processesIn, receiptsOf, receiptsPart, sendsOf, sendsPart, tableLength}
 use Rattle.run_table.specs.Numbers.{u16At}
 use Rattle.run_table.specs.Table.{Message, Table, countOf, messageCount, messageOf, noMessage, processCount}

@@ -1,5 +1,6 @@
 -- The laws of this crate, for its own proofs and for the crates above.
---     NumberLaws    16-bit numbers in bytes; lists given by their entries; tests over lists and over indices
+--     ListLaws      lists given by their entries; searches in lists and among numbers
+--     NumberLaws    16-bit numbers in bytes
 --     FormatLaws    the parts of a table's bytes, and the entries of the decoded table
 --     CodingLaws    reading and writing undo each other
 --     CheckLaws     the first check that catches; the checks in terms of the parts
@@ -13,6 +14,7 @@ pub mod CheckLaws
 pub mod CodingLaws
 mod FaultLaws
 pub mod FormatLaws
+pub mod ListLaws
 pub mod NumberLaws
 pub mod ReadLaws
 mod ScanLaws

@@ -12,11 +12,12 @@ use native.Mathlib.Nat.{le-antisymm}
 use native.Mathlib.Omega.{arith}
 use lib.Dec.{eqb}
 use borrow.Author.Tests.{lt-ltb, le-ltb, leb-false, ne-eqb}
-use Rattle.run_table.proofs.NumberLaws.{anyBelow-more}
+use Rattle.run_table.proofs.ListLaws.{anyBelow-more}
 use Rattle.run_table.specs.Checks.{badCount, outside}
 use Rattle.run_table.specs.Format.{countAt, processAt}
+use Rattle.run_table.specs.Lists.{anyBelow}
 use Rattle.run_table.specs.Numbers.{u16At}
-use Rattle.run_table.specs.Parts.{anyBelow, badCountAt, unknownAt}
+use Rattle.run_table.specs.Parts.{badCountAt, unknownAt}
 
 -- The loop stands at k, and no index below k passes the test.
 pub record Passed (n : ℕ) (test : ℕ → Bool) (k : ℕ) : Type 0 where

@@ -10,8 +10,10 @@ use Prim.Native.Nat.{ℕ, _+_, _*_, _≤_, _<_, zero-le}
 use native.Mathlib.Nat.{le-antisymm, zero-add}
 use native.Mathlib.Omega.{arith}
 use lib.ListN.{length, length-append}
-use Rattle.run_table.proofs.NumberLaws.{length-putAt, length-tabulate, length-u16s, putAt-more, putAt-none, tabulate-more, u16s-append}
-use Rattle.run_table.specs.Numbers.{putAt, tabulate, u16Bytes, u16s}
+use Rattle.run_table.proofs.ListLaws.{length-tabulate, tabulate-more}
+use Rattle.run_table.proofs.NumberLaws.{length-putAt, length-u16s, putAt-more, putAt-none, u16s-append}
+use Rattle.run_table.specs.Lists.{tabulate}
+use Rattle.run_table.specs.Numbers.{putAt, u16Bytes, u16s}
 
 -- Bytes stand at the front of a buffer, up to a place, and the rest of it is as it was.
 pub record Front (before after bytes : List ℕ) (at : ℕ) : Type 0 where

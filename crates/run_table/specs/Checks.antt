@@ -7,7 +7,7 @@ use Prim.Native.Nat.{ℕ, _≤_, _<_}
 use lib.Dec.{eqb, leb, ltb}
 use lib.ListN.{length}
 use Rattle.run_table.specs.Format.{decode, messagesIn, processesIn, tableLength}
-use Rattle.run_table.specs.Numbers.{any}
+use Rattle.run_table.specs.Lists.{any}
 use Rattle.run_table.specs.Table.{Message, Table, countOf, messageCount, messageOf, processCount}
 
 -- A check: whether it catches, and the number of its refusal.

@@ -3,7 +3,8 @@
 use mathlib.Core.List.{List, [], _∷_, _++_}
 use Prim.Native.Nat.{ℕ, _+_, _*_}
 use lib.ListN.{length, take, drop}
-use Rattle.run_table.specs.Numbers.{u16At, u16s, tabulate}
+use Rattle.run_table.specs.Lists.{tabulate}
+use Rattle.run_table.specs.Numbers.{u16At, u16s}
 use Rattle.run_table.specs.Table.{Message, Table}
 
 -- N and M, as the bytes give them.

@@ -1,5 +1,6 @@
 -- What a run table's bytes say, in the order of document 01, "The run table" and "In checking order".
---     Numbers    16-bit numbers in bytes, and lists that are given by their entries
+--     Lists      lists that are given by their entries, and searches
+--     Numbers    16-bit numbers in bytes
 --     Table      messages and tables, free of bytes
 --     Format     the bytes of a table, read (decode) and written (encode)
 --     Checks     checks 1 to 9, the refusal, and what an accepted table satisfies
@@ -8,6 +9,7 @@
 pub mod Checks
 pub mod Fields
 pub mod Format
+pub mod Lists
 pub mod Numbers
 pub mod Parts
 pub mod Table

@@ -1,15 +1,11 @@
--- What the loops of the code read off a part of a table's bytes, entry by entry. The laws join these to the checks. Assumes nothing.
-use mathlib.Core.Bool.{Bool, cond, false, _||_}
+-- Of the code: what its loops read off a part of a table's bytes, entry by entry. The laws join these to the checks. Assumes nothing.
+use mathlib.Core.Bool.{Bool, cond}
 use mathlib.Core.List.{List, [], _∷_, map}
-use Prim.Native.Nat.{ℕ, zero, suc, min}
+use Prim.Native.Nat.{ℕ, min}
 use lib.Dec.{eqb, leb}
 use Rattle.run_table.specs.Checks.{Check, badCount, firstCaught}
 use Rattle.run_table.specs.Format.{checkpointAt, countAt, processAt}
-
--- Whether some number below n passes a test.
-unfoldable pub anyBelow : ℕ → (ℕ → Bool) → Bool
-anyBelow zero test = false
-anyBelow (suc n) test = test n || anyBelow n test
+use Rattle.run_table.specs.Lists.{anyBelow}
 
 -- Entry p of a part of counts is 0 or above 4,096.
 unfoldable pub badCountAt : List ℕ → ℕ → Bool

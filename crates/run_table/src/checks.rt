@@ -6,7 +6,8 @@ ghost use mathlib.Core.Bool.{false};
 ghost use Prim.Native.Nat.{_+_, _*_, _<_};
 ghost use lib.ListN.{length};
 ghost use Rattle.run_table.specs.Checks.{firstCaught, tableRefusal};
-ghost use Rattle.run_table.specs.Parts.{anyBelow, badCountAt, unknownAt, toItselfAt, notBelowAt, messageChecks, checksAt, checksBelow, sooner, partsRefusal};
+ghost use Rattle.run_table.specs.Lists.{anyBelow};
+ghost use Rattle.run_table.specs.Parts.{badCountAt, unknownAt, toItselfAt, notBelowAt, messageChecks, checksAt, checksBelow, sooner, partsRefusal};
 
 // Whether one of the n counts of a part is 0 or above 4,096 (check 5).
 fn bad_count(counts: &[u8], n: usize) -> bool

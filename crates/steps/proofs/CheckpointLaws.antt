@@ -14,11 +14,12 @@ use lib.ListN.{length, set}
 use Rattle.futures.proofs.StepLaws.{checkpoint-messages, checkpoint-processes, receivedAt-listed, receivedAt-receiver, receivedAt-sender, receivedAt-sent, receivedAt-unlisted}
 use Rattle.futures.specs.Steps.{afterCheckpoint, receivedAt}
 use Rattle.run_table.proofs.CodingLaws.{entries-append, entries-tabulate, even-number, odd-number}
-use Rattle.run_table.proofs.NumberLaws.{tabulate-more}
+use Rattle.run_table.proofs.ListLaws.{tabulate-more}
 use Rattle.run_table.proofs.ReadLaws.{received-read, receiver-read, sender-read, sent-read}
 use Rattle.run_table.specs.Checks.{tableRefusal}
 use Rattle.run_table.specs.Format.{checkpointAt, decode, encode, entriesOf, processAt, receiptsOf, receiptsPart, sendsOf, sendsPart}
-use Rattle.run_table.specs.Numbers.{any, putAt, tabulate, u16At, u16Bytes, u16s}
+use Rattle.run_table.specs.Lists.{any, tabulate}
+use Rattle.run_table.specs.Numbers.{putAt, u16At, u16Bytes, u16s}
 use Rattle.run_table.specs.Table.{Message, Table, countOf, messageCount, processCount}
 use Rattle.steps.proofs.PlaceLaws.{number-within}
 use Rattle.steps.proofs.PutLaws.{table-put}

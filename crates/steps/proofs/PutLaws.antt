@@ -15,7 +15,8 @@ use Rattle.run_table.proofs.FormatLaws.{decode-messages, decode-processes, leng
 use Rattle.run_table.proofs.NumberLaws.{length-u16s, putAt-more, u16s-append}
 use Rattle.run_table.proofs.WriteLaws.{front-first, front-next, numbers-size}
 use Rattle.run_table.specs.Format.{countsPart, decode, encode, entriesOf, receiptsOf, receiptsPart, sendsOf, sendsPart}
-use Rattle.run_table.specs.Numbers.{putAt, tabulate, u16At, u16Bytes, u16s}
+use Rattle.run_table.specs.Lists.{tabulate}
+use Rattle.run_table.specs.Numbers.{putAt, u16At, u16Bytes, u16s}
 use Rattle.run_table.specs.Table.{Table, countOf, messageCount, processCount}
 
 pub pair-put : (before after later : List ℕ) (at a b : ℕ) → after ≡ putAt before at (u16Bytes a) → later ≡ putAt after (at + 2) (u16Bytes b)

@@ -19,11 +19,12 @@ use lib.Seq.{set-append-left, set-append-seam, take-all, take-suc}
 use Rattle.futures.proofs.StepLaws.{Waiting, good-position, rising, waiting-position}
 use Rattle.futures.specs.Steps.{badPosition, follows, notRising}
 use Rattle.run_table.proofs.CodingLaws.{even-number, odd-number}
-use Rattle.run_table.proofs.NumberLaws.{any-last, any-none, any-some, none-of, or-none, tabulate-more}
+use Rattle.run_table.proofs.ListLaws.{any-last, any-none, any-some, none-of, or-none, tabulate-more}
 use Rattle.run_table.proofs.ReadLaws.{received-read, receiver-read}
 use Rattle.run_table.specs.Checks.{tableRefusal}
 use Rattle.run_table.specs.Format.{checkpointAt, decode, processAt, receiptsPart}
-use Rattle.run_table.specs.Numbers.{any, putAt, tabulate, u16At, u16Bytes, u16s}
+use Rattle.run_table.specs.Lists.{any, tabulate}
+use Rattle.run_table.specs.Numbers.{putAt, u16At, u16Bytes, u16s}
 use Rattle.run_table.specs.Table.{Table, messageCount}
 use Rattle.steps.proofs.PlaceLaws.{number-within}
 use Rattle.steps.specs.Saving.{newReceipt, receiptNumbers}

@@ -4,7 +4,7 @@ use mathlib.Core.List.{List, [], _∷_, _++_}
 use Prim.Native.Nat.{ℕ, zero, suc}
 use lib.Dec.{eqb}
 use Rattle.run_table.specs.Format.{checkpointAt, processAt}
-use Rattle.run_table.specs.Numbers.{any}
+use Rattle.run_table.specs.Lists.{any}
 
 -- The receipt number of entry k: the new one where k is listed.
 unfoldable pub newReceipt : List ℕ → List ℕ → ℕ → ℕ → ℕ

@@ -8,8 +8,9 @@ ghost use mathlib.Core.List.{[], _∷_};
 ghost use lib.ListN.{length};
 ghost use Rattle.run_table.specs.Checks.{tableRefusal};
 ghost use Rattle.run_table.specs.Format.{decode};
+ghost use Rattle.run_table.specs.Lists.{tabulate};
 ghost use Rattle.run_table.specs.Table.{processCount};
-ghost use Rattle.run_table.specs.Numbers.{putAt, tabulate, u16At, u16s};
+ghost use Rattle.run_table.specs.Numbers.{putAt, u16At, u16s};
 
 // Copies n numbers of a part to a place of a buffer that has room for them.
 pub fn copy_numbers(part: &[u8], n: usize, buffer: &mut [u8], at: usize)

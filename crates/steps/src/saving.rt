@@ -11,7 +11,8 @@ ghost use lib.ListN.{getD, length};
 ghost use Rattle.futures.specs.Steps.{afterCheckpoint, badPosition, notRising};
 ghost use Rattle.run_table.specs.Checks.{tableRefusal};
 ghost use Rattle.run_table.specs.Format.{decode, encode};
-ghost use Rattle.run_table.specs.Numbers.{any, putAt, u16s};
+ghost use Rattle.run_table.specs.Lists.{any};
+ghost use Rattle.run_table.specs.Numbers.{putAt, u16s};
 ghost use Rattle.run_table.specs.Table.{messageCount, processCount};
 ghost use Rattle.steps.specs.Saving.{receiptNumbers};
 

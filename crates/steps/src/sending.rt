@@ -11,7 +11,8 @@ ghost use lib.ListN.{length};
 ghost use Rattle.futures.specs.Steps.{afterSend};
 ghost use Rattle.run_table.specs.Checks.{tableRefusal};
 ghost use Rattle.run_table.specs.Format.{countAt, decode, encode};
-ghost use Rattle.run_table.specs.Numbers.{putAt, tabulate, u16At, u16s};
+ghost use Rattle.run_table.specs.Lists.{tabulate};
+ghost use Rattle.run_table.specs.Numbers.{putAt, u16At, u16s};
 ghost use Rattle.run_table.specs.Table.{messageCount, processCount};
 
 // Copies an array of m entries, and one entry more, to a place of a buffer that has room for them.

@@ -6,7 +6,7 @@ use mathlib.Core.Path.{refl, ap, _∙_}
 use Prim.Native.Nat.{ℕ, _-_}
 use denote.Ref.{now}
 use lib.ListN.{getD, length}
-use Rattle.run_table.proofs.NumberLaws.{tabulate-getD}
+use Rattle.run_table.proofs.ListLaws.{tabulate-getD}
 use Rattle.run_table.proofs.WriteLaws.{Written, written-none, written-more, written-all}
 use Rattle.run_table.specs.Numbers.{putAt, u16s}
 use Rattle.keeper_cases.proofs.put_numbers.Statement.{statement}

@@ -8,9 +8,9 @@ use lib.Dec.{eqb}
 use lib.ListN.{getD}
 use borrow.Author.Needs.{needs}
 use borrow.Author.Tests.{eqb-true}
-use Rattle.process_set.specs.Sets.{anyBelow}
 use Rattle.process_set.proofs.SetLaws.{passes-below}
 use Rattle.process_set.proofs.bit.Statement.{statement}
+use Rattle.run_table.specs.Lists.{anyBelow}
 use Rattle.process_set.proofs.bit.Tie as tie
 
 power-at : (table : List ℕ) → anyBelow 32 (λ p. not (eqb (getD table p 0) (2 ^ p))) ≡ false → (p : ℕ) → p < 32 → getD table p 0 ≡ 2 ^ p

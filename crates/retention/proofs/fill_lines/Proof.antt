@@ -9,13 +9,13 @@ use Prim.Native.Nat.{ℕ, _-_, _<_}
 use lib.ListN.{getD, length}
 use denote.Ref.{now}
 use Rattle.kept.proofs.ScratchLaws.{Lined, lined-none, lined-length, lined-room, lined-more, lined-all}
+use Rattle.lines.specs.Propagation.{propagatesFrom}
 use Rattle.retention.proofs.SheetLaws.{holder-length, holder-numbers, lines-fit}
-use Rattle.consistency.specs.Ceilings.{propagatesFrom}
-use Rattle.futures.specs.Sheet.{holderLine, rows}
-use Rattle.retention.specs.Lines.{holderLines}
-use Rattle.run_table.proofs.NumberLaws.{getD-tabulate}
+use Rattle.futures.specs.Sheet.{holderLine, holderLines}
+use Rattle.run_table.proofs.ListLaws.{getD-tabulate}
 use Rattle.run_table.proofs.ReadLaws.{processes-few}
 use Rattle.run_table.specs.Format.{decode}
+use Rattle.run_table.specs.Lists.{rows}
 use Rattle.run_table.specs.Numbers.{putAt}
 use Rattle.retention.proofs.fill_lines.Statement.{statement}
 use Rattle.retention.proofs.fill_lines.Tie as tie

@@ -10,10 +10,11 @@ use borrow.Author.Tests.{not-false, not-true}
 use lib.ListN.{getD}
 use denote.Ref.{now}
 use Rattle.consistency.specs.Lines.{Orphan, at}
-use Rattle.consistency.specs.Lowering.{lineUnder, sum}
+use Rattle.consistency.specs.Lowering.{lineUnder}
 use Rattle.lines.proofs.PassLaws.{Passing, pass-begins, pass-skips, pass-lowers, pass-ends, message-read, messages-length, undelivered, sent-before, received-after, orphan}
 use Rattle.lines.specs.Arrays.{messagesOf}
 use Rattle.run_table.specs.Format.{processAt}
+use Rattle.run_table.specs.Lists.{sum}
 use Rattle.run_table.specs.Table.{Message, noMessage}
 use Rattle.lines.proofs.lowering.lower.Statement.{statement}
 use Rattle.lines.proofs.lowering.lower.Tie as tie

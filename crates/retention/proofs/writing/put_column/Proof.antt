@@ -3,11 +3,11 @@
 use native.Mathlib.Omega.{arith}
 use mathlib.Core.Path.{refl}
 use Prim.Native.Nat.{_-_, zero-le}
-use Rattle.futures.specs.Sheet.{rows}
 use Rattle.retention.proofs.WritingLaws.{Putting, putting-none, putting-length, putting-all, row-room, row-more, column-read}
 use Rattle.kept.specs.Scratch.{columnAt, columnOf, statesOf}
 use Rattle.run_table.specs.Format.{countAt}
 use Rattle.retention.proofs.writing.put_column.Statement.{statement}
+use Rattle.run_table.specs.Lists.{rows}
 use Rattle.retention.proofs.writing.put_column.Tie as tie
 
 abbrev Inv-loop : tie.InvT-loop

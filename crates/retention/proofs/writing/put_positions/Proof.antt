@@ -5,12 +5,12 @@ use native.Mathlib.Omega.{arith}
 use mathlib.Core.Path.{refl}
 use borrow.Author.Tests.{not-true, not-false}
 use Prim.Native.Nat.{_-_, zero-le}
-use Rattle.futures.specs.Sheet.{select}
 use Rattle.kept.proofs.ScratchLaws.{lowest-read}
 use Rattle.retention.proofs.WritingLaws.{Putting, putting-none, putting-length, putting-all, passing-room, passing-skip, passing-more}
 use Rattle.kept.specs.Scratch.{isKept, positionsOf}
 use Rattle.run_table.specs.Format.{messageAt, processAt}
 use Rattle.retention.proofs.writing.put_positions.Statement.{statement}
+use Rattle.run_table.specs.Lists.{select}
 use Rattle.retention.proofs.writing.put_positions.Tie as tie
 
 abbrev Inv-loop : tie.InvT-loop

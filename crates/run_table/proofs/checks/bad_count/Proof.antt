@@ -4,7 +4,7 @@ use native.Mathlib.Omega.{arith}
 use mathlib.Core.Path.{_∙_}
 use Prim.Native.Nat.{_-_}
 use mathlib.Core.Path.{sym}
-use Rattle.run_table.proofs.NumberLaws.{anyBelow-found}
+use Rattle.run_table.proofs.ListLaws.{anyBelow-found}
 use Rattle.run_table.proofs.ScanLaws.{Passed, passed-none, passed-more, passed-all, count-read, outside-zero, outside-above, inside}
 use Rattle.run_table.specs.Parts.{badCountAt}
 use Rattle.run_table.proofs.checks.bad_count.Statement.{statement}
