@@ -12,7 +12,7 @@ use native.Mathlib.Omega.{arith}
 use borrow.Author.Tests.{eqb-false, eqb-true, leb-false, ltb-false, lt-leb, ne-eqb, not-false}
 use lib.Dec.{eqb, leb, ltb}
 use lib.ListN.{length}
-use Rattle.run_table.proofs.CheckLaws.{clear, cleared, few-messages, not-short, passed, process-count as checked-processes, right-length}
+use Rattle.run_table.proofs.CheckLaws.{caughtBy, clear, few-messages, not-short, passed, process-count as checked-processes, quiet, right-length, table-refusals}
 use Rattle.run_table.proofs.CodingLaws.{AreBytes, Fits16, decode-encode, encode-decode}
 use Rattle.run_table.proofs.FormatLaws.{decode-messages, decode-processes, encode-length}
 use Rattle.run_table.proofs.ListLaws.{any-none, none-of, or-false-left, or-false-right}
@@ -20,7 +20,7 @@ use Rattle.run_table.proofs.ScanLaws.{inside}
 use Rattle.run_table.specs.Checks.{Accepted, GoodMessage, Limits, WellFormed, badCount, badLength, badProcessCount, badReceipt, badSend, outside, tableChecks, tableRefusal, toItself, tooManyMessages, unknownProcess}
 use Rattle.run_table.specs.Format.{decode, encode, messagesIn, processesIn, tableLength}
 use Rattle.run_table.specs.Lists.{any}
-use Rattle.run_table.specs.Table.{Message, Table, countOf, messageCount, messageOf, noMessage, processCount}
+use Rattle.run_table.specs.Table.{Message, Table, countOf, messageCount, messageOf, mostCheckpoints, mostMessages, mostProcesses, noMessage, processCount}
 
 -- a number that is not outside its limit
 within-positive : (limit n : ℕ) → outside limit n ≡ false → 0 < n
@@ -73,15 +73,15 @@ module _ (bytes : List ℕ) where
       let length-is = eqb-true (length bytes) (tableLength (processesIn bytes) (messagesIn bytes)) (not-false (eqb (length bytes) (tableLength (processesIn bytes) (messagesIn bytes))) e) in
       rw (decode-processes bytes, decode-messages bytes) length-is
 
-  process-count : badProcessCount bytes ≡ false → outside 32 (processCount t) ≡ false
+  process-count : badProcessCount bytes ≡ false → outside mostProcesses (processCount t) ≡ false
   unfolding badProcessCount
   process-count e = rw (decode-processes bytes) e
 
-  message-count : tooManyMessages bytes ≡ false → messageCount t ≤ 4096
+  message-count : tooManyMessages bytes ≡ false → messageCount t ≤ mostMessages
   unfolding tooManyMessages
-  message-count e = rw (decode-messages bytes) (ltb-false 4096 (messagesIn bytes) e)
+  message-count e = rw (decode-messages bytes) (ltb-false mostMessages (messagesIn bytes) e)
 
-  each-count : any badCount (t .counts) ≡ false → (p : ℕ) → p < processCount t → outside 4096 (countOf t p) ≡ false
+  each-count : any badCount (t .counts) ≡ false → (p : ℕ) → p < processCount t → outside mostCheckpoints (countOf t p) ≡ false
   unfolding processCount countOf badCount
   each-count e p l = none-of badCount (t .counts) 0 e p l
 
@@ -89,45 +89,32 @@ module _ (bytes : List ℕ) where
   unfolding messageCount messageOf
   each-message test e k l = none-of test (t .messages) noMessage e k l
 
-  facts : badProcessCount bytes ≡ false → tooManyMessages bytes ≡ false → badLength bytes ≡ false → any badCount (t .counts) ≡ false
-      → any (unknownProcess (processCount t)) (t .messages) ≡ false → any toItself (t .messages) ≡ false → any (badSend t) (t .messages) ≡ false
-      → any (badReceipt t) (t .messages) ≡ false → Accepted bytes
-  facts e2 e3 e4 e5 e6 e7 e8 e9 = record {
-    whole = sizes-right e4;
-    well-formed = record {
-      some-process = within-positive 32 (processCount t) (process-count e2);
-      some-checkpoint = λ p l. within-positive 4096 (countOf t p) (each-count e5 p l);
-      good-messages = λ k l.
-          good-message t (messageOf t k) (each-message (unknownProcess (processCount t)) e6 k l) (each-message toItself e7 k l)
-          (each-message (badSend t) e8 k l) (each-message (badReceipt t) e9 k l);
-    };
-    limits = record {
-      processes-limit = within-limit 32 (processCount t) (process-count e2);
-      messages-limit = message-count e3;
-      counts-limit = λ p l. within-limit 4096 (countOf t p) (each-count e5 p l);
-    };
-  }
-
   pub accepted : tableRefusal bytes ≡ 0 → Accepted bytes
-  unfolding tableRefusal tableChecks
+  unfolding tableRefusal tableChecks caughtBy
   accepted none =
-      let q1 = cleared _ _ (omega arith) none in
-      let q2 = cleared _ _ (omega arith) (q1 .1) in
-      let q3 = cleared _ _ (omega arith) (q2 .1) in
-      let q4 = cleared _ _ (omega arith) (q3 .1) in
-      let q5 = cleared _ _ (omega arith) (q4 .1) in
-      let q6 = cleared _ _ (omega arith) (q5 .1) in
-      let q7 = cleared _ _ (omega arith) (q6 .1) in
-      let q8 = cleared _ _ (omega arith) (q7 .1) in
-      let q9 = cleared _ _ (omega arith) (q8 .1) in
-      facts (q2 .0) (q3 .0) (q4 .0) (q5 .0) (q6 .0) (q7 .0) (q8 .0) (q9 .0)
+      let by = quiet (tableChecks bytes) (table-refusals bytes) none in
+      record {
+        whole = sizes-right (by 4);
+        well-formed = record {
+          some-process = within-positive mostProcesses (processCount t) (process-count (by 2));
+          some-checkpoint = λ p l. within-positive mostCheckpoints (countOf t p) (each-count (by 5) p l);
+          good-messages = λ k l.
+              good-message t (messageOf t k) (each-message (unknownProcess (processCount t)) (by 6) k l) (each-message toItself (by 7) k l)
+              (each-message (badSend t) (by 8) k l) (each-message (badReceipt t) (by 9) k l);
+        };
+        limits = record {
+          processes-limit = within-limit mostProcesses (processCount t) (process-count (by 2));
+          messages-limit = message-count (by 3);
+          counts-limit = λ p l. within-limit mostCheckpoints (countOf t p) (each-count (by 5) p l);
+        };
+      }
 
   -- ---- the other way
   no-message : (test : Message → Bool) → ((k : ℕ) → k < messageCount t → test (messageOf t k) ≡ false) → any test (t .messages) ≡ false
   unfolding messageCount messageOf
   no-message test h = any-none test (t .messages) noMessage h
 
-  no-count : ((p : ℕ) → p < processCount t → outside 4096 (countOf t p) ≡ false) → any badCount (t .counts) ≡ false
+  no-count : ((p : ℕ) → p < processCount t → outside mostCheckpoints (countOf t p) ≡ false) → any badCount (t .counts) ≡ false
   unfolding processCount countOf badCount
   no-count h = any-none badCount (t .counts) 0 h
 
@@ -139,14 +126,13 @@ module _ (bytes : List ℕ) where
     whole = rw (← decode-processes bytes, ← decode-messages bytes) (a .whole)
 
     long-enough : 4 ≤ length bytes
-    unfolding tableLength
     long-enough = omega (arith, whole)
 
     processes-good : badProcessCount bytes ≡ false
     unfolding processesIn messagesIn
     processes-good =
         checked-processes bytes (processesIn bytes) (messagesIn bytes) refl refl
-        ∙ in-limits 32 (processesIn bytes) (omega (arith, a .well-formed .some-process, decode-processes bytes)) (omega (arith, a .limits .processes-limit, decode-processes bytes))
+        ∙ in-limits mostProcesses (processesIn bytes) (omega (arith, a .well-formed .some-process, decode-processes bytes)) (omega (arith, a .limits .processes-limit, decode-processes bytes))
 
     messages-good : tooManyMessages bytes ≡ false
     unfolding processesIn messagesIn
@@ -161,12 +147,16 @@ module _ (bytes : List ℕ) where
     refusal-zero =
         let w = a .well-formed in
         let good = w .good-messages in
-        passed _ _ _ (not-short bytes long-enough) (passed _ _ _ processes-good (passed _ _ _ messages-good (passed _ _ _ length-good
-        (passed _ _ _ (no-count (λ p l. in-limits 4096 (countOf t p) (w .some-checkpoint p l) (a .limits .counts-limit p l)))
+        passed _ _ _ (not-short bytes long-enough)
+        (passed _ _ _ processes-good
+        (passed _ _ _ messages-good
+        (passed _ _ _ length-good
+        (passed _ _ _ (no-count (λ p l. in-limits mostCheckpoints (countOf t p) (w .some-checkpoint p l) (a .limits .counts-limit p l)))
         (passed _ _ _ (no-message (unknownProcess (processCount t)) (λ k l. known-process t (messageOf t k) (good k l)))
         (passed _ _ _ (no-message toItself (λ k l. not-to-itself t (messageOf t k) (good k l)))
         (passed _ _ _ (no-message (badSend t) (λ k l. good-send t (messageOf t k) (good k l)))
-        (passed _ _ _ (no-message (badReceipt t) (λ k l. good-receipt t (messageOf t k) (good k l))) clear))))))))
+        (passed _ _ _ (no-message (badReceipt t) (λ k l. good-receipt t (messageOf t k) (good k l)))
+        clear))))))))
 
     -- an accepted table's bytes, read and written again
     pub rewritten : AreBytes bytes → encode (decode bytes) ≡ bytes

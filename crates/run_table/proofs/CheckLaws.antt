@@ -1,6 +1,6 @@
 -- Laws of the checks.
 --     passed, stopped, clear      the first check of a list that catches
---     cleared                     none of a list catches
+--     cleared, caughtBy, quiet    none of a list catches: its first check, and the check of any number
 --     append-stopped, append-passed    further checks behind a list
 --     parts-refusal               checks 5 to 9 on the parts of a table are the document's, on the decoded table
 -- Assumes nothing.
@@ -10,16 +10,16 @@ use mathlib.Core.Path.{_≡_, refl, sym, ap, _∙_}
 use Prim.Native.Nat.{ℕ, suc, _+_, _-_, _*_, _<_, _≤_}
 use native.Mathlib.Omega.{arith}
 use borrow.Author.Tests.{leb-false, lt-ltb, ltb-true, le-ltb, eq-eqb, ne-eqb}
-use lib.Dec.{leb, ltb}
+use lib.Dec.{eqb, leb, ltb}
 use lib.ListN.{length, take, drop}
 use Rattle.run_table.proofs.FormatLaws.{decode-count, decode-processes}
 use Rattle.run_table.proofs.ListLaws.{and-left, and-right, any-tabulate, anyBelow-ext, anyBelow-or, none-below, or-false-left, or-false-right}
 use Rattle.run_table.specs.Checks.{Check, badCount, badLength, badProcessCount, badReceipt, badSend, firstCaught, outside, tableChecks, tableRefusal, toItself, tooManyMessages, tooShort, unknownProcess}
-use Rattle.run_table.specs.Format.{checkpointAt, countAt, countsPart, decode, messageAt, messagesIn, processAt, processesIn, receiptsPart, sendsPart, tableLength}
+use Rattle.run_table.specs.Format.{checkpointAt, countAt, countsAt, countsPart, decode, messageAt, messagesIn, processAt, processesIn, receiptsAt, receiptsPart, sendsAt, sendsPart, tableLength}
 use Rattle.run_table.specs.Lists.{any, anyBelow}
 use Rattle.run_table.specs.Numbers.{u16At}
 use Rattle.run_table.specs.Parts.{badCountAt, notBelowAt, partsRefusal, toItselfAt, unknownAt}
-use Rattle.run_table.specs.Table.{Message, Table, countOf, processCount}
+use Rattle.run_table.specs.Table.{Message, Table, countOf, mostMessages, mostProcesses, processCount}
 
 -- a check that catches nothing is passed over; one that catches gives its number; a list that ends gives 0
 pub passed : (c : Check) (rest : List Check) (n : ℕ) → c .caught ≡ false → firstCaught rest ≡ n → firstCaught (c ∷ rest) ≡ n
@@ -57,6 +57,23 @@ append-stopped (c ∷ rest) ys n e = go (c .caught) e (append-stopped rest ys n)
 unfoldable pub areRefusals : List Check → Bool
 areRefusals [] = true
 areRefusals (c ∷ rest) = ltb 0 (c .number) && areRefusals rest
+
+-- Whether the check of a number catches: the first of a list that has it.
+unfoldable pub caughtBy : ℕ → List Check → Bool
+caughtBy n [] = false
+caughtBy n (c ∷ rest) = cond (eqb n (c .number)) (c .caught) (caughtBy n rest)
+
+-- where a list of refusals catches nothing, the check of each number is quiet, wherever it stands
+pub quiet : (checks : List Check) → areRefusals checks ≡ true → firstCaught checks ≡ 0 → (n : ℕ) → caughtBy n checks ≡ false
+unfolding areRefusals caughtBy
+quiet [] p e n = refl
+quiet (c ∷ rest) p e n =
+    let none = cleared c rest (ltb-true 0 (c .number) (and-left (ltb 0 (c .number)) (areRefusals rest) p)) e in
+    go (eqb n (c .number)) (none .0) (quiet rest (and-right (ltb 0 (c .number)) (areRefusals rest) p) (none .1) n)
+  where
+    go : (b : Bool) → c .caught ≡ false → caughtBy n rest ≡ false → cond b (c .caught) (caughtBy n rest) ≡ false
+    go true here later = here
+    go false here later = later
 
 pub append-passed : (xs ys : List Check) → areRefusals xs ≡ true → firstCaught xs ≡ 0 → firstCaught (xs ++ ys) ≡ firstCaught ys
 unfolding areRefusals
@@ -105,17 +122,17 @@ module _ (bytes : List ℕ) where
   not-short l = le-ltb (length bytes) 4 l
 
   module _ (n m : ℕ) (read-n : n ≡ u16At bytes 0) (read-m : m ≡ u16At bytes 2) where
-    pub process-count : badProcessCount bytes ≡ outside 32 n
+    pub process-count : badProcessCount bytes ≡ outside mostProcesses n
     unfolding badProcessCount processesIn
-    process-count = ap (outside 32) (sym read-n)
+    process-count = ap (outside mostProcesses) (sym read-n)
 
-    pub many-messages : 4096 < m → tooManyMessages bytes ≡ true
+    pub many-messages : mostMessages < m → tooManyMessages bytes ≡ true
     unfolding tooManyMessages messagesIn
-    many-messages l = rw (← read-m) (lt-ltb 4096 m l)
+    many-messages l = rw (← read-m) (lt-ltb mostMessages m l)
 
-    pub few-messages : m ≤ 4096 → tooManyMessages bytes ≡ false
+    pub few-messages : m ≤ mostMessages → tooManyMessages bytes ≡ false
     unfolding tooManyMessages messagesIn
-    few-messages l = rw (← read-m) (le-ltb 4096 m l)
+    few-messages l = rw (← read-m) (le-ltb mostMessages m l)
 
     pub wrong-length : (length bytes ≡ tableLength n m → ⊥) → badLength bytes ≡ true
     unfolding badLength messagesIn processesIn
@@ -126,16 +143,15 @@ module _ (bytes : List ℕ) where
     right-length e = rw (← read-n, ← read-m) (ap not (eq-eqb (length bytes) (tableLength n m) e))
 
     -- the parts as the code takes them, from a start to an end
-    pub parts-read :
-        partsRefusal n m (take (4 + 2 * n - 4) (drop 4 bytes)) (take (4 + 2 * n + 4 * m - (4 + 2 * n)) (drop (4 + 2 * n) bytes))
-        (take (4 + 2 * n + 4 * m + 4 * m - (4 + 2 * n + 4 * m)) (drop (4 + 2 * n + 4 * m) bytes))
+    pub parts-read : (s r : ℕ) → s ≡ sendsAt n → r ≡ receiptsAt n m → length bytes ≡ tableLength n m
+        → partsRefusal n m (take (s - countsAt) (drop countsAt bytes)) (take (r - s) (drop s bytes)) (take (length bytes - r) (drop r bytes))
         ≡ partsRefusal (processesIn bytes) (messagesIn bytes) (countsPart bytes) (sendsPart bytes) (receiptsPart bytes)
     unfolding countsPart sendsPart receiptsPart messagesIn processesIn
-    parts-read =
-        let counts : 4 + 2 * n - 4 ≡ 2 * n = omega arith in
-        let sends : 4 + 2 * n + 4 * m - (4 + 2 * n) ≡ 4 * m = omega arith in
-        let receipts : 4 + 2 * n + 4 * m + 4 * m - (4 + 2 * n + 4 * m) ≡ 4 * m = omega arith in
-        rw (counts, sends, receipts, read-n, read-m)
+    parts-read s r is-s is-r whole =
+        let counts : s - countsAt ≡ 2 * n = omega arith in
+        let sends : r - s ≡ 4 * m = omega arith in
+        let receipts : length bytes - r ≡ 4 * m = omega arith in
+        rw (counts, sends, receipts, is-s, is-r, read-n, read-m)
 
 -- checks 5 to 9 of the decoded table, in terms of the parts of its bytes
 module _ (bytes : List ℕ) where

@@ -11,10 +11,10 @@ use native.Mathlib.Nat.{le-of-suc-le-suc, not-suc-le-zero}
 use native.Mathlib.Omega.{arith}
 use lib.ListN.{length, getD, length-append, List·getD-append}
 use lib.Seq.{ext-getD, getD-append-add}
-use Rattle.run_table.proofs.FormatLaws.{count-place, count-some, decode-messages, decode-processes, length-entries, message-some, receipt-place, send-place}
+use Rattle.run_table.proofs.FormatLaws.{count-place, count-some, decode-messages, decode-processes, length-entries, receipt-place, received-there, receiver-there, send-place, sender-there, sent-there}
 use Rattle.run_table.proofs.ListLaws.{tabulate-append, tabulate-ext}
 use Rattle.run_table.proofs.NumberLaws.{u16At-drop, u16At-u16s}
-use Rattle.run_table.specs.Format.{checkpointAt, countAt, countsPart, decode, encode, entriesOf, messageAt, messagesIn, processAt, processesIn, receiptsOf, receiptsPart, sendsOf, sendsPart, tableLength}
+use Rattle.run_table.specs.Format.{checkpointAt, countAt, countsAt, countsPart, decode, encode, entriesOf, messageAt, messagesIn, processAt, processesIn, receiptsAt, receiptsOf, receiptsPart, sendsAt, sendsOf, sendsPart, tableLength}
 use Rattle.run_table.specs.Lists.{tabulate}
 use Rattle.run_table.specs.Numbers.{u16At, u16Bytes, u16s}
 use Rattle.run_table.specs.Table.{Message, Table, countOf, messageCount, messageOf, noMessage, processCount}
@@ -122,7 +122,7 @@ module _ (t : Table) (fits : Fits16 t) where
   encoded-count : (p : ℕ) → p < N → countOf (decode (encode t)) p ≡ countOf t p
   unfolding processCount
   encoded-count p l =
-      let place : 4 + 2 * p ≡ 2 * (2 + p) = omega arith in
+      let place : countsAt + 2 * p ≡ 2 * (2 + p) = omega arith in
       count-some (encode t) N M encoded-processes encoded-messages p l
       ∙ ap (u16At (encode t)) place
       ∙ number-at (2 + p) (countOf t p) (omega arith) (count-number p l) (fits .counts-fit p l)
@@ -130,16 +130,19 @@ module _ (t : Table) (fits : Fits16 t) where
   encoded-message : (k : ℕ) → k < M → messageOf (decode (encode t)) k ≡ messageOf t k
   unfolding messageCount messageOf
   encoded-message k l =
-      let a : 4 + 2 * N + 4 * k ≡ 2 * (2 + N + 2 * k) = omega arith in
-      let b : 4 + 2 * N + (4 * k + 2) ≡ 2 * (2 + N + (2 * k + 1)) = omega arith in
-      let c : 4 + 2 * N + 4 * M + 4 * k ≡ 2 * (2 + N + 2 * M + 2 * k) = omega arith in
-      let d : 4 + 2 * N + 4 * M + (4 * k + 2) ≡ 2 * (2 + N + 2 * M + (2 * k + 1)) = omega arith in
-      message-some (encode t) N M encoded-processes encoded-messages k l
-      ∙ message-path _ (messageOf t k)
-      (ap (u16At (encode t)) a ∙ number-at _ _ (omega arith) (send-number (2 * k) (omega arith) ∙ entries-process (λ m. m .sender) (λ m. m .sent) (t .messages) k l) (fits .senders-fit k l))
-      (ap (u16At (encode t)) b ∙ number-at _ _ (omega arith) (send-number (2 * k + 1) (omega arith) ∙ entries-checkpoint (λ m. m .sender) (λ m. m .sent) (t .messages) k l) (fits .sent-fit k l))
-      (ap (u16At (encode t)) c ∙ number-at _ _ (omega arith) (receipt-number (2 * k) ∙ entries-process (λ m. m .receiver) (λ m. m .received) (t .messages) k l) (fits .receivers-fit k l))
-      (ap (u16At (encode t)) d ∙ number-at _ _ (omega arith) (receipt-number (2 * k + 1) ∙ entries-checkpoint (λ m. m .receiver) (λ m. m .received) (t .messages) k l) (fits .received-fit k l))
+      let a : sendsAt N + 4 * k ≡ 2 * (2 + N + 2 * k) = omega arith in
+      let b : sendsAt N + (4 * k + 2) ≡ 2 * (2 + N + (2 * k + 1)) = omega arith in
+      let c : receiptsAt N M + 4 * k ≡ 2 * (2 + N + 2 * M + 2 * k) = omega arith in
+      let d : receiptsAt N M + (4 * k + 2) ≡ 2 * (2 + N + 2 * M + (2 * k + 1)) = omega arith in
+      message-path _ (messageOf t k)
+      (sym (sender-there (encode t) N M encoded-processes encoded-messages k l (sendsAt N) _ refl refl) ∙ ap (u16At (encode t)) a
+      ∙ number-at _ _ (omega arith) (send-number (2 * k) (omega arith) ∙ entries-process (λ m. m .sender) (λ m. m .sent) (t .messages) k l) (fits .senders-fit k l))
+      (sym (sent-there (encode t) N M encoded-processes encoded-messages k l (sendsAt N) _ refl refl) ∙ ap (u16At (encode t)) b
+      ∙ number-at _ _ (omega arith) (send-number (2 * k + 1) (omega arith) ∙ entries-checkpoint (λ m. m .sender) (λ m. m .sent) (t .messages) k l) (fits .sent-fit k l))
+      (sym (receiver-there (encode t) N M encoded-processes encoded-messages k l (receiptsAt N M) _ refl refl) ∙ ap (u16At (encode t)) c
+      ∙ number-at _ _ (omega arith) (receipt-number (2 * k) ∙ entries-process (λ m. m .receiver) (λ m. m .received) (t .messages) k l) (fits .receivers-fit k l))
+      (sym (received-there (encode t) N M encoded-processes encoded-messages k l (receiptsAt N M) _ refl refl) ∙ ap (u16At (encode t)) d
+      ∙ number-at _ _ (omega arith) (receipt-number (2 * k + 1) ∙ entries-checkpoint (λ m. m .receiver) (λ m. m .received) (t .messages) k l) (fits .received-fit k l))
 
   pub decode-encode : decode (encode t) ≡ t
   unfolding processCount messageCount countOf messageOf processesIn messagesIn
@@ -167,19 +170,19 @@ next-number x y rest j =
     ap (u16At (x ∷ y ∷ rest)) place ∙ sym (u16At-drop 2 (x ∷ y ∷ rest) (2 * j))
 
 -- where the numbers of each part stand
-count-byte : (p : ℕ) → 4 + 2 * p ≡ 2 * suc (suc p)
+count-byte : (p : ℕ) → countsAt + 2 * p ≡ 2 * suc (suc p)
 count-byte p = omega arith
 
-process-byte : (n k : ℕ) → 4 + 2 * n + 4 * k ≡ 2 * suc (suc (n + 2 * k))
+process-byte : (n k : ℕ) → sendsAt n + 4 * k ≡ 2 * suc (suc (n + 2 * k))
 process-byte n k = omega arith
 
-checkpoint-byte : (n k : ℕ) → 4 + 2 * n + (4 * k + 2) ≡ 2 * suc (suc (n + (2 * k + 1)))
+checkpoint-byte : (n k : ℕ) → sendsAt n + (4 * k + 2) ≡ 2 * suc (suc (n + (2 * k + 1)))
 checkpoint-byte n k = omega arith
 
-process-byte′ : (n m k : ℕ) → 4 + 2 * n + 4 * m + 4 * k ≡ 2 * suc (suc (n + (2 * m + 2 * k)))
+process-byte′ : (n m k : ℕ) → receiptsAt n m + 4 * k ≡ 2 * suc (suc (n + (2 * m + 2 * k)))
 process-byte′ n m k = omega arith
 
-checkpoint-byte′ : (n m k : ℕ) → 4 + 2 * n + 4 * m + (4 * k + 2) ≡ 2 * suc (suc (n + (2 * m + (2 * k + 1))))
+checkpoint-byte′ : (n m k : ℕ) → receiptsAt n m + (4 * k + 2) ≡ 2 * suc (suc (n + (2 * m + (2 * k + 1))))
 checkpoint-byte′ n m k = omega arith
 
 twice-suc : (k : ℕ) → 2 * suc k ≡ suc (suc (2 * k))
@@ -269,7 +272,7 @@ module _ (bytes : List ℕ) where
   numbers-read = cc (processes-read, messages-read, arrays-read)
 
   pub encode-decode : length bytes ≡ tableLength n m → AreBytes bytes → encode (decode bytes) ≡ bytes
-  unfolding encode tableLength
+  unfolding encode
   encode-decode whole b =
       ap u16s numbers-read ∙ u16s-read (suc (suc (n + (2 * m + 2 * m)))) bytes (omega arith) b
 

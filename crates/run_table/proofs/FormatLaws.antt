@@ -4,27 +4,27 @@
 --     decode-count, decode-message                      its entries
 -- Assumes nothing.
 use mathlib.Core.List.{List, [], _∷_, _++_}
-use mathlib.Core.Path.{_≡_, refl, sym, _∙_, subst, subst⁻¹}
+use mathlib.Core.Path.{_≡_, refl, sym, ap, ap₂, _∙_, subst, subst⁻¹}
 use Prim.Native.Nat.{ℕ, _+_, _*_, _<_, _≤_}
 use native.Mathlib.Omega.{arith}
 use lib.ListN.{length, length-append, drop, length-take, length-drop, List·getD-eq-default}
 use Rattle.run_table.proofs.ListLaws.{getD-tabulate, length-tabulate}
 use Rattle.run_table.proofs.NumberLaws.{length-u16s, u16At-take, u16At-drop}
-use Rattle.run_table.specs.Format.{checkpointAt, countAt, countsPart, decode, encode, entriesOf, messageAt, messagesIn, processAt, processesIn, receiptsOf, receiptsPart, sendsOf, sendsPart, tableLength}
+use Rattle.run_table.specs.Format.{checkpointAt, countAt, countsAt, countsPart, decode, encode, entriesOf, messageAt, messagesIn, processAt, processesIn, receiptsAt, receiptsOf, receiptsPart, sendsAt, sendsOf, sendsPart, tableLength}
 use Rattle.run_table.specs.Numbers.{u16At}
 use Rattle.run_table.specs.Table.{Message, Table, countOf, messageCount, messageOf, noMessage, processCount}
 
 module _ (bytes : List ℕ) (whole : length bytes ≡ tableLength (processesIn bytes) (messagesIn bytes)) where
   pub counts-length : length (countsPart bytes) ≡ 2 * processesIn bytes
-  unfolding countsPart tableLength
+  unfolding countsPart
   counts-length = simp (length-take, length-drop) (omega arith)
 
   pub sends-length : length (sendsPart bytes) ≡ 4 * messagesIn bytes
-  unfolding sendsPart tableLength
+  unfolding sendsPart
   sends-length = simp (length-take, length-drop) (omega arith)
 
   pub receipts-length : length (receiptsPart bytes) ≡ 4 * messagesIn bytes
-  unfolding receiptsPart tableLength
+  unfolding receiptsPart
   receipts-length = simp (length-take, length-drop) (omega arith)
 
 module _ (bytes : List ℕ) where
@@ -46,22 +46,22 @@ module _ (bytes : List ℕ) where
 
 -- where the numbers of the parts stand among the bytes
 module _ (bytes : List ℕ) where
-  pub count-place : (p : ℕ) → p < processesIn bytes → countAt (countsPart bytes) p ≡ u16At bytes (4 + 2 * p)
+  pub count-place : (p : ℕ) → p < processesIn bytes → countAt (countsPart bytes) p ≡ u16At bytes (countsAt + 2 * p)
   unfolding countAt countsPart
-  count-place p l = u16At-take (2 * processesIn bytes) (drop 4 bytes) (2 * p) (omega arith) ∙ u16At-drop 4 bytes (2 * p)
+  count-place p l = u16At-take (2 * processesIn bytes) (drop countsAt bytes) (2 * p) (omega arith) ∙ u16At-drop countsAt bytes (2 * p)
 
   module _ (at : ℕ) (l : at + 1 < 4 * messagesIn bytes) where
-    pub send-place : u16At (sendsPart bytes) at ≡ u16At bytes (4 + 2 * processesIn bytes + at)
+    pub send-place : u16At (sendsPart bytes) at ≡ u16At bytes (sendsAt (processesIn bytes) + at)
     unfolding sendsPart
     send-place =
-        u16At-take (4 * messagesIn bytes) (drop (4 + 2 * processesIn bytes) bytes) at l
-        ∙ u16At-drop (4 + 2 * processesIn bytes) bytes at
+        u16At-take (4 * messagesIn bytes) (drop (sendsAt (processesIn bytes)) bytes) at l
+        ∙ u16At-drop (sendsAt (processesIn bytes)) bytes at
 
-    pub receipt-place : u16At (receiptsPart bytes) at ≡ u16At bytes (4 + 2 * processesIn bytes + 4 * messagesIn bytes + at)
+    pub receipt-place : u16At (receiptsPart bytes) at ≡ u16At bytes (receiptsAt (processesIn bytes) (messagesIn bytes) + at)
     unfolding receiptsPart
     receipt-place =
-        u16At-take (4 * messagesIn bytes) (drop (4 + 2 * processesIn bytes + 4 * messagesIn bytes) bytes) at l
-        ∙ u16At-drop (4 + 2 * processesIn bytes + 4 * messagesIn bytes) bytes at
+        u16At-take (4 * messagesIn bytes) (drop (receiptsAt (processesIn bytes) (messagesIn bytes)) bytes) at l
+        ∙ u16At-drop (receiptsAt (processesIn bytes) (messagesIn bytes)) bytes at
 
 -- what stands beyond the last process and the last message of a table
 pub count-beyond : (t : Table) (p : ℕ) → processCount t ≤ p → countOf t p ≡ 0
@@ -78,7 +78,7 @@ module _ (bytes : List ℕ) (n m : ℕ) (read-n : n ≡ u16At bytes 0) (read-m :
   unfolding processesIn
   count-none p l = count-beyond (decode bytes) p (subst⁻¹ (λ (x : ℕ). x ≤ p) (decode-processes bytes ∙ sym read-n) l)
 
-  pub count-some : (p : ℕ) → p < n → countOf (decode bytes) p ≡ u16At bytes (4 + 2 * p)
+  pub count-some : (p : ℕ) → p < n → countOf (decode bytes) p ≡ u16At bytes (countsAt + 2 * p)
   unfolding processesIn
   count-some p l =
       let below : p < processesIn bytes = subst (λ (x : ℕ). p < x) read-n l in
@@ -88,20 +88,44 @@ module _ (bytes : List ℕ) (n m : ℕ) (read-n : n ≡ u16At bytes 0) (read-m :
   unfolding messagesIn
   message-none k l = message-beyond (decode bytes) k (subst⁻¹ (λ (x : ℕ). x ≤ k) (decode-messages bytes ∙ sym read-m) l)
 
-  pub message-some : (k : ℕ) → k < m → messageOf (decode bytes) k ≡ record {
-    sender = u16At bytes (4 + 2 * n + 4 * k);
-    sent = u16At bytes (4 + 2 * n + (4 * k + 2));
-    receiver = u16At bytes (4 + 2 * n + 4 * m + 4 * k);
-    received = u16At bytes (4 + 2 * n + 4 * m + (4 * k + 2));
-  }
-  unfolding messagesIn processesIn messageAt processAt checkpointAt
-  message-some k l =
-      let below : k < messagesIn bytes = subst (λ (x : ℕ). k < x) read-m l in
-      let a = send-place bytes (4 * k) (omega arith) in
-      let b = send-place bytes (4 * k + 2) (omega arith) in
-      let c = receipt-place bytes (4 * k) (omega arith) in
-      let d = receipt-place bytes (4 * k + 2) (omega arith) in
-      decode-message bytes k below ∙ rw (read-n, read-m) (cc (a, b, c, d))
+  -- the number v that the code read of message k, in the array that begins at a place
+  module _ (k : ℕ) (l : k < m) (at v : ℕ) where
+    below : k < messagesIn bytes
+    unfolding messagesIn
+    below = subst (λ (x : ℕ). k < x) read-m l
+
+    sends-start : at ≡ sendsAt n → at ≡ sendsAt (processesIn bytes)
+    unfolding processesIn
+    sends-start e = e ∙ ap sendsAt read-n
+
+    receipts-start : at ≡ receiptsAt n m → at ≡ receiptsAt (processesIn bytes) (messagesIn bytes)
+    unfolding processesIn messagesIn
+    receipts-start e = e ∙ ap₂ receiptsAt read-n read-m
+
+    from-send : at ≡ sendsAt n → (d : ℕ) → d + 1 < 4 → u16At bytes (at + (4 * k + d)) ≡ u16At (sendsPart bytes) (4 * k + d)
+    from-send e d b = ap (λ (x : ℕ). u16At bytes (x + (4 * k + d))) (sends-start e) ∙ sym (send-place bytes (4 * k + d) (omega (arith, below)))
+
+    from-receipt : at ≡ receiptsAt n m → (d : ℕ) → d + 1 < 4 → u16At bytes (at + (4 * k + d)) ≡ u16At (receiptsPart bytes) (4 * k + d)
+    from-receipt e d b = ap (λ (x : ℕ). u16At bytes (x + (4 * k + d))) (receipts-start e) ∙ sym (receipt-place bytes (4 * k + d) (omega (arith, below)))
+
+    there : (f : Message → ℕ) → v ≡ f (messageAt (sendsPart bytes) (receiptsPart bytes) k) → v ≡ f (messageOf (decode bytes) k)
+    there f e = e ∙ ap f (sym (decode-message bytes k below))
+
+    pub sender-there : at ≡ sendsAt n → v ≡ u16At bytes (at + 4 * k) → v ≡ messageOf (decode bytes) k .sender
+    unfolding messageAt processAt
+    sender-there e r = there (λ x. x .sender) (r ∙ ap (u16At bytes) (omega arith) ∙ from-send e 0 (omega arith) ∙ ap (u16At (sendsPart bytes)) (omega arith))
+
+    pub sent-there : at ≡ sendsAt n → v ≡ u16At bytes (at + (4 * k + 2)) → v ≡ messageOf (decode bytes) k .sent
+    unfolding messageAt checkpointAt
+    sent-there e r = there (λ x. x .sent) (r ∙ from-send e 2 (omega arith))
+
+    pub receiver-there : at ≡ receiptsAt n m → v ≡ u16At bytes (at + 4 * k) → v ≡ messageOf (decode bytes) k .receiver
+    unfolding messageAt processAt
+    receiver-there e r = there (λ x. x .receiver) (r ∙ ap (u16At bytes) (omega arith) ∙ from-receipt e 0 (omega arith) ∙ ap (u16At (receiptsPart bytes)) (omega arith))
+
+    pub received-there : at ≡ receiptsAt n m → v ≡ u16At bytes (at + (4 * k + 2)) → v ≡ messageOf (decode bytes) k .received
+    unfolding messageAt checkpointAt
+    received-there e r = there (λ x. x .received) (r ∙ from-receipt e 2 (omega arith))
 
 -- ---- writing and reading
 -- the length of an encoded table
@@ -113,7 +137,7 @@ length-entries f g (m ∷ rest) =
     omega arith
 
 pub encode-length : (t : Table) → length (encode t) ≡ tableLength (processCount t) (messageCount t)
-unfolding encode tableLength processCount messageCount
+unfolding encode processCount messageCount
 encode-length t =
     let all = length-u16s (length (t .counts) ∷ length (t .messages) ∷ (t .counts ++ (sendsOf (t .messages) ++ receiptsOf (t .messages)))) in
     let outer = length-append (t .counts) (sendsOf (t .messages) ++ receiptsOf (t .messages)) in

@@ -15,9 +15,9 @@ use lib.ListN.{length, take, drop}
 use Rattle.run_table.proofs.AcceptLaws.{accepted}
 use Rattle.run_table.proofs.FormatLaws.{counts-length, decode-count, decode-message, decode-messages, decode-processes, receipts-length, sends-length}
 use Rattle.run_table.specs.Checks.{GoodMessage, tableRefusal}
-use Rattle.run_table.specs.Format.{checkpointAt, countAt, countsPart, decode, messageAt, messagesIn, processAt, processesIn, receiptsPart, sendsPart, tableLength}
+use Rattle.run_table.specs.Format.{checkpointAt, countAt, countsAt, countsPart, decode, messageAt, messagesIn, processAt, processesIn, receiptsAt, receiptsPart, sendsAt, sendsPart, tableLength}
 use Rattle.run_table.specs.Numbers.{u16At}
-use Rattle.run_table.specs.Table.{Message, countOf, messageCount, messageOf, processCount}
+use Rattle.run_table.specs.Table.{Message, countOf, messageCount, messageOf, mostCheckpoints, mostMessages, mostProcesses, processCount}
 
 module _ (bytes : List ℕ) (none : tableRefusal bytes ≡ 0) where
   abbrev N : ℕ
@@ -26,22 +26,20 @@ module _ (bytes : List ℕ) (none : tableRefusal bytes ≡ 0) where
   abbrev M : ℕ
   M = messageCount (decode bytes)
 
-  pub whole : length bytes ≡ 4 + 2 * N + 8 * M
-  unfolding tableLength
+  pub whole : length bytes ≡ tableLength N M
   whole = accepted bytes none .whole
 
   pub long-enough : 4 ≤ length bytes
   long-enough = omega (arith, whole)
 
-  pub processes-few : N ≤ 32
+  pub processes-few : N ≤ mostProcesses
   processes-few = accepted bytes none .limits .processes-limit
 
-  pub messages-few : M ≤ 4096
+  pub messages-few : M ≤ mostMessages
   messages-few = accepted bytes none .limits .messages-limit
 
   -- ---- the parts
   whole-length : length bytes ≡ tableLength (processesIn bytes) (messagesIn bytes)
-  unfolding tableLength
   whole-length = omega (arith, whole, decode-processes bytes, decode-messages bytes)
 
   pub counts-size : length (countsPart bytes) ≡ 2 * N
@@ -53,27 +51,26 @@ module _ (bytes : List ℕ) (none : tableRefusal bytes ≡ 0) where
   pub receipts-size : length (receiptsPart bytes) ≡ 4 * M
   receipts-size = omega (arith, receipts-length bytes whole-length, decode-messages bytes)
 
-  -- as the code takes them, where it has read n and m
-  pub counts-taken : (n : ℕ) → n ≡ N → take (4 + 2 * n - 4) (drop 4 bytes) ≡ countsPart bytes
+  -- as the code takes them, from a start to an end
+  pub counts-taken : (end : ℕ) → end ≡ sendsAt N → take (end - countsAt) (drop countsAt bytes) ≡ countsPart bytes
   unfolding countsPart
-  counts-taken n e =
-      let size : 4 + 2 * n - 4 ≡ 2 * processesIn bytes = omega (arith, decode-processes bytes) in
+  counts-taken end e =
+      let size : end - countsAt ≡ 2 * processesIn bytes = omega (arith, decode-processes bytes) in
       rw size
 
-  module _ (n m : ℕ) (read-n : n ≡ N) (read-m : m ≡ M) where
-    pub sends-taken : take (4 + 2 * n + 4 * m - (4 + 2 * n)) (drop (4 + 2 * n) bytes) ≡ sendsPart bytes
-    unfolding sendsPart
-    sends-taken =
-        let size : 4 + 2 * n + 4 * m - (4 + 2 * n) ≡ 4 * messagesIn bytes = omega (arith, decode-messages bytes) in
-        let place : 4 + 2 * n ≡ 4 + 2 * processesIn bytes = omega (arith, decode-processes bytes) in
-        ap₂ (λ (x y : ℕ). take x (drop y bytes)) size place
+  pub sends-taken : (start end : ℕ) → start ≡ sendsAt N → end ≡ receiptsAt N M → take (end - start) (drop start bytes) ≡ sendsPart bytes
+  unfolding sendsPart
+  sends-taken start end s e =
+      let size : end - start ≡ 4 * messagesIn bytes = omega (arith, decode-messages bytes) in
+      let place : start ≡ sendsAt (processesIn bytes) = omega (arith, decode-processes bytes) in
+      ap₂ (λ (x y : ℕ). take x (drop y bytes)) size place
 
-    pub receipts-taken : take (length bytes - (4 + 2 * n + 4 * m)) (drop (4 + 2 * n + 4 * m) bytes) ≡ receiptsPart bytes
-    unfolding receiptsPart
-    receipts-taken =
-        let size : length bytes - (4 + 2 * n + 4 * m) ≡ 4 * messagesIn bytes = omega (arith, whole, decode-messages bytes) in
-        let place : 4 + 2 * n + 4 * m ≡ 4 + 2 * processesIn bytes + 4 * messagesIn bytes = omega (arith, decode-processes bytes, decode-messages bytes) in
-        ap₂ (λ (x y : ℕ). take x (drop y bytes)) size place
+  pub receipts-taken : (start : ℕ) → start ≡ receiptsAt N M → take (length bytes - start) (drop start bytes) ≡ receiptsPart bytes
+  unfolding receiptsPart
+  receipts-taken start s =
+      let size : length bytes - start ≡ 4 * messagesIn bytes = omega (arith, whole, decode-messages bytes) in
+      let place : start ≡ receiptsAt (processesIn bytes) (messagesIn bytes) = omega (arith, decode-processes bytes, decode-messages bytes) in
+      ap₂ (λ (x y : ℕ). take x (drop y bytes)) size place
 
   -- ---- their entries
   module _ (p : ℕ) (l : p < N) where
@@ -83,7 +80,7 @@ module _ (bytes : List ℕ) (none : tableRefusal bytes ≡ 0) where
     pub counts-positive : 0 < countAt (countsPart bytes) p
     counts-positive = omega (arith, count-is, accepted bytes none .well-formed .some-checkpoint p l)
 
-    pub counts-small : countAt (countsPart bytes) p ≤ 4096
+    pub counts-small : countAt (countsPart bytes) p ≤ mostCheckpoints
     counts-small = omega (arith, count-is, accepted bytes none .limits .counts-limit p l)
 
   module _ (k : ℕ) (l : k < M) where

@@ -18,6 +18,7 @@ use Rattle.run_table.specs.Format.{countAt, processAt}
 use Rattle.run_table.specs.Lists.{anyBelow}
 use Rattle.run_table.specs.Numbers.{u16At}
 use Rattle.run_table.specs.Parts.{badCountAt, unknownAt}
+use Rattle.run_table.specs.Table.{mostCheckpoints}
 
 -- The loop stands at k, and no index below k passes the test.
 pub record Passed (n : ℕ) (test : ℕ → Bool) (k : ℕ) : Type 0 where
@@ -51,9 +52,9 @@ module _ (limit n : ℕ) where
   inside z l = rw (ne-eqb n 0 z, le-ltb limit n l)
 
 -- the count that was read is that of the test
-pub count-read : (part : List ℕ) (p r : ℕ) → r ≡ u16At part (2 * p) → badCountAt part p ≡ outside 4096 r
+pub count-read : (part : List ℕ) (p r : ℕ) → r ≡ u16At part (2 * p) → badCountAt part p ≡ outside mostCheckpoints r
 unfolding badCountAt badCount countAt
-count-read part p r read = ap (outside 4096) (sym read)
+count-read part p r read = ap (outside mostCheckpoints) (sym read)
 
 -- an entry's process is below n, where it is known
 pub process-known : (n : ℕ) (part : List ℕ) (k : ℕ) → unknownAt n part k ≡ false → u16At part (4 * k) < n

@@ -8,7 +8,7 @@ use lib.Dec.{eqb, leb, ltb}
 use lib.ListN.{length}
 use Rattle.run_table.specs.Format.{decode, messagesIn, processesIn, tableLength}
 use Rattle.run_table.specs.Lists.{any}
-use Rattle.run_table.specs.Table.{Message, Table, countOf, messageCount, messageOf, processCount}
+use Rattle.run_table.specs.Table.{Message, Table, countOf, messageCount, messageOf, mostCheckpoints, mostMessages, mostProcesses, processCount}
 
 -- A check: whether it catches, and the number of its refusal.
 pub record Check : Type 0 where
@@ -32,11 +32,11 @@ tooShort bytes = ltb (length bytes) 4
 
 -- 2. N is 0 or above 32.
 unfoldable pub badProcessCount : List ℕ → Bool
-badProcessCount bytes = outside 32 (processesIn bytes)
+badProcessCount bytes = outside mostProcesses (processesIn bytes)
 
 -- 3. M is above 4,096.
 unfoldable pub tooManyMessages : List ℕ → Bool
-tooManyMessages bytes = ltb 4096 (messagesIn bytes)
+tooManyMessages bytes = ltb mostMessages (messagesIn bytes)
 
 -- 4. The length differs from 4 + 2N + 8M.
 unfoldable pub badLength : List ℕ → Bool
@@ -44,7 +44,7 @@ badLength bytes = not (eqb (length bytes) (tableLength (processesIn bytes) (mess
 
 -- 5. A count is 0 or above 4,096.
 unfoldable pub badCount : ℕ → Bool
-badCount count = outside 4096 count
+badCount count = outside mostCheckpoints count
 
 -- 6. A sender or receiver is N or above.
 unfoldable pub unknownProcess : ℕ → Message → Bool
@@ -95,11 +95,11 @@ pub record WellFormed (t : Table) : Type 0 where
   pub some-checkpoint : (p : ℕ) → p < processCount t → 0 < countOf t p
   pub good-messages : (k : ℕ) → k < messageCount t → GoodMessage t (messageOf t k)
 
--- The limits that an accepted table keeps: N to 32, M to 4,096, each count to 4,096.
+-- The limits of its numbers.
 pub record Limits (t : Table) : Type 0 where
-  pub processes-limit : processCount t ≤ 32
-  pub messages-limit : messageCount t ≤ 4096
-  pub counts-limit : (p : ℕ) → p < processCount t → countOf t p ≤ 4096
+  pub processes-limit : processCount t ≤ mostProcesses
+  pub messages-limit : messageCount t ≤ mostMessages
+  pub counts-limit : (p : ℕ) → p < processCount t → countOf t p ≤ mostCheckpoints
 
 -- An accepted table: none of the checks 1 to 9 catches.
 pub record Accepted (bytes : List ℕ) : Type 0 where

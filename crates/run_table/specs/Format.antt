@@ -14,19 +14,30 @@ processesIn bytes = u16At bytes 0
 unfoldable pub messagesIn : List ℕ → ℕ
 messagesIn bytes = u16At bytes 2
 
--- The number of bytes of a table of n processes and m messages.
-unfoldable pub tableLength : ℕ → ℕ → ℕ
-tableLength n m = 4 + 2 * n + 8 * m
+-- Where the parts of a table of n processes and m messages begin: the counts behind the two sizes, n of them; then the sends, and the
+-- receipts, each m entries of 4 bytes.
+abbrev pub countsAt : ℕ
+countsAt = 4
+
+abbrev pub sendsAt : ℕ → ℕ
+sendsAt n = countsAt + 2 * n
+
+abbrev pub receiptsAt : ℕ → ℕ → ℕ
+receiptsAt n m = sendsAt n + 4 * m
+
+-- Its number of bytes, 4 + 2n + 8m.
+abbrev pub tableLength : ℕ → ℕ → ℕ
+tableLength n m = receiptsAt n m + 4 * m
 
 -- The three parts of a table's bytes: the counts, the sends and the receipts.
 unfoldable pub countsPart : List ℕ → List ℕ
-countsPart bytes = take (2 * processesIn bytes) (drop 4 bytes)
+countsPart bytes = take (2 * processesIn bytes) (drop countsAt bytes)
 
 unfoldable pub sendsPart : List ℕ → List ℕ
-sendsPart bytes = take (4 * messagesIn bytes) (drop (4 + 2 * processesIn bytes) bytes)
+sendsPart bytes = take (4 * messagesIn bytes) (drop (sendsAt (processesIn bytes)) bytes)
 
 unfoldable pub receiptsPart : List ℕ → List ℕ
-receiptsPart bytes = take (4 * messagesIn bytes) (drop (4 + 2 * processesIn bytes + 4 * messagesIn bytes) bytes)
+receiptsPart bytes = take (4 * messagesIn bytes) (drop (receiptsAt (processesIn bytes) (messagesIn bytes)) bytes)
 
 -- Entry p of a part of counts.
 unfoldable pub countAt : List ℕ → ℕ → ℕ

@@ -1,7 +1,7 @@
 -- Of the code: what its loops read off a part of a table's bytes, entry by entry. The laws join these to the checks. Assumes nothing.
 use mathlib.Core.Bool.{Bool, cond}
 use mathlib.Core.List.{List, [], _∷_, map}
-use Prim.Native.Nat.{ℕ, min}
+use Prim.Native.Nat.{ℕ, suc}
 use lib.Dec.{eqb, leb}
 use Rattle.run_table.specs.Checks.{Check, badCount, firstCaught}
 use Rattle.run_table.specs.Format.{checkpointAt, countAt, processAt}
@@ -46,9 +46,10 @@ checksAt checks k = map (λ c. record { caught = c .catches k; number = c .numbe
 abbrev pub checksBelow : List MessageCheck → ℕ → List Check
 checksBelow checks m = map (λ c. record { caught = anyBelow m (c .catches); number = c .number }) checks
 
--- Of two refusals the one whose check comes first; 0 is none.
-unfoldable pub sooner : ℕ → ℕ → ℕ
-sooner a b = cond (eqb b 0) a (cond (eqb a 0) b (min a b))
+-- The place, from 0, of the first check of a list that catches; the list's length where none does.
+unfoldable pub firstPlace : List Check → ℕ
+firstPlace [] = 0
+firstPlace (c ∷ rest) = cond (c .caught) 0 (suc (firstPlace rest))
 
 -- Checks 5 to 9, on the parts of a table of n processes and m messages.
 abbrev pub partsChecks : ℕ → ℕ → List ℕ → List ℕ → List ℕ → List Check

@@ -1,4 +1,4 @@
--- Messages and tables, free of bytes (document 01, "The run table"). Numbers have no upper bound here. Assumes nothing.
+-- Messages and tables, free of bytes (document 01, "The run table"). The definitions hold for numbers of any size. Assumes nothing.
 use mathlib.Core.List.{List}
 use Prim.Native.Nat.{ℕ}
 use lib.ListN.{length, getD}
@@ -15,6 +15,16 @@ pub record Message : Type 0 where
 pub record Table : Type 0 where
   pub counts : List ℕ
   pub messages : List Message
+
+-- The limits that an accepted table keeps: of N, of M, and of each count.
+abbrev pub mostProcesses : ℕ
+mostProcesses = 32
+
+abbrev pub mostMessages : ℕ
+mostMessages = 4096
+
+abbrev pub mostCheckpoints : ℕ
+mostCheckpoints = 4096
 
 -- N, the number of processes.
 unfoldable pub processCount : Table → ℕ

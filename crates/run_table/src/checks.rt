@@ -1,13 +1,23 @@
-// Checks 1 to 9 of a run table (document 01, "In checking order"). Each check covers the whole table
+// The checks of a run table, in checking order (docs/MANUAL.md, "Refusals"). Each covers the whole table
 // before the next begins.
+use crate::format::receipts_at;
+use crate::format::sends_at;
+use crate::format::table_length;
+use crate::format::COUNTS_AT;
+use crate::format::MOST_CHECKPOINTS;
+use crate::format::MOST_MESSAGES;
+use crate::format::MOST_PROCESSES;
 use crate::numbers::u16_at;
 ghost use mathlib.Core.Path.{_≡_};
 ghost use mathlib.Core.Bool.{false};
 ghost use Prim.Native.Nat.{_+_, _*_, _<_};
 ghost use lib.ListN.{length};
-ghost use Rattle.run_table.specs.Checks.{firstCaught, tableRefusal};
+ghost use Rattle.run_table.specs.Checks.{tableRefusal};
 ghost use Rattle.run_table.specs.Lists.{anyBelow};
-ghost use Rattle.run_table.specs.Parts.{badCountAt, unknownAt, toItselfAt, notBelowAt, messageChecks, checksAt, checksBelow, sooner, partsRefusal};
+ghost use Rattle.run_table.specs.Parts.{badCountAt, checksAt, checksBelow, firstPlace, messageChecks, notBelowAt, partsRefusal, toItselfAt, unknownAt};
+
+// The numbers of the checks of a message, in checking order; 0 behind the last, where none catches.
+const FAULTS: [u32; 6] = [6, 6, 7, 8, 9, 0];
 
 // Whether one of the n counts of a part is 0 or above 4,096 (check 5).
 fn bad_count(counts: &[u8], n: usize) -> bool
@@ -20,7 +30,7 @@ fn bad_count(counts: &[u8], n: usize) -> bool
         if count == 0 {
             return true;
         }
-        if 4096 < count {
+        if MOST_CHECKPOINTS < count {
             return true;
         }
         p += 1;
@@ -61,65 +71,49 @@ fn not_below_at(counts: &[u8], part: &[u8], n: usize, k: usize) -> bool
     count <= checkpoint
 }
 
-// The number of the first of the checks 6 to 9 that catches message k, or 0. A process is known before
-// its count is read.
-fn fault_at(counts: &[u8], sends: &[u8], receipts: &[u8], n: usize, k: usize) -> u32
+// The place, among the checks of a message, of the first that catches message k; 5 where none does. A
+// process is known before its count is read.
+fn fault_at(counts: &[u8], sends: &[u8], receipts: &[u8], n: usize, k: usize) -> usize
     requires { ⌜ length (now counts) ≡ 2 * n ⌝ }
     requires { ⌜ 4 * k + 3 < length (now sends) ⌝ }
     requires { ⌜ 4 * k + 3 < length (now receipts) ⌝ }
-    ensures { λ r. ⌜ r ≡ firstCaught (checksAt (messageChecks n (now (counts .entry)) (now (sends .entry)) (now (receipts .entry))) k) ⌝ }
+    ensures { λ r. ⌜ r ≡ firstPlace (checksAt (messageChecks n (now (counts .entry)) (now (sends .entry)) (now (receipts .entry))) k) ⌝ }
 {
     if unknown_at(sends, n, k) {
-        return 6;
+        return 0;
     }
     if unknown_at(receipts, n, k) {
-        return 6;
+        return 1;
     }
     if to_itself_at(sends, receipts, k) {
-        return 7;
+        return 2;
     }
     if not_below_at(counts, sends, n, k) {
-        return 8;
+        return 3;
     }
     if not_below_at(counts, receipts, n, k) {
-        return 9;
+        return 4;
     }
-    0
+    5
 }
 
-// Of two refusals the one whose check comes first; 0 is none.
-fn sooner_of(a: u32, b: u32) -> u32
-    ensures { λ r. ⌜ r ≡ sooner a b ⌝ }
-{
-    if b == 0 {
-        return a;
-    }
-    if a == 0 {
-        return b;
-    }
-    if b < a {
-        return b;
-    }
-    a
-}
-
-// Checks 6 to 9 of m messages: the number of the first that catches one of them, or 0. One look at each
-// message is enough, since a check with a smaller number comes first.
-fn first_fault(counts: &[u8], sends: &[u8], receipts: &[u8], n: usize, m: usize) -> u32
+// The place of the first check that catches one of m messages; 5 where none does. One look at each
+// message is enough: the smallest of their places is that of the check that comes first.
+fn first_fault(counts: &[u8], sends: &[u8], receipts: &[u8], n: usize, m: usize) -> usize
     requires { ⌜ length (now counts) ≡ 2 * n ⌝ }
     requires { ⌜ length (now sends) ≡ 4 * m ⌝ }
     requires { ⌜ length (now receipts) ≡ 4 * m ⌝ }
-    ensures { λ r. ⌜ r ≡ firstCaught (checksBelow (messageChecks n (now (counts .entry)) (now (sends .entry)) (now (receipts .entry))) m) ⌝ }
+    ensures { λ r. ⌜ r ≡ firstPlace (checksBelow (messageChecks n (now (counts .entry)) (now (sends .entry)) (now (receipts .entry))) m) ⌝ }
 {
-    let mut first = 0;
+    let mut first = 5;
     let mut k = 0;
     while k < m {
         let fault = fault_at(counts, sends, receipts, n, k);
         k += 1;
-        if fault == 0 {
+        if first <= fault {
             continue;
         }
-        first = sooner_of(first, fault);
+        first = fault;
     }
     first
 }
@@ -136,21 +130,20 @@ pub fn check(table: &[u8]) -> u32
     if n == 0 {
         return 2;
     }
-    if 32 < n {
+    if MOST_PROCESSES < n {
         return 2;
     }
-    if 4096 < m {
+    if MOST_MESSAGES < m {
         return 3;
     }
-    let sends_at = 4 + 2 * n;
-    let receipts_at = sends_at + 4 * m;
-    let end = receipts_at + 4 * m;
-    if table.len() != end {
+    if table.len() != table_length(n, m) {
         return 4;
     }
-    let counts = &table[4..sends_at];
-    let sends = &table[sends_at..receipts_at];
-    let receipts = &table[receipts_at..end];
+    let sends_start = sends_at(n);
+    let receipts_start = receipts_at(n, m);
+    let counts = &table[COUNTS_AT..sends_start];
+    let sends = &table[sends_start..receipts_start];
+    let receipts = &table[receipts_start..];
     entry_checks(counts, sends, receipts, n, m)
 }
 
@@ -164,5 +157,6 @@ fn entry_checks(counts: &[u8], sends: &[u8], receipts: &[u8], n: usize, m: usize
     if bad_count(counts, n) {
         return 5;
     }
-    first_fault(counts, sends, receipts, n, m)
+    let fault = first_fault(counts, sends, receipts, n, m);
+    FAULTS[fault]
 }

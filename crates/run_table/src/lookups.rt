@@ -1,4 +1,7 @@
 // Total lookups in the bytes of a table, accepted or not: what stands beyond is 0.
+use crate::format::receipts_at;
+use crate::format::sends_at;
+use crate::format::COUNTS_AT;
 use crate::numbers::u16_or_zero;
 ghost use mathlib.Core.Path.{_≡_};
 ghost use Rattle.run_table.specs.Fields.{numberOf};
@@ -21,7 +24,7 @@ pub fn count(table: &[u8], p: usize) -> u16
     if n <= p {
         return 0;
     }
-    u16_or_zero(table, 4 + 2 * p)
+    u16_or_zero(table, COUNTS_AT + 2 * p)
 }
 
 // A number of message k.
@@ -33,12 +36,10 @@ pub fn message_number(table: &[u8], k: usize, field: Field) -> u16
     if m <= k {
         return 0;
     }
-    let sends_at = 4 + 2 * n;
-    let receipts_at = sends_at + 4 * m;
     match field {
-        Field::Sender => u16_or_zero(table, sends_at + 4 * k),
-        Field::Sent => u16_or_zero(table, sends_at + (4 * k + 2)),
-        Field::Receiver => u16_or_zero(table, receipts_at + 4 * k),
-        Field::Received => u16_or_zero(table, receipts_at + (4 * k + 2)),
+        Field::Sender => u16_or_zero(table, sends_at(n) + 4 * k),
+        Field::Sent => u16_or_zero(table, sends_at(n) + (4 * k + 2)),
+        Field::Receiver => u16_or_zero(table, receipts_at(n, m) + 4 * k),
+        Field::Received => u16_or_zero(table, receipts_at(n, m) + (4 * k + 2)),
     }
 }

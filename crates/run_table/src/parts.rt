@@ -1,5 +1,8 @@
 // The sizes and the parts of an accepted table. Counts, sends and receipts are lent on as parts of the
 // table's slice that start in its middle.
+use crate::format::receipts_at;
+use crate::format::sends_at;
+use crate::format::COUNTS_AT;
 use crate::numbers::u16_at;
 ghost use mathlib.Core.Path.{_≡_};
 ghost use Rattle.run_table.specs.Checks.{tableRefusal};
@@ -27,8 +30,8 @@ pub fn counts(table: &[u8]) -> &[u8]
     requires { ⌜ tableRefusal (now table) ≡ 0 ⌝ }
     ensures { λ r. ⌜ now r ≡ countsPart (now (table .entry)) ⌝ }
 {
-    let end = 4 + 2 * process_count(table);
-    &table[4..end]
+    let end = sends_at(process_count(table));
+    &table[COUNTS_AT..end]
 }
 
 // The sends.
@@ -36,8 +39,9 @@ pub fn sends(table: &[u8]) -> &[u8]
     requires { ⌜ tableRefusal (now table) ≡ 0 ⌝ }
     ensures { λ r. ⌜ now r ≡ sendsPart (now (table .entry)) ⌝ }
 {
-    let start = 4 + 2 * process_count(table);
-    let end = start + 4 * message_count(table);
+    let n = process_count(table);
+    let start = sends_at(n);
+    let end = receipts_at(n, message_count(table));
     &table[start..end]
 }
 
@@ -46,6 +50,6 @@ pub fn receipts(table: &[u8]) -> &[u8]
     requires { ⌜ tableRefusal (now table) ≡ 0 ⌝ }
     ensures { λ r. ⌜ now r ≡ receiptsPart (now (table .entry)) ⌝ }
 {
-    let start = 4 + 2 * process_count(table) + 4 * message_count(table);
+    let start = receipts_at(process_count(table), message_count(table));
     &table[start..]
 }

@@ -10,7 +10,6 @@ use denote.Ref.{now}
 use Rattle.run_table.proofs.CheckLaws.{passed, stopped, short, not-short, process-count, many-messages, few-messages, wrong-length, right-length, parts-read, parts-refusal}
 use Rattle.run_table.proofs.ScanLaws.{outside-zero, outside-above, inside}
 use Rattle.run_table.specs.Checks.{badLength, badProcessCount, tableChecks, tableRefusal, tooManyMessages, tooShort}
-use Rattle.run_table.specs.Format.{tableLength}
 use Rattle.run_table.proofs.checks.check.Statement.{statement}
 use Rattle.run_table.proofs.checks.check.Tie as tie
 
@@ -31,11 +30,11 @@ passed-3 c =
     let read = c .before .before .before in
     few-messages _ _ _ (read .before .u16-at .ensures) (read .u16-at2 .ensures) (c .if4 .left)
 
-passed-4 : (c : tie.Else5) → badLength (B (c .before .before .before .before .before .before)) ≡ false
-unfolding tableLength
+passed-4 : (c : tie.Else5) → badLength (B (c .before .before .before .before .before .before .before)) ≡ false
 passed-4 c =
-    let read = c .before .before .before .before in
-    right-length _ _ _ (read .before .u16-at .ensures) (read .u16-at2 .ensures) (omega arith)
+    let sized = c .before in
+    let read = sized .before .before .before .before in
+    right-length _ _ _ (read .before .u16-at .ensures) (read .u16-at2 .ensures) (omega (arith, c .if5 .left, sized .table-length .ensures))
 
 returns : tie.Need-returns
 unfolding tableRefusal tableChecks
@@ -71,29 +70,22 @@ returns-4 c =
     let read = c .before .before .before in
     sym (passed _ _ _ (passed-1 (read .before .before)) (passed _ _ _ (passed-2 (c .before)) (stopped _ _ (many-messages _ _ _ (read .before .u16-at .ensures) (read .u16-at2 .ensures) (c .if4 .taken)))))
 
-mul-sends-at : tie.Need-mul-sends-at
-mul-sends-at c = search needs
-
-add-sends-at : tie.Need-add-sends-at
-add-sends-at c = search needs
-
-mul-receipts-at : tie.Need-mul-receipts-at
-mul-receipts-at c = search needs
-
-add-receipts-at : tie.Need-add-receipts-at
-add-receipts-at c = search needs
-
-mul-end : tie.Need-mul-end
-mul-end c = search needs
-
-add-end : tie.Need-add-end
-add-end c = search needs
+table-length-requires : tie.Need-table-length-requires
+table-length-requires c κs = search needs
 
 returns-5 : tie.Need-returns-5
-unfolding tableRefusal tableChecks tableLength
+unfolding tableRefusal tableChecks
 returns-5 c =
-    let read = c .before .before .before .before in
-    sym (passed _ _ _ (passed-1 (read .before .before)) (passed _ _ _ (passed-2 (c .before .before)) (passed _ _ _ (passed-3 (c .before)) (stopped _ _ (wrong-length _ _ _ (read .before .u16-at .ensures) (read .u16-at2 .ensures) (λ e. c .if5 .taken (omega (arith, e))))))))
+    let few = c .before .before in
+    let read = few .before .before .before in
+    sym (passed _ _ _ (passed-1 (read .before .before)) (passed _ _ _ (passed-2 (few .before)) (passed _ _ _ (passed-3 few)
+    (stopped _ _ (wrong-length _ _ _ (read .before .u16-at .ensures) (read .u16-at2 .ensures) (λ e. c .if5 .taken (omega (arith, e, c .before .table-length .ensures))))))))
+
+sends-at-requires : tie.Need-sends-at-requires
+sends-at-requires c κs = search needs
+
+receipts-at-requires : tie.Need-receipts-at-requires
+receipts-at-requires c κs = search needs
 
 sub-counts : tie.Need-sub-counts
 sub-counts c = search needs
@@ -127,8 +119,14 @@ entry-checks-requires c κs = search needs
 
 returns-6 : tie.Need-returns-6
 returns-6 c =
-    c .entry-checks .ensures ∙ parts-read _ _ _ (c .before .before .before .before .before .before .before .before .before .u16-at .ensures) (c .before .before .before .before .before .before .before .before .u16-at2 .ensures)
-    ∙ sym (parts-refusal _ (passed-1 (c .before .before .before .before .before .before .before .before .before .before)) (passed-2 (c .before .before .before .before .before .before)) (passed-3 (c .before .before .before .before .before)) (passed-4 (c .before .before .before .before)))
+    let placed = c .before .before .before .before in
+    let whole = placed .before .before in
+    let few = whole .before .before in
+    let read = few .before .before .before in
+    c .entry-checks .ensures
+    ∙ parts-read _ _ _ (read .before .u16-at .ensures) (read .u16-at2 .ensures) (placed .before .sends-at .result) (placed .receipts-at .result)
+    (placed .before .sends-at .ensures) (placed .receipts-at .ensures) (omega (arith, whole .if5 .left, whole .before .table-length .ensures))
+    ∙ sym (parts-refusal _ (passed-1 (read .before .before)) (passed-2 (few .before)) (passed-3 few) (passed-4 whole))
 
 pub check-spec : {M : Type 1} → statement M
 check-spec =
@@ -142,13 +140,10 @@ check-spec =
     returns-2
     returns-3
     returns-4
-    mul-sends-at
-    add-sends-at
-    mul-receipts-at
-    add-receipts-at
-    mul-end
-    add-end
+    table-length-requires
     returns-5
+    sends-at-requires
+    receipts-at-requires
     sub-counts
     part-counts-start
     part-counts-end

@@ -1,9 +1,8 @@
 -- `checks::first_fault` meets its contract: the loop looks at one message after another.
 -- Assumes nothing.
 use native.Mathlib.Omega.{arith}
-use mathlib.Core.Path.{refl}
 use Prim.Native.Nat.{_-_}
-use Rattle.run_table.proofs.FaultLaws.{Looked, looked-none, looked-more, looked-all, risesFrom, sooner-none}
+use Rattle.run_table.proofs.FaultLaws.{Looked, looked-none, looked-more, looked-all}
 use Rattle.run_table.specs.Parts.{messageChecks}
 use Rattle.run_table.proofs.checks.first_fault.Statement.{statement}
 use Rattle.run_table.proofs.checks.first_fault.Tie as tie
@@ -27,18 +26,17 @@ loop-less : tie.Need-loop-less Inv-loop μ-loop
 loop-less c = omega arith
 
 loop-again : tie.Need-loop-again Inv-loop μ-loop
-unfolding risesFrom
-loop-again c = looked-more _ _ _ _ (c .before .before .before .loop .inv) refl (c .before .before .loop-test .taken) _ _ (c .before .fault-at .ensures) (sooner-none _ _ (c .if1 .taken))
-
-sooner-of-requires : tie.Need-sooner-of-requires Inv-loop μ-loop
-sooner-of-requires c κs = tt
+loop-again c =
+    let turn = c .before .before in
+    looked-more _ _ _ _ (turn .before .loop .inv) (turn .loop-test .taken) _ _ (c .before .fault-at .ensures) (omega (arith, c .if1 .taken))
 
 loop-less-2 : tie.Need-loop-less-2 Inv-loop μ-loop
 loop-less-2 c = omega arith
 
 loop-again-2 : tie.Need-loop-again-2 Inv-loop μ-loop
-unfolding risesFrom
-loop-again-2 c = looked-more _ _ _ _ (c .before .before .before .before .loop .inv) refl (c .before .before .before .loop-test .taken) _ _ (c .before .before .fault-at .ensures) (c .sooner-of .ensures)
+loop-again-2 c =
+    let turn = c .before .before in
+    looked-more _ _ _ _ (turn .before .loop .inv) (turn .loop-test .taken) _ _ (c .before .fault-at .ensures) (omega (arith, c .if1 .left))
 
 returns : tie.Need-returns Inv-loop μ-loop
 returns c = looked-all _ _ _ _ (c .before .loop .inv) (c .loop-test .left)
@@ -54,7 +52,6 @@ first-fault-spec =
     add-k
     loop-less
     loop-again
-    sooner-of-requires
     loop-less-2
     loop-again-2
     returns)

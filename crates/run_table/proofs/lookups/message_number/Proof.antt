@@ -1,9 +1,9 @@
 -- `lookups::message_number` meets its contract, below M and beyond.
 -- Assumes nothing.
 use borrow.Author.Needs.{needs}
-use mathlib.Core.Path.{_≡_, refl, sym, ap, ap₂, _∙_}
+use mathlib.Core.Path.{_≡_, refl, sym, ap, _∙_}
 use Prim.Native.Nat.{ℕ}
-use Rattle.run_table.proofs.FormatLaws.{message-none, message-some}
+use Rattle.run_table.proofs.FormatLaws.{message-none, received-there, receiver-there, sender-there, sent-there}
 use Rattle.run_table.specs.Fields.{numberOf}
 use Rattle.run_table.specs.Table.{Message, noMessage}
 use Rattle.run_table.specs.declared.lookups.Field.{Field}
@@ -18,8 +18,8 @@ none-number Receiver = refl
 none-number Received = refl
 
 -- the number that was read is that of the named field
-named : (f g : Field) (m m′ : Message) (r : ℕ) → f ≡ g → m ≡ m′ → r ≡ numberOf g m′ → r ≡ numberOf f m
-named f g m m′ r e e′ read = read ∙ sym (ap₂ numberOf e e′)
+named : (f g : Field) (m : Message) (r : ℕ) → f ≡ g → r ≡ numberOf g m → r ≡ numberOf f m
+named f g m r e read = read ∙ sym (ap (λ (h : Field). numberOf h m) e)
 
 u16-or-zero-requires : tie.Need-u16-or-zero-requires
 u16-or-zero-requires c κs = search needs
@@ -39,20 +39,11 @@ returns c =
     let field = read .before .before .before .args .field in
     sym (ap (numberOf field) (message-none _ _ _ (read .before .u16-or-zero .ensures) (read .u16-or-zero2 .ensures) _ (c .if1 .taken)) ∙ none-number field)
 
-mul-sends-at : tie.Need-mul-sends-at
-mul-sends-at c = search needs
-
-add-sends-at : tie.Need-add-sends-at
-add-sends-at c = search needs
-
-mul-receipts-at : tie.Need-mul-receipts-at
-mul-receipts-at c = search needs
-
-add-receipts-at : tie.Need-add-receipts-at
-add-receipts-at c = search needs
-
 enum-told : tie.Need-enum-told
 enum-told c = search needs
+
+sends-at-requires : tie.Need-sends-at-requires
+sends-at-requires c κs = search needs
 
 mul-u16-or-zero : tie.Need-mul-u16-or-zero
 mul-u16-or-zero c = search needs
@@ -65,6 +56,9 @@ u16-or-zero-requires-3 c κs = search needs
 
 enum-told-2 : tie.Need-enum-told-2
 enum-told-2 c = search needs
+
+sends-at-requires-2 : tie.Need-sends-at-requires-2
+sends-at-requires-2 c κs = search needs
 
 mul-u16-or-zero-2 : tie.Need-mul-u16-or-zero-2
 mul-u16-or-zero-2 c = search needs
@@ -81,6 +75,9 @@ u16-or-zero-requires-4 c κs = search needs
 enum-told-3 : tie.Need-enum-told-3
 enum-told-3 c = search needs
 
+receipts-at-requires : tie.Need-receipts-at-requires
+receipts-at-requires c κs = search needs
+
 mul-u16-or-zero-3 : tie.Need-mul-u16-or-zero-3
 mul-u16-or-zero-3 c = search needs
 
@@ -92,6 +89,9 @@ u16-or-zero-requires-5 c κs = search needs
 
 enum-told-4 : tie.Need-enum-told-4
 enum-told-4 c = search needs
+
+receipts-at-requires-2 : tie.Need-receipts-at-requires-2
+receipts-at-requires-2 c κs = search needs
 
 mul-u16-or-zero-4 : tie.Need-mul-u16-or-zero-4
 mul-u16-or-zero-4 c = search needs
@@ -107,23 +107,35 @@ u16-or-zero-requires-6 c κs = search needs
 
 returns-2 : tie.Need-returns-2
 returns-2 c =
-    let at = c .before .before .before in
-    named _ Sender _ _ _ (c .before .enum-told .given .1) (message-some _ _ _ (at .before .before .u16-or-zero .ensures) (at .before .u16-or-zero2 .ensures) _ (at .if1 .left)) (c .u16-or-zero3 .ensures)
+    let told = c .before .before in
+    let some = told .before .before in
+    let read = some .before in
+    named _ Sender _ _ (told .enum-told .given .1)
+    (sender-there _ _ _ (read .before .u16-or-zero .ensures) (read .u16-or-zero2 .ensures) _ (some .if1 .left) _ _ (c .before .sends-at .ensures) (c .u16-or-zero3 .ensures))
 
 returns-3 : tie.Need-returns-3
 returns-3 c =
-    let at = c .before .before .before in
-    named _ Sent _ _ _ (c .before .enum-told2 .given .1) (message-some _ _ _ (at .before .before .u16-or-zero .ensures) (at .before .u16-or-zero2 .ensures) _ (at .if1 .left)) (c .u16-or-zero4 .ensures)
+    let told = c .before .before in
+    let some = told .before .before in
+    let read = some .before in
+    named _ Sent _ _ (told .enum-told2 .given .1)
+    (sent-there _ _ _ (read .before .u16-or-zero .ensures) (read .u16-or-zero2 .ensures) _ (some .if1 .left) _ _ (c .before .sends-at2 .ensures) (c .u16-or-zero4 .ensures))
 
 returns-4 : tie.Need-returns-4
 returns-4 c =
-    let at = c .before .before .before in
-    named _ Receiver _ _ _ (c .before .enum-told3 .given .1) (message-some _ _ _ (at .before .before .u16-or-zero .ensures) (at .before .u16-or-zero2 .ensures) _ (at .if1 .left)) (c .u16-or-zero5 .ensures)
+    let told = c .before .before in
+    let some = told .before .before in
+    let read = some .before in
+    named _ Receiver _ _ (told .enum-told3 .given .1)
+    (receiver-there _ _ _ (read .before .u16-or-zero .ensures) (read .u16-or-zero2 .ensures) _ (some .if1 .left) _ _ (c .before .receipts-at .ensures) (c .u16-or-zero5 .ensures))
 
 returns-5 : tie.Need-returns-5
 returns-5 c =
-    let at = c .before .before .before in
-    named _ Received _ _ _ (c .before .enum-told4 .given .1) (message-some _ _ _ (at .before .before .u16-or-zero .ensures) (at .before .u16-or-zero2 .ensures) _ (at .if1 .left)) (c .u16-or-zero6 .ensures)
+    let told = c .before .before in
+    let some = told .before .before in
+    let read = some .before in
+    named _ Received _ _ (told .enum-told4 .given .1)
+    (received-there _ _ _ (read .before .u16-or-zero .ensures) (read .u16-or-zero2 .ensures) _ (some .if1 .left) _ _ (c .before .receipts-at2 .ensures) (c .u16-or-zero6 .ensures))
 
 pub message-number-spec : {M : Type 1} → statement M
 message-number-spec =
@@ -134,24 +146,24 @@ message-number-spec =
     u16-or-zero-requires-2
     cast-m
     returns
-    mul-sends-at
-    add-sends-at
-    mul-receipts-at
-    add-receipts-at
     enum-told
+    sends-at-requires
     mul-u16-or-zero
     add-u16-or-zero
     u16-or-zero-requires-3
     enum-told-2
+    sends-at-requires-2
     mul-u16-or-zero-2
     add-u16-or-zero-2
     add-u16-or-zero-3
     u16-or-zero-requires-4
     enum-told-3
+    receipts-at-requires
     mul-u16-or-zero-3
     add-u16-or-zero-4
     u16-or-zero-requires-5
     enum-told-4
+    receipts-at-requires-2
     mul-u16-or-zero-4
     add-u16-or-zero-5
     add-u16-or-zero-6

@@ -1,19 +1,16 @@
--- `parts::counts` meets its contract: N counts from byte 4 on.
+-- `parts::counts` meets its contract: N counts from their place on.
 -- Assumes nothing.
 use borrow.Author.Needs.{needs}
 use native.Mathlib.Omega.{arith}
-use Rattle.run_table.proofs.ReadLaws.{counts-taken, processes-few, messages-few, whole}
+use Rattle.run_table.proofs.ReadLaws.{counts-taken, processes-few, whole}
 use Rattle.run_table.proofs.parts.counts.Statement.{statement}
 use Rattle.run_table.proofs.parts.counts.Tie as tie
 
 process-count-requires : tie.Need-process-count-requires
 process-count-requires c κs = search needs
 
-mul-end : tie.Need-mul-end
-mul-end c = omega (arith, whole _ (c .before .before .pre), processes-few _ (c .before .before .pre), messages-few _ (c .before .before .pre))
-
-add-end : tie.Need-add-end
-add-end c = omega (arith, whole _ (c .before .before .pre), processes-few _ (c .before .before .pre), messages-few _ (c .before .before .pre))
+sends-at-requires : tie.Need-sends-at-requires
+sends-at-requires c κs = omega (arith, processes-few _ (c .before .before .pre), c .process-count .ensures)
 
 sub-result : tie.Need-sub-result
 sub-result c = search needs
@@ -22,18 +19,22 @@ part-result-start : tie.Need-part-result-start
 part-result-start c = search needs
 
 part-result-end : tie.Need-part-result-end
-part-result-end c = omega (arith, whole _ (c .before .before .pre), processes-few _ (c .before .before .pre), messages-few _ (c .before .before .pre))
+part-result-end c =
+    let counted = c .before in
+    omega (arith, whole _ (counted .before .before .pre), counted .process-count .ensures, c .sends-at .ensures)
 
 returns : tie.Need-returns
-returns c = counts-taken _ (c .before .before .before .pre) _ (c .before .process-count .ensures)
+returns c =
+    let placed = c .before in
+    let counted = placed .before in
+    counts-taken _ (counted .before .before .pre) (placed .sends-at .result) (omega (arith, counted .process-count .ensures, placed .sends-at .ensures))
 
 pub counts-spec : {M : Type 1} → statement M
 counts-spec =
     tie.close
     (tie.spec
     process-count-requires
-    mul-end
-    add-end
+    sends-at-requires
     sub-result
     part-result-start
     part-result-end

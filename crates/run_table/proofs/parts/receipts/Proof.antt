@@ -1,51 +1,53 @@
--- `parts::receipts` meets its contract: the rest of the table, after the sends.
+-- `parts::receipts` meets its contract: the rest of the table, from their place on.
 -- Assumes nothing.
 use borrow.Author.Needs.{needs}
 use native.Mathlib.Omega.{arith}
-use Rattle.run_table.proofs.ReadLaws.{receipts-taken, processes-few, messages-few, whole}
+use mathlib.Core.Path.{_≡_}
+use denote.Ref.{now}
+use Rattle.run_table.proofs.ReadLaws.{messages-few, processes-few, receipts-taken, whole}
+use Rattle.run_table.specs.Format.{decode, receiptsAt}
+use Rattle.run_table.specs.Table.{messageCount, processCount}
 use Rattle.run_table.proofs.parts.receipts.Statement.{statement}
 use Rattle.run_table.proofs.parts.receipts.Tie as tie
 
 process-count-requires : tie.Need-process-count-requires
 process-count-requires c κs = search needs
 
-mul-start : tie.Need-mul-start
-mul-start c = omega (arith, whole _ (c .before .before .pre), processes-few _ (c .before .before .pre), messages-few _ (c .before .before .pre))
-
-add-start : tie.Need-add-start
-add-start c = omega (arith, whole _ (c .before .before .pre), processes-few _ (c .before .before .pre), messages-few _ (c .before .before .pre))
-
 message-count-requires : tie.Need-message-count-requires
 message-count-requires c κs = search needs
 
-mul-start-2 : tie.Need-mul-start-2
-mul-start-2 c = omega (arith, whole _ (c .before .before .before .pre), processes-few _ (c .before .before .before .pre), messages-few _ (c .before .before .before .pre))
+receipts-at-requires : tie.Need-receipts-at-requires
+receipts-at-requires c κs =
+    let counted = c .before in
+    let none = counted .before .before .pre in
+    omega (arith, processes-few _ none, messages-few _ none, counted .process-count .ensures, c .message-count .ensures)
 
-add-start-2 : tie.Need-add-start-2
-add-start-2 c = omega (arith, whole _ (c .before .before .before .pre), processes-few _ (c .before .before .before .pre), messages-few _ (c .before .before .before .pre))
+-- where they begin
+start : (c : tie.After-receipts-at)
+    → let t = decode (now (c .before .before .before .before .args .table)) in c .receipts-at .result ≡ receiptsAt (processCount t) (messageCount t)
+start c = omega (arith, c .before .before .process-count .ensures, c .before .message-count .ensures, c .receipts-at .ensures)
 
 sub-result : tie.Need-sub-result
-sub-result c = omega (arith, whole _ (c .before .before .before .pre), processes-few _ (c .before .before .before .pre), messages-few _ (c .before .before .before .pre))
+sub-result c = omega (arith, whole _ (c .before .before .before .before .pre), start c)
 
 part-result-start : tie.Need-part-result-start
-part-result-start c = omega (arith, whole _ (c .before .before .before .pre), processes-few _ (c .before .before .before .pre), messages-few _ (c .before .before .before .pre))
+part-result-start c = omega (arith, whole _ (c .before .before .before .before .pre), start c)
 
 part-result-end : tie.Need-part-result-end
 part-result-end c = search needs
 
 returns : tie.Need-returns
-returns c = receipts-taken _ (c .before .before .before .before .pre) _ _ (c .before .before .process-count .ensures) (c .before .message-count .ensures)
+returns c =
+    let placed = c .before in
+    receipts-taken _ (placed .before .before .before .before .pre) _ (start placed)
 
 pub receipts-spec : {M : Type 1} → statement M
 receipts-spec =
     tie.close
     (tie.spec
     process-count-requires
-    mul-start
-    add-start
     message-count-requires
-    mul-start-2
-    add-start-2
+    receipts-at-requires
     sub-result
     part-result-start
     part-result-end

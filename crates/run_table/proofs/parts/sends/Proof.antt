@@ -1,28 +1,25 @@
--- `parts::sends` meets its contract: M sends after the counts.
+-- `parts::sends` meets its contract: M sends from their place on.
 -- Assumes nothing.
 use borrow.Author.Needs.{needs}
 use native.Mathlib.Omega.{arith}
-use Rattle.run_table.proofs.ReadLaws.{sends-taken, processes-few, messages-few, whole}
+use Rattle.run_table.proofs.ReadLaws.{messages-few, processes-few, sends-taken, whole}
 use Rattle.run_table.proofs.parts.sends.Statement.{statement}
 use Rattle.run_table.proofs.parts.sends.Tie as tie
 
 process-count-requires : tie.Need-process-count-requires
 process-count-requires c κs = search needs
 
-mul-start : tie.Need-mul-start
-mul-start c = omega (arith, whole _ (c .before .before .pre), processes-few _ (c .before .before .pre), messages-few _ (c .before .before .pre))
-
-add-start : tie.Need-add-start
-add-start c = omega (arith, whole _ (c .before .before .pre), processes-few _ (c .before .before .pre), messages-few _ (c .before .before .pre))
+sends-at-requires : tie.Need-sends-at-requires
+sends-at-requires c κs = omega (arith, processes-few _ (c .before .before .pre), c .process-count .ensures)
 
 message-count-requires : tie.Need-message-count-requires
 message-count-requires c κs = search needs
 
-mul-end : tie.Need-mul-end
-mul-end c = omega (arith, whole _ (c .before .before .before .pre), processes-few _ (c .before .before .before .pre), messages-few _ (c .before .before .before .pre))
-
-add-end : tie.Need-add-end
-add-end c = omega (arith, whole _ (c .before .before .before .pre), processes-few _ (c .before .before .before .pre), messages-few _ (c .before .before .before .pre))
+receipts-at-requires : tie.Need-receipts-at-requires
+receipts-at-requires c κs =
+    let counted = c .before .before in
+    let none = counted .before .before .pre in
+    omega (arith, processes-few _ none, messages-few _ none, counted .process-count .ensures, c .message-count .ensures)
 
 sub-result : tie.Need-sub-result
 sub-result c = search needs
@@ -31,21 +28,28 @@ part-result-start : tie.Need-part-result-start
 part-result-start c = search needs
 
 part-result-end : tie.Need-part-result-end
-part-result-end c = omega (arith, whole _ (c .before .before .before .pre), processes-few _ (c .before .before .before .pre), messages-few _ (c .before .before .before .pre))
+part-result-end c =
+    let counted = c .before .before .before in
+    omega (arith, whole _ (counted .before .before .pre), counted .process-count .ensures, c .before .message-count .ensures, c .receipts-at .ensures)
 
 returns : tie.Need-returns
-returns c = sends-taken _ (c .before .before .before .before .pre) _ _ (c .before .before .process-count .ensures) (c .before .message-count .ensures)
+returns c =
+    let placed = c .before in
+    let sized = placed .before in
+    let started = sized .before in
+    let counted = started .before in
+    sends-taken _ (counted .before .before .pre) (started .sends-at .result) (placed .receipts-at .result)
+    (omega (arith, counted .process-count .ensures, started .sends-at .ensures))
+    (omega (arith, counted .process-count .ensures, sized .message-count .ensures, placed .receipts-at .ensures))
 
 pub sends-spec : {M : Type 1} → statement M
 sends-spec =
     tie.close
     (tie.spec
     process-count-requires
-    mul-start
-    add-start
+    sends-at-requires
     message-count-requires
-    mul-end
-    add-end
+    receipts-at-requires
     sub-result
     part-result-start
     part-result-end
