@@ -5,7 +5,9 @@
 --     Format     the bytes of a table, read (decode) and written (encode)
 --     Checks     checks 1 to 9, the refusal, and what an accepted table satisfies
 --     Fields     the numbers of a message, by name
+--     Arrays     numbers of processes, as an array of the code
 --     Parts      what the loops of the code read off a part of a table's bytes
+pub mod Arrays
 pub mod Checks
 pub mod Fields
 pub mod Format

@@ -11,14 +11,19 @@ use Rattle.steps.proofs.saving.put_receipts.Statement.{statement}
 use Rattle.steps.proofs.saving.put_receipts.Tie as tie
 
 abbrev Inv-loop : tie.InvT-loop
-Inv-loop receipts m list number answer₀ at a₀ answer a = Received receipts number m list at answer₀ answer a
+Inv-loop buffer₀ at receipts m list number a₀ buffer a = Received receipts number m list at buffer₀ buffer a
 
 abbrev μ-loop : tie.MeasureT-loop
-μ-loop receipts m list number answer₀ at a₀ answer a = length list - a
+μ-loop buffer₀ at receipts m list number a₀ buffer a = length list - a
 
--- the listed position is one of a message
-below : (c : tie.After-shared-slice-known3 Inv-loop μ-loop) → getD (now (c .before .before .before .before .before .before .before .before .before .before .args .list)) (c .before .before .loop .a) 0 < c .before .before .before .before .before .before .before .before .before .before .args .m
-below c = c .before .before .before .before .before .before .before .before .before .before .pre .1 .0 (c .before .before .loop .a) (c .before .loop-test .taken)
+-- the entry, where a position is read; it is one of a message
+abbrev start : tie.After-shared-slice-known3 Inv-loop μ-loop → tie.Start Inv-loop μ-loop
+start c =
+    let copied = c .before .before .before .before .before in
+    copied .before .before .before .before .before
+
+below : (c : tie.After-shared-slice-known3 Inv-loop μ-loop) → getD (now (start c .args .list)) (c .before .before .loop .a) 0 < start c .args .m
+below c = start c .pre .1 .0 (c .before .before .loop .a) (c .before .loop-test .taken)
 
 mul-copy-numbers : tie.Need-mul-copy-numbers Inv-loop μ-loop
 mul-copy-numbers c = omega arith

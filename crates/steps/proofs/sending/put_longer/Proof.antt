@@ -11,20 +11,23 @@ mul-copy-numbers c = search needs
 copy-numbers-requires : tie.Need-copy-numbers-requires
 copy-numbers-requires c κs = search needs
 
-mul-put-pair : tie.Need-mul-put-pair
-mul-put-pair c = search needs
+mul-put-entry : tie.Need-mul-put-entry
+mul-put-entry c = search needs
 
-add-put-pair : tie.Need-add-put-pair
-add-put-pair c = search needs
+add-put-entry : tie.Need-add-put-entry
+add-put-entry c = search needs
 
-put-pair-requires : tie.Need-put-pair-requires
-put-pair-requires c κs = search needs
+put-entry-requires : tie.Need-put-entry-requires
+put-entry-requires c κs = search needs
 
 same-length : tie.Need-same-length
 same-length c = search needs
 
 returns : tie.Need-returns
-returns c = longer-put _ _ _ _ _ _ _ _ (c .before .before .before .before .before .before .copy-numbers .ensures) (c .before .before .put-pair .ensures) (search needs)
+returns c =
+    let added = c .before .before in
+    let copied = added .before .before .before .before in
+    longer-put _ _ _ _ _ _ _ _ (copied .copy-numbers .ensures) (added .put-entry .ensures) (search needs)
 
 pub put-longer-spec : {M : Type 1} → statement M
 put-longer-spec =
@@ -32,8 +35,8 @@ put-longer-spec =
     (tie.spec
     mul-copy-numbers
     copy-numbers-requires
-    mul-put-pair
-    add-put-pair
-    put-pair-requires
+    mul-put-entry
+    add-put-entry
+    put-entry-requires
     same-length
     returns)
