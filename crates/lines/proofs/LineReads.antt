@@ -1,10 +1,9 @@
--- A line as an array of 32 numbers.
---     array-at, array-length     its entries are those of the line
---     array-numbers              its first numbers are the line
+-- The lines that the code finds, as arrays of 32 numbers.
 --     array-line                 the line under an array is the array of the line
 --     height-in, height-beyond   how high a process may stand, entry by entry
 --     ceiling-needs, ceiling-read    the ceiling of a set in an accepted table, from what the code read
---     lower-needs, line-read         its line, likewise
+--     lower-needs, line-read         the line under a ceiling, likewise
+--     set-read, set-front        the line of a set, under its ceiling; the numbers of an answer
 --     all-hold                   the set of all 32 bits gives the recovery line
 -- Assumes nothing.
 use mathlib.Core.Bool.{Bool, cond}
@@ -14,45 +13,26 @@ use Prim.Native.Nat.{ℕ, _*_, _-_, _≤_, _<_}
 use native.Mathlib.Decide.{decLt}
 use native.Mathlib.Omega.{arith}
 use borrow.Author.Tests.{le-ltb, lt-ltb}
-use lib.ListN.{length, getD, List·getD-eq-default}
+use lib.ListN.{length, take}
 use Rattle.consistency.proofs.CeilingLaws.{all-zero, ceiling-at, ceiling-length, set-length}
 use Rattle.consistency.proofs.LineLaws.{latest-same}
 use Rattle.consistency.proofs.LoweringLaws.{line-is, line-latest, line-length}
 use Rattle.consistency.specs.Ceilings.{ceilingOf, lineOf, recoveryLine}
 use Rattle.consistency.specs.Lines.{at}
 use Rattle.consistency.specs.Lowering.{lineUnder}
-use Rattle.lines.specs.Arrays.{arrayOf, heightAt, messagesOf}
+use Rattle.lines.specs.Arrays.{heightAt, messagesOf}
 use Rattle.process_set.proofs.SetLaws.{all-member}
 use Rattle.process_set.specs.Sets.{allProcesses, member}
 use Rattle.run_table.proofs.FormatLaws.{count-beyond, decode-messages}
-use Rattle.run_table.proofs.ListLaws.{getD-tabulate, length-tabulate, tabulate-ext, tabulate-getD}
+use Rattle.run_table.proofs.ArrayLaws.{array-at, array-front, array-length}
+use Rattle.run_table.proofs.ListLaws.{tabulate-ext}
 use Rattle.run_table.proofs.ReadLaws.{count-is, counts-positive, counts-size, processes-few, receipts-size, receivers-known, senders-known, sends-size}
+use Rattle.run_table.specs.Arrays.{arrayOf}
 use Rattle.run_table.specs.Checks.{tableRefusal}
 use Rattle.run_table.specs.Format.{countAt, countsPart, decode, messageAt, processAt, receiptsPart, sendsPart}
 use Rattle.run_table.specs.Lists.{tabulate}
 use Rattle.run_table.specs.Numbers.{u16At}
 use Rattle.run_table.specs.Table.{Message, countOf, messageCount, processCount}
-
-module _ (l : List ℕ) where
-  pub array-length : length (arrayOf l) ≡ 32
-  unfolding arrayOf
-  array-length = length-tabulate 32 (λ p. getD l p 0)
-
-  pub array-at : length l ≤ 32 → (p : ℕ) → at (arrayOf l) p ≡ at l p
-  unfolding arrayOf
-  array-at small p = go (decLt p 32)
-    where
-      go : Dec (p < 32) → getD (tabulate 32 (λ q. getD l q 0)) p 0 ≡ getD l p 0
-      go (yes b) = getD-tabulate 32 (λ q. getD l q 0) p 0 b
-      go (no b) =
-          List·getD-eq-default (tabulate 32 (λ q. getD l q 0)) 0 (subst⁻¹ (λ (x : ℕ). x ≤ p) (length-tabulate 32 (λ q. getD l q 0)) (omega arith))
-          ∙ sym (List·getD-eq-default l 0 (omega arith))
-
--- the first numbers of the array are the line
-pub array-numbers : (l line : List ℕ) (n : ℕ) → line ≡ arrayOf l → n ≡ length l → length l ≤ 32 → tabulate n (λ p. getD line p 0) ≡ l
-array-numbers l line n e same small =
-    ap₂ (λ (x : List ℕ) (k : ℕ). tabulate k (λ p. getD x p 0)) e same
-    ∙ tabulate-ext (length l) (λ p. getD (arrayOf l) p 0) (λ p. getD l p 0) (λ p _. array-at l small p) ∙ tabulate-getD l 0
 
 pub array-line : (ms : List Message) (c : List ℕ) → length c ≤ 32 → lineUnder ms (arrayOf c) ≡ arrayOf (lineUnder ms c)
 array-line ms c small =
@@ -120,23 +100,25 @@ module _ (bytes : List ℕ) (none : tableRefusal bytes ≡ 0) where
           ),
         )
 
-    pub line-read : (set : ℕ)
-        → lineUnder (messagesOf m sends receipts) (arrayOf (ceilingOf (decode bytes) (member set))) ≡ arrayOf (lineOf (decode bytes) (member set))
+    pub line-read : (ceiling : List ℕ) → lineUnder (messagesOf m sends receipts) ceiling ≡ lineUnder (decode bytes .messages) ceiling
+    line-read ceiling = rw (read-m, read-s, read-r, messages-found)
+
+  -- the line of a set, under its ceiling; the numbers of an answer
+  module _ (set : ℕ) where
+    few : length (ceilingOf (decode bytes) (member set)) ≤ 32
+    few = subst⁻¹ (λ (x : ℕ). x ≤ 32) (ceiling-length (decode bytes) (member set)) (processes-few bytes none)
+
+    pub set-read : lineUnder (decode bytes .messages) (arrayOf (ceilingOf (decode bytes) (member set))) ≡ arrayOf (lineOf (decode bytes) (member set))
     unfolding lineOf
-    line-read set =
-        rw (read-m, read-s, read-r, messages-found)
-        (array-line (decode bytes .messages) (ceilingOf (decode bytes) (member set))
-        (subst⁻¹ (λ (x : ℕ). x ≤ 32) (ceiling-length (decode bytes) (member set)) (processes-few bytes none)))
+    set-read = array-line (decode bytes .messages) (ceilingOf (decode bytes) (member set)) few
 
--- the numbers that the code writes of the line of a set
-pub line-numbers : (bytes : List ℕ) (none : tableRefusal bytes ≡ 0) (set n : ℕ) (line : List ℕ) → n ≡ processCount (decode bytes)
-    → line ≡ arrayOf (lineOf (decode bytes) (member set)) → tabulate n (λ p. getD line p 0) ≡ lineOf (decode bytes) (member set)
-line-numbers bytes none set n line same e =
-    let size = set-length (decode bytes) (member set) in
-    array-numbers (lineOf (decode bytes) (member set)) line n e (same ∙ sym size) (subst⁻¹ (λ (x : ℕ). x ≤ 32) size (processes-few bytes none))
+    pub set-front : (line : List ℕ) → line ≡ arrayOf (lineOf (decode bytes) (member set)) → take N line ≡ lineOf (decode bytes) (member set)
+    set-front line e =
+        let size = set-length (decode bytes) (member set) in
+        array-front (lineOf (decode bytes) (member set)) line N e (sym size) (subst⁻¹ (λ (x : ℕ). x ≤ 32) size (processes-few bytes none))
 
-pub all-hold : (bytes : List ℕ) → tableRefusal bytes ≡ 0 → lineOf (decode bytes) (member 4294967295) ≡ recoveryLine (decode bytes)
-unfolding recoveryLine lineOf ceilingOf allProcesses
+pub all-hold : (bytes : List ℕ) → tableRefusal bytes ≡ 0 → lineOf (decode bytes) (member allProcesses) ≡ recoveryLine (decode bytes)
+unfolding recoveryLine lineOf ceilingOf
 all-hold bytes none =
     ap (lineUnder (decode bytes .messages))
     (tabulate-ext (processCount (decode bytes)) _ _

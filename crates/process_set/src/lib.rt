@@ -4,6 +4,9 @@ ghost use mathlib.Core.Path.{_≡_};
 ghost use Prim.Native.Nat.{_<_, _^_};
 ghost use Rattle.process_set.specs.Sets.{member, highBit};
 
+// The set of all 32 processes.
+pub const ALL: u32 = 4294967295;
+
 // The value of each bit. Only `bit` reads this table.
 const BITS: [u32; 32] = [
     1,

@@ -2,7 +2,7 @@
 -- Assumes nothing.
 use borrow.Author.Needs.{needs}
 use mathlib.Core.Path.{_∙_}
-use Rattle.lines.proofs.ArrayLaws.{ceiling-needs, ceiling-read}
+use Rattle.lines.proofs.LineReads.{ceiling-needs, ceiling-read}
 use Rattle.lines.proofs.ceiling_of_set.Statement.{statement}
 use Rattle.lines.proofs.ceiling_of_set.Tie as tie
 

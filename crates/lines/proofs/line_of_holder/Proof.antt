@@ -4,7 +4,7 @@ use borrow.Author.Needs.{needs}
 use mathlib.Core.Path.{sym, ap, _∙_}
 use borrow.Author.Tests.{not-true}
 use Rattle.lines.proofs.PropagationLaws.{holder-ceiling}
-use Rattle.lines.specs.Arrays.{arrayOf}
+use Rattle.run_table.specs.Arrays.{arrayOf}
 use Rattle.lines.proofs.line_of_holder.Statement.{statement}
 use Rattle.lines.proofs.line_of_holder.Tie as tie
 

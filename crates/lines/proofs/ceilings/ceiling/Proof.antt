@@ -3,8 +3,8 @@
 use native.Mathlib.Omega.{arith}
 use mathlib.Core.Path.{subst⁻¹}
 use Prim.Native.Nat.{ℕ, _-_, _<_}
-use Rattle.lines.proofs.ArrayLaws.{height-read, height-beyond}
-use Rattle.lines.proofs.FillLaws.{Filled, filled-none, filled-more, filled-all}
+use Rattle.lines.proofs.LineReads.{height-read, height-beyond}
+use Rattle.run_table.proofs.ArrayLaws.{Filled, filled-none, filled-more, filled-all}
 use Rattle.lines.specs.Arrays.{heightAt}
 use Rattle.run_table.specs.Format.{countAt}
 use Rattle.lines.proofs.ceilings.ceiling.Statement.{statement}

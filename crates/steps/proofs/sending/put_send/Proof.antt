@@ -87,9 +87,10 @@ receipts-requires c κs = search needs
 put-longer-requires-2 : tie.Need-put-longer-requires-2
 put-longer-requires-2 c κs =
     let put = sends-read c in
-    let read = counted (head-put put) in
-    (receipts-long (known read) _ (c .receipts .ensures),
-    omega (arith, start read .pre .1 .1, known read .read-n, known read .read-m, c .before .receipts-at .ensures, head-put put .put-head .kept, c .before .before .before .before .before .put-longer .kept))
+    let read = counted (head-put put) in (
+      receipts-long (known read) _ (c .receipts .ensures),
+      omega (arith, start read .pre .1 .1, known read .read-n, known read .read-m, c .before .receipts-at .ensures, head-put put .put-head .kept, c .before .before .before .before .before .put-longer .kept),
+    )
 
 same-length : tie.Need-same-length
 same-length c = search needs
