@@ -100,14 +100,14 @@ add-u16-at-2 c = omega (arith, behind (c .before))
 u16-at-requires-4 : tie.Need-u16-at-requires-4 Inv-loop μ-loop
 u16-at-requires-4 c κs = omega (arith, behind (c .before))
 
-put-pair-requires : tie.Need-put-pair-requires Inv-loop μ-loop
-put-pair-requires c κs = omega (arith, room (c .before .before .before))
+put-entry-requires : tie.Need-put-entry-requires Inv-loop μ-loop
+put-entry-requires c κs = omega (arith, room (c .before .before .before))
 
-mul-put-pair : tie.Need-mul-put-pair Inv-loop μ-loop
-mul-put-pair c = omega (arith, room (c .before .before .before .before .before .before .before))
+mul-put-entry : tie.Need-mul-put-entry Inv-loop μ-loop
+mul-put-entry c = omega (arith, room (c .before .before .before .before .before .before .before))
 
-add-put-pair : tie.Need-add-put-pair Inv-loop μ-loop
-add-put-pair c = omega (arith, room (c .before .before .before .before .before .before .before))
+add-put-entry : tie.Need-add-put-entry Inv-loop μ-loop
+add-put-entry c = omega (arith, room (c .before .before .before .before .before .before .before))
 
 cast-receipt-left : tie.Need-cast-receipt-left Inv-loop μ-loop
 cast-receipt-left c = omega arith
@@ -121,8 +121,8 @@ array-read-receipt-left c = receiver-small _ (c .before .before .before .before 
 receipt-left-requires : tie.Need-receipt-left-requires Inv-loop μ-loop
 receipt-left-requires c κs = tt
 
-put-pair-requires-2 : tie.Need-put-pair-requires-2 Inv-loop μ-loop
-put-pair-requires-2 c κs = omega (arith, room (c .before .before .before .before .before .before .before .before))
+put-entry-requires-2 : tie.Need-put-entry-requires-2 Inv-loop μ-loop
+put-entry-requires-2 c κs = omega (arith, room (c .before .before .before .before .before .before .before .before))
 
 add-place : tie.Need-add-place Inv-loop μ-loop
 add-place c = omega (arith, room (c .before .before .before .before .before .before .before .before .before .before .before))
@@ -141,7 +141,7 @@ loop-again-2 c =
     (sent-left _ (start .pre .0) _ _ (omega arith) sends _ (here .before .u16-at2 .ensures))
     (receiver-left _ (start .pre .0) _ _ (omega arith) receipts _ (c .before .before .before .before .before .before .before .before .before .before .u16-at3 .ensures))
     (received-left _ (start .pre .0) _ (start .pre .1 .0) _ _ (omega arith) _ _ (c .before .before .before .before .before .before .before .before .before .before .u16-at3 .ensures) (c .before .before .before .before .before .before .before .before .before .u16-at4 .ensures) receipts _ (c .before .before .before .receipt-left .ensures))
-    (c .before .before .before .before .before .before .before .put-pair .ensures) (c .before .before .put-pair2 .ensures)
+    (c .before .before .before .before .before .before .before .put-entry .ensures) (c .before .before .put-entry2 .ensures)
 
 same-length : tie.Need-same-length Inv-loop μ-loop
 same-length c = c .before .loop .inv .same-length
@@ -175,14 +175,14 @@ put-messages-spec =
     mul-u16-at-4
     add-u16-at-2
     u16-at-requires-4
-    put-pair-requires
-    mul-put-pair
-    add-put-pair
+    put-entry-requires
+    mul-put-entry
+    add-put-entry
     cast-receipt-left
     mul-receipt-left
     array-read-receipt-left
     receipt-left-requires
-    put-pair-requires-2
+    put-entry-requires-2
     add-place
     loop-less-2
     loop-again-2
