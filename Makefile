@@ -11,7 +11,7 @@ SHELL := /bin/sh
 .DEFAULT_GOAL := help
 .PHONY: help list program test check format reference-tests corpus-tests
 .PHONY: archives c-tests install uninstall install-test tools tools-tests
-.PHONY: binding-tests differential-tests differential-faults fuzz fuzz-tools fuzz-replay bench
+.PHONY: rust-lint binding-tests differential-tests differential-faults fuzz fuzz-tools fuzz-replay bench
 
 help:
 	@sed -n 's/^# \(make .*\)/\1/p' Makefile
@@ -33,7 +33,7 @@ program: need-rt
 	    { line[++n] = $$0 } \
 	    /^rt: .* proved \([0-9]/ { print >"/dev/stderr" }'
 
-test: need-rt need-gcc need-cargo format reference-tests corpus-tests c-tests install-test binding-tests tools-tests differential-tests fuzz-replay
+test: need-rt need-gcc need-cargo format reference-tests corpus-tests c-tests install-test rust-lint binding-tests tools-tests differential-tests fuzz-replay
 	@rt ci
 
 check: need-rt
@@ -115,6 +115,20 @@ install-test: need-gcc archives program tools
 # The listing program over the corpus of tables, whose listings are the second implementation's.
 corpus-tests: program
 	@sh tests/corpus/run.sh target/bin/listing
+
+# The layout of all Rust code, and clippy with no warning let through. Each is left out, in a line, where it is not there.
+RUST_FOLDERS := $(patsubst %/Cargo.toml,%,$(sort $(shell find bench bindings fuzz tests tools -name target -prune -o -name Cargo.toml -print)))
+rust-lint: archives need-cargo
+	@if cargo fmt --version >/dev/null 2>&1; then \
+	    for f in $(RUST_FOLDERS); do (cd $$f && cargo fmt --check) || { echo "$$f: cargo fmt lays it out otherwise"; exit 1; }; done; \
+	    echo "layout of $(words $(RUST_FOLDERS)) Rust folders: as cargo fmt has it"; \
+	else echo "cargo fmt is missing: the layout of the Rust code was not looked at"; fi
+	@if cargo clippy --version >/dev/null 2>&1; then \
+	    for f in $(RUST_FOLDERS); do \
+	        (cd $$f && cargo clippy --quiet --all-targets --all-features --target-dir $(CURDIR)/target/cargo -- -D warnings) || { echo "$$f: clippy warns"; exit 1; }; \
+	    done; \
+	    echo "clippy has no warning in $(words $(RUST_FOLDERS)) Rust folders"; \
+	else echo "cargo clippy is missing: it did not look at the Rust code"; fi
 
 # The Rust binding: its doc tests on example A.
 binding-tests: archives need-cargo

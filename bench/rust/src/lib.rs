@@ -248,8 +248,8 @@ fn fall_back(table: &[u8], answer: &mut [u8], written: &mut usize) -> u32 {
     }
     put_u16(answer, 0, parts.n as u16);
     put_u16(answer, 2, left as u16);
-    for p in 0..parts.n {
-        put_u16(answer, 4 + 2 * p, line[p] + 1);
+    for (p, number) in line[..parts.n].iter().enumerate() {
+        put_u16(answer, 4 + 2 * p, number + 1);
     }
     let (sends, receipts) = answer[4 + 2 * parts.n..size].split_at_mut(4 * left);
     let places = sends.chunks_exact_mut(4).zip(receipts.chunks_exact_mut(4));
