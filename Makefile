@@ -130,9 +130,11 @@ rust-lint: archives need-cargo
 	    echo "clippy has no warning in $(words $(RUST_FOLDERS)) Rust folders"; \
 	else echo "cargo clippy is missing: it did not look at the Rust code"; fi
 
-# The Rust binding: its doc tests on example A.
+# The Rust binding: its doc tests on example A, with all its features; and that it builds with none of them.
 binding-tests: archives need-cargo
-	@cd bindings/rust && $(CARGO) test --release --target-dir ../../target/cargo >../../target/tests/binding.log 2>&1 || { cat ../../target/tests/binding.log; exit 1; }
+	@mkdir -p target/tests
+	@cd bindings/rust && $(CARGO) build --release --target-dir ../../target/cargo
+	@cd bindings/rust && $(CARGO) test --release --all-features --target-dir ../../target/cargo >../../target/tests/binding.log 2>&1 || { cat ../../target/tests/binding.log; exit 1; }
 	@awk '/^test result/ { n += $$4 } END { print n " tests of the Rust binding passed" }' target/tests/binding.log
 
 # Every call of the library beside the second implementation: tables by chance, at the limits, damaged, chains

@@ -36,14 +36,14 @@ for number in $faults; do
 done
 echo "must_fail: $found faulty calls found by calls.c"
 
-# ---- headers, sources, manual, pages or archives that have changed
+# ---- headers, sources, manual, pages, binding or archives that have changed
 copy=$work/must_fail
 found=0
 fresh() {
     rm -rf "$copy"
-    mkdir -p "$copy/docs" "$copy/tests/c" "$copy/archives" || exit 1
+    mkdir -p "$copy/docs" "$copy/tests/c" "$copy/archives" "$copy/bindings/rust" || exit 1
     cp -r "$root/include" "$root/man" "$copy" && cp "$root/docs/MANUAL.md" "$copy/docs" && cp "$here/headers.sh" "$copy/tests/c" &&
-        cp "$archives"/*.a "$copy/archives" || exit 1
+        cp -r "$root/bindings/rust/src" "$copy/bindings/rust" && cp "$archives"/*.a "$copy/archives" || exit 1
     for crate in run_table keeper listing_text; do
         mkdir -p "$copy/crates/$crate" && cp -r "$root/crates/$crate/src" "$copy/crates/$crate" || exit 1
     done
@@ -90,6 +90,11 @@ changed docs/MANUAL.md 's/^\(| `uint16_t run_table_\)sent\(.*\)/&\n\1lost\2/'
 changed man/keeper.3 's/^\.Fa "uint16_t to"/.Fa "uint32_t to"/'
 changed man/keeper.3 's/^\.Fo keeper_listing/.Fo keeper_text/'
 changed man/run_table.3 '/^\.Fa "size_t p"/d'
+changed bindings/rust/src/archive.rs 's/set: u32/set: u64/'
+changed bindings/rust/src/archive.rs 's/list: \*const u16/list: *mut u16/'
+changed bindings/rust/src/archive.rs 's/        to: u16,/        target: u16,/'
+changed bindings/rust/src/archive.rs '/pub fn run_table_sent/d'
+changed bindings/rust/src/archive.rs 's/run_table_processes(table: \*const u8, length: usize) -> u16/run_table_processes(table: *const u8, length: usize) -> u32/'
 fresh
 cp "$copy/archives/libkeeper.a" "$copy/archives/librun_table.a"
 finds "the archive of another crate"

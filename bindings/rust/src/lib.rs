@@ -1,5 +1,6 @@
 //! The keeper's calls in safe Rust, over the proved static library
-//! `libkeeper.a`.
+//! `libkeeper.a`. The feature `run_table` adds the table reader of
+//! `librun_table.a`, and `listing_text` the listing of `liblisting_text.a`.
 //!
 //! A run table is bytes; an answer is written to the front of a buffer that
 //! the caller lends, and a call answers `Ok` with the length written or `Err`
@@ -9,7 +10,7 @@
 //! never changed. No call allocates, keeps what it was lent, or panics.
 //!
 //! What is lent to one call may not overlap. Rust's borrow rules see to that
-//! here, so no call is unsafe.
+//! here, so no call is unsafe. [`mod@archive`] has the unsafe ones below them.
 //!
 //! The doc tests below use example A: two processes with three checkpoints
 //! each and five messages.
@@ -30,6 +31,15 @@
 
 use std::error::Error;
 use std::fmt;
+
+pub mod archive;
+#[cfg(feature = "listing_text")]
+mod listing_text;
+#[cfg(feature = "run_table")]
+pub mod run_table;
+
+#[cfg(feature = "listing_text")]
+pub use listing_text::{listing, LISTING_ROOM};
 
 /// N is at most this.
 pub const MOST_PROCESSES: usize = 32;
@@ -179,63 +189,6 @@ impl fmt::Display for Refusal {
 }
 
 impl Error for Refusal {}
-
-/// The calls as the archive has them: a slice is a pointer and a length.
-mod archive {
-    extern "C" {
-        pub fn keeper_check_table(table: *const u8, length: usize) -> u32;
-        pub fn keeper_recovery_line(
-            table: *const u8,
-            length: usize,
-            answer: *mut u8,
-            room: usize,
-            written: *mut usize,
-        ) -> u32;
-        pub fn keeper_line_of_set(
-            table: *const u8,
-            length: usize,
-            set: u32,
-            answer: *mut u8,
-            room: usize,
-            written: *mut usize,
-        ) -> u32;
-        pub fn keeper_send(
-            table: *const u8,
-            length: usize,
-            from: u16,
-            to: u16,
-            answer: *mut u8,
-            room: usize,
-            written: *mut usize,
-        ) -> u32;
-        pub fn keeper_save(
-            table: *const u8,
-            length: usize,
-            process: u16,
-            list: *const u16,
-            entries: usize,
-            answer: *mut u8,
-            room: usize,
-            written: *mut usize,
-        ) -> u32;
-        pub fn keeper_fall_back(
-            table: *const u8,
-            length: usize,
-            answer: *mut u8,
-            room: usize,
-            written: *mut usize,
-        ) -> u32;
-        pub fn keeper_keep_sheet(
-            table: *const u8,
-            length: usize,
-            scratch: *mut u16,
-            numbers: usize,
-            answer: *mut u8,
-            room: usize,
-            written: *mut usize,
-        ) -> u32;
-    }
-}
 
 /// What a returned number and a length written say.
 fn outcome(number: u32, written: usize) -> Result<usize, Refusal> {

@@ -6,10 +6,10 @@
 use std::collections::BTreeMap;
 use std::fmt;
 
+use keeper::{archive, run_table, Refusal};
 use reference::gen::Rng;
 use reference::Outcome;
 
-use crate::archive;
 use crate::lend::{Element, Lent};
 use crate::show;
 
@@ -141,7 +141,8 @@ impl Call {
         }
     }
 
-    /// What the archive answers; writes into what it is lent.
+    /// What the archive answers, called directly, because the binding keeps
+    /// `written` to itself; writes into what it is lent.
     fn by_archive(&self, lent: &mut Loan) -> u32 {
         let table = lent.table.slice();
         let (bytes, length) = (table.as_ptr(), table.len());
@@ -183,12 +184,7 @@ impl Call {
         let table = lent.table.slice();
         let answer = lent.answer.slice_mut();
         let result = match *self {
-            Call::CheckTable => {
-                return match keeper::check_table(table) {
-                    Ok(()) => 0,
-                    Err(refusal) => refusal.number(),
-                }
-            }
+            Call::CheckTable => return number(keeper::check_table(table)),
             Call::RecoveryLine { .. } => keeper::recovery_line(table, answer),
             Call::LineOfSet { set, .. } => keeper::line_of_set(table, set, answer),
             Call::Send { from, to, .. } => keeper::send(table, from, to, answer),
@@ -196,15 +192,29 @@ impl Call {
             Call::FallBack { .. } => keeper::fall_back(table, answer),
             Call::KeepSheet { .. } => keeper::keep_sheet(table, lent.scratch.slice_mut(), answer),
         };
-        match result {
-            Ok(length) => {
-                lent.written.put(&[length]);
-                0
-            }
-            Err(refusal) => refusal.number(),
+        if let Ok(length) = result {
+            lent.written.put(&[length]);
         }
+        number(result)
     }
 }
+
+/// The number that the archive answered, of the binding's result.
+pub fn number<T>(result: Result<T, Refusal>) -> u32 {
+    result.map_or_else(Refusal::number, |_| 0)
+}
+
+/// A lookup of the table reader by index.
+type Lookup = fn(&[u8], usize) -> u16;
+
+/// These lookups: the name, the library's, the second implementation's.
+const LOOKUPS: [(&str, Lookup, Lookup); 5] = [
+    ("count", run_table::count, reference::count),
+    ("sender", run_table::sender, reference::sender),
+    ("sent", run_table::sent, reference::sent),
+    ("receiver", run_table::receiver, reference::receiver),
+    ("received", run_table::received, reference::received),
+];
 
 /// All that a call is lent. A call that has no list, no scratch or no answer
 /// gets none of it; the slice is there all the same, and stays as it is.
@@ -404,7 +414,7 @@ impl Comparison {
     ) -> Result<(), Box<Difference>> {
         let lent = Lent::holding(rng, table);
         let before = lent.copy();
-        let (bytes, length) = (lent.slice().as_ptr(), lent.slice().len());
+        let here = lent.slice();
         let mut what = Vec::new();
         let mut same = |name: &str, got: u32, wanted: u32| {
             self.lookups += 1;
@@ -412,49 +422,16 @@ impl Comparison {
                 what.push(format!("run_table_{name}: got {got}, expected {wanted}"));
             }
         };
-        // SAFETY: the pointer and length are a slice of a buffer.
-        unsafe {
-            use archive::*;
-            same(
-                "check",
-                run_table_check(bytes, length),
-                reference::check_table(table),
-            );
-            let n = u32::from(run_table_processes(bytes, length));
-            same("processes", n, reference::processes(table).into());
-            let m = u32::from(run_table_messages(bytes, length));
-            same("messages", m, reference::messages(table).into());
+        let refusal = number(run_table::check(here));
+        same("check", refusal, reference::check_table(table));
+        let n = run_table::processes(here);
+        same("processes", n.into(), reference::processes(table).into());
+        let m = run_table::messages(here);
+        same("messages", m.into(), reference::messages(table).into());
+        for (name, ours, theirs) in LOOKUPS {
             for &at in indices {
-                let pairs = [
-                    (
-                        "count",
-                        run_table_count(bytes, length, at),
-                        reference::count(table, at),
-                    ),
-                    (
-                        "sender",
-                        run_table_sender(bytes, length, at),
-                        reference::sender(table, at),
-                    ),
-                    (
-                        "sent",
-                        run_table_sent(bytes, length, at),
-                        reference::sent(table, at),
-                    ),
-                    (
-                        "receiver",
-                        run_table_receiver(bytes, length, at),
-                        reference::receiver(table, at),
-                    ),
-                    (
-                        "received",
-                        run_table_received(bytes, length, at),
-                        reference::received(table, at),
-                    ),
-                ];
-                for (name, got, wanted) in pairs {
-                    same(&format!("{name} at {at}"), got.into(), wanted.into());
-                }
+                let (got, wanted) = (ours(here, at), theirs(table, at));
+                same(&format!("{name} at {at}"), got.into(), wanted.into());
             }
         }
         if lent.difference(&before).is_some() {
