@@ -156,7 +156,7 @@ differential-faults: archives need-cargo need-gcc
 FUZZ_SECONDS = 60
 FUZZ_SOURCES = fuzz/target.c fuzz/model.c target/staticlib/libkeeper.a
 fuzz-replay: archives need-gcc
-	@gcc -std=c11 -Wall -Wextra -Werror -O2 -o target/tests/fuzz_replay fuzz/replay.c $(FUZZ_SOURCES)
+	@gcc -std=c11 -Wall -Wextra -Werror -O2 -Iinclude -o target/tests/fuzz_replay fuzz/replay.c $(FUZZ_SOURCES)
 	@target/tests/fuzz_replay fuzz/corpus/*
 
 fuzz-tools:
@@ -164,7 +164,7 @@ fuzz-tools:
 
 fuzz: fuzz-tools archives
 	@mkdir -p target/fuzz/corpus
-	@clang -std=c11 -Wall -Wextra -g -O2 -fsanitize=fuzzer,address,undefined -fno-sanitize-recover=undefined -o target/fuzz/fuzz $(FUZZ_SOURCES) || { echo "clang can't build with -fsanitize=fuzzer: its runtime is missing (Debian: libclang-rt-14-dev)" >&2; exit 1; }
+	@clang -std=c11 -Wall -Wextra -g -O2 -Iinclude -fsanitize=fuzzer,address,undefined -fno-sanitize-recover=undefined -o target/fuzz/fuzz $(FUZZ_SOURCES) || { echo "clang can't build with -fsanitize=fuzzer: its runtime is missing (Debian: libclang-rt-14-dev)" >&2; exit 1; }
 	@target/fuzz/fuzz -max_total_time=$(FUZZ_SECONDS) -max_len=1500 -print_final_stats=1 -artifact_prefix=target/fuzz/ target/fuzz/corpus fuzz/corpus
 
 # The command keeper over the proved archives, and its tests; the corpus once more, through the command.

@@ -61,13 +61,13 @@ static inline void mark_propagating(bool *propagates, struct parts t)
 
 size_t plain_passes_of_recovery_line(const uint8_t *table)
 {
-    uint16_t line[MOST_PROCESSES];
+    uint16_t line[KEEPER_MOST_PROCESSES];
     return line_of_set(line, parts_of(table), EVERYONE);
 }
 
 size_t plain_passes_of_holders(const uint8_t *table)
 {
-    uint16_t line[MOST_PROCESSES];
+    uint16_t line[KEEPER_MOST_PROCESSES];
     struct parts t = parts_of(table);
     size_t passes = 0;
     for (size_t p = 0; p < t.n; p++)
@@ -78,7 +78,7 @@ size_t plain_passes_of_holders(const uint8_t *table)
 static inline uint32_t do_recovery_line(const uint8_t *table, uint8_t *answer, size_t room, size_t *written)
 {
     struct parts t = parts_of(table);
-    uint16_t line[MOST_PROCESSES];
+    uint16_t line[KEEPER_MOST_PROCESSES];
     if (room < 2 * t.n)
         return 16;
     line_of_set(line, t, EVERYONE);
@@ -92,7 +92,7 @@ static inline uint32_t do_send(const uint8_t *table, uint16_t from, uint16_t to,
         return 10;
     if (from == to)
         return 11;
-    if (t.m >= MOST_MESSAGES)
+    if (t.m >= KEEPER_MOST_MESSAGES)
         return 14;
     size_t size = 4 + 2 * t.n + 8 * t.m + 8;
     if (room < size)
@@ -122,7 +122,7 @@ static inline uint32_t do_save(const uint8_t *table, uint16_t process, const uin
             return 13;
     }
     uint16_t count = u16_at(t.counts + 2 * process);
-    if (count >= MOST_STATES)
+    if (count >= KEEPER_MOST_CHECKPOINTS)
         return 14;
     size_t size = 4 + 2 * t.n + 8 * t.m;
     if (room < size)
@@ -139,7 +139,7 @@ static inline uint32_t do_save(const uint8_t *table, uint16_t process, const uin
 static inline uint32_t do_fall_back(const uint8_t *table, uint8_t *answer, size_t room, size_t *written)
 {
     struct parts t = parts_of(table);
-    uint16_t line[MOST_PROCESSES];
+    uint16_t line[KEEPER_MOST_PROCESSES];
     line_of_set(line, t, EVERYONE);
     return put_fall_back(t, line, answer, room, written);
 }
@@ -149,10 +149,10 @@ static inline uint32_t do_keep_sheet(const uint8_t *table, uint16_t *scratch, si
     struct parts t = parts_of(table);
     if (numbers < t.n * t.n)
         return 15;
-    bool propagates[MOST_PROCESSES] = {false};
+    bool propagates[KEEPER_MOST_PROCESSES] = {false};
     mark_propagating(propagates, t);
     for (size_t p = 0; p < t.n; p++) {
-        uint16_t line[MOST_PROCESSES];
+        uint16_t line[KEEPER_MOST_PROCESSES];
         if (propagates[p])
             line_of_set(line, t, 1u << p);
         else
@@ -186,7 +186,7 @@ uint32_t plain_line_of_set(const uint8_t *table, size_t length, uint32_t set, ui
     if (refusal != 0)
         return refusal;
     struct parts t = parts_of(table);
-    uint16_t line[MOST_PROCESSES];
+    uint16_t line[KEEPER_MOST_PROCESSES];
     if (t.n < 32 && set >> t.n != 0)
         return 12;
     line_of_set(line, t, set);

@@ -58,15 +58,15 @@ static uint32_t check(const uint8_t *table, size_t length)
     if (length < 4)
         return 1;
     struct parts t = parts_of(table);
-    if (t.n == 0 || t.n > MOST_PROCESSES)
+    if (t.n == 0 || t.n > KEEPER_MOST_PROCESSES)
         return 2;
-    if (t.m > MOST_MESSAGES)
+    if (t.m > KEEPER_MOST_MESSAGES)
         return 3;
     if (length != 4 + 2 * t.n + 8 * t.m)
         return 4;
     for (size_t p = 0; p < t.n; p++) {
         uint16_t count = u16_at(t.counts + 2 * p);
-        if (count == 0 || count > MOST_STATES)
+        if (count == 0 || count > KEEPER_MOST_CHECKPOINTS)
             return 5;
     }
     uint32_t first = 0;
@@ -165,7 +165,7 @@ static inline int is_kept(const uint16_t *lines, const uint16_t *lowest, struct 
 static inline uint32_t put_sheet(struct parts t, const uint16_t *lines, uint8_t *answer, size_t room, size_t *written)
 {
     size_t kept = 0, logged = 0;
-    uint16_t lowest[MOST_PROCESSES];
+    uint16_t lowest[KEEPER_MOST_PROCESSES];
     for (size_t i = 0; i < t.n; i++) {
         uint16_t count = u16_at(t.counts + 2 * i);
         for (uint16_t c = next_kept(lines, t.n, i, 0, count); c < count; c = next_kept(lines, t.n, i, (uint16_t)(c + 1), count))
