@@ -11,7 +11,7 @@ SHELL := /bin/sh
 .DEFAULT_GOAL := help
 .PHONY: help list program test check format reference-tests corpus-tests
 .PHONY: archives c-tests install uninstall install-test tools tools-tests
-.PHONY: rust-lint binding-tests differential-tests differential-faults fuzz fuzz-tools fuzz-replay bench
+.PHONY: refusal-tests rust-lint binding-tests differential-tests differential-faults fuzz fuzz-tools fuzz-replay bench
 
 help:
 	@sed -n 's/^# \(make .*\)/\1/p' Makefile
@@ -33,7 +33,7 @@ program: need-rt
 	    { line[++n] = $$0 } \
 	    /^rt: .* proved \([0-9]/ { print >"/dev/stderr" }'
 
-test: need-rt need-gcc need-cargo format reference-tests corpus-tests c-tests install-test rust-lint binding-tests tools-tests differential-tests fuzz-replay
+test: need-rt need-gcc need-cargo format refusal-tests reference-tests corpus-tests c-tests install-test rust-lint binding-tests tools-tests differential-tests fuzz-replay
 	@rt ci
 
 check: need-rt
@@ -55,6 +55,12 @@ reference-tests: need-cargo
 	    target/cargo/release/cases <crates/$$c/stdin | cmp - crates/$$c/stdout || { echo "$$c: stdout is not what the second implementation answers"; exit 1; }; \
 	    echo "$$c: the expected output is the second implementation's"; \
 	done
+
+# Every list of refusals, in whatever language, against docs/refusals.txt; and that a difference is found.
+refusal-tests:
+	@mkdir -p target/tests
+	@sh tests/refusals/compare.sh
+	@sh tests/refusals/must_fail.sh target/tests
 
 # The archives of the libraries. Each is proved as it is written, every time, so it is done again only
 # where a source is newer. One rt at a time: it shares target/, and takes all processors itself.

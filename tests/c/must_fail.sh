@@ -12,11 +12,9 @@ archives=$(cd "$1" && pwd)
 work=$(cd "$2" && pwd)
 here=$(cd "$(dirname "$0")" && pwd)
 root=$here/../..
-
-fail() {
-    echo "must_fail: $*"
-    exit 1
-}
+copy=$work/must_fail
+prefix=headers
+. "$root/tests/changes.sh"
 
 # ---- calls with a fault
 renamed=
@@ -28,7 +26,6 @@ gcc -std=c11 -Wall -Wextra -O1 -I"$root/include" -o "$work/calls_faulty" "$work/
     "$archives/libkeeper.a" "$archives/liblisting_text.a" || exit 1
 FAULT=0 "$work/calls_faulty" >"$work/must_fail.out" || { cat "$work/must_fail.out"; fail "calls.c fails without a fault"; }
 faults=$(grep -o 'fault([0-9]*)' "$here/faulty.c" | tr -dc '0-9\n' | sort -nu)
-found=0
 for number in $faults; do
     FAULT=$number "$work/calls_faulty" >"$work/must_fail.out" 2>&1
     [ $? -eq 1 ] || fail "fault $number of faulty.c is not found"
@@ -37,8 +34,6 @@ done
 echo "must_fail: $found faulty calls found by calls.c"
 
 # ---- headers, sources, manual, pages, binding or archives that have changed
-copy=$work/must_fail
-found=0
 fresh() {
     rm -rf "$copy"
     mkdir -p "$copy/docs" "$copy/tests/c" "$copy/archives" "$copy/bindings/rust" || exit 1
@@ -49,23 +44,12 @@ fresh() {
     done
 }
 
-finds() {
-    sh "$copy/tests/c/headers.sh" "$copy/archives" >"$work/must_fail.out" 2>&1 && fail "headers.sh does not find: $*"
-    grep -q '^headers: ' "$work/must_fail.out" || { cat "$work/must_fail.out"; fail "headers.sh broke down over: $*"; }
-    found=$((found + 1))
+tested() {
+    sh "$copy/tests/c/headers.sh" "$copy/archives"
 }
 
-# A file of the copy, and the edit that it gets by sed.
-changed() {
-    fresh
-    sed "$2" "$copy/$1" >"$work/must_fail.edited"
-    cmp -s "$work/must_fail.edited" "$copy/$1" && fail "the edit changes nothing: $1, $2"
-    cp "$work/must_fail.edited" "$copy/$1"
-    finds "$1, $2"
-}
-
-fresh
-sh "$copy/tests/c/headers.sh" "$copy/archives" >"$work/must_fail.out" 2>&1 || { cat "$work/must_fail.out"; fail "headers.sh fails over what is as it should be"; }
+found=0
+finds_nothing
 changed include/keeper.h 's/keeper_fall_back(/keeper_rollback(/'
 changed include/keeper.h '/^uint32_t keeper_check_table/d'
 changed include/keeper.h 's/^uint32_t keeper_check_table.*/&\nuint32_t keeper_more(void);/'

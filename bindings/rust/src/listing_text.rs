@@ -1,7 +1,7 @@
 //! The listing, over `liblisting_text.a`.
 
 use crate::archive;
-use crate::{outcome, Refusal};
+use crate::refusal::{outcome, Refusal};
 
 /// The bytes that are enough for the listing of any bytes.
 pub const LISTING_ROOM: usize = 80_000;
@@ -11,7 +11,7 @@ pub const LISTING_ROOM: usize = 80_000;
 /// too, so the call is refused just where `text` is shorter than the listing.
 /// With the feature `listing_text`.
 ///
-/// Refusal 16.
+/// Checks: 16.
 ///
 /// ```
 /// use keeper::{listing, Refusal, LISTING_ROOM};

@@ -20,7 +20,7 @@
 //! ```
 
 use crate::archive;
-use crate::{outcome, Refusal};
+use crate::refusal::{outcome, Refusal};
 
 // Sound as the calls in lib.rs are: the archive's functions are proved to read
 // nothing but what they are lent, whatever stands there, and write nothing.

@@ -378,7 +378,7 @@ struct Input {
 impl Input {
     /// The failure of a call on the table.
     fn refused(&self, refusal: Refusal) -> Failure {
-        if refusal > Refusal::ReceiptNumberTooHigh {
+        if !refusal.is_of_table() {
             return Failure::Refused(None, refusal);
         }
         let line = self.text.as_ref().and_then(|text| text.line_of(refusal));
