@@ -36,23 +36,30 @@ static inline struct parts parts_of(const uint8_t *table)
     return t;
 }
 
-/* The first of the checks 6 to 9 that catches a message, or 0. A process is known before its count is read. */
-static inline uint32_t fault_at(struct parts t, size_t k)
+/* The checks of messages, in checking order; after them, that none catches. */
+enum fault { UNKNOWN_PROCESS, TO_ITS_SENDER, SEND_TOO_HIGH, RECEIPT_TOO_HIGH, NO_FAULT };
+static const uint32_t refusal_of[] = {
+    KEEPER_UNKNOWN_PROCESS_IN_MESSAGE, KEEPER_MESSAGE_TO_ITS_SENDER, KEEPER_SEND_NUMBER_TOO_HIGH,
+    KEEPER_RECEIPT_NUMBER_TOO_HIGH, KEEPER_OK,
+};
+
+/* The first of them that catches message k. A process is known before its count is read. */
+static inline enum fault fault_at(struct parts t, size_t k)
 {
     uint16_t sender = u16_at(t.sends + 4 * k), receiver = u16_at(t.receipts + 4 * k);
     if (sender >= t.n || receiver >= t.n)
-        return 6;
+        return UNKNOWN_PROCESS;
     if (sender == receiver)
-        return 7;
+        return TO_ITS_SENDER;
     if (u16_at(t.sends + 4 * k + 2) >= u16_at(t.counts + 2 * sender))
-        return 8;
+        return SEND_TOO_HIGH;
     if (u16_at(t.receipts + 4 * k + 2) >= u16_at(t.counts + 2 * receiver))
-        return 9;
-    return 0;
+        return RECEIPT_TOO_HIGH;
+    return NO_FAULT;
 }
 
-/* Checks 1 to 9: the number of the first that catches, or 0. Of the checks 6 to 9 the smallest number that
-   catches a message is that of the first. */
+/* The table's checks: the number of the first that catches, or 0. Of the faults of all messages the first in
+   checking order counts. */
 static uint32_t check(const uint8_t *table, size_t length)
 {
     if (length < 4)
@@ -69,15 +76,13 @@ static uint32_t check(const uint8_t *table, size_t length)
         if (count == 0 || count > KEEPER_MOST_CHECKPOINTS)
             return 5;
     }
-    uint32_t first = 0;
+    enum fault first = NO_FAULT;
     for (size_t k = 0; k < t.m; k++) {
-        uint32_t fault = fault_at(t, k);
-        if (fault == 0)
-            continue;
-        if (first == 0 || fault < first)
+        enum fault fault = fault_at(t, k);
+        if (fault < first)
             first = fault;
     }
-    return first;
+    return refusal_of[first];
 }
 
 /* A line as an answer. */

@@ -55,16 +55,32 @@ pub const NAMES: [&str; 7] = [
     "keep_sheet",
 ];
 
-/// The checks of each call from 10 on; 1 to 9 are checks of every call.
-pub const LATER_CHECKS: [&[u32]; 7] = [
-    &[],
-    &[16],
-    &[12, 16],
-    &[10, 11, 14, 16],
-    &[10, 13, 14, 16],
-    &[16],
-    &[15, 16],
-];
+/// The refusals, and the checks of each call.
+const REFUSALS: &str = include_str!("../../../docs/refusals.txt");
+
+/// The numbers of the checks that a call makes, as docs/refusals.txt has them.
+pub fn checks_of(name: &str) -> Vec<u32> {
+    let mut of_table: Vec<u32> = Vec::new();
+    for line in REFUSALS.lines() {
+        let words: Vec<&str> = line.split_whitespace().collect();
+        let [first, rest @ ..] = words.as_slice() else {
+            continue;
+        };
+        // A refusal, and then the call.
+        match first.parse() {
+            Ok(number) if rest.first() == Some(&"table") => of_table.push(number),
+            _ => {}
+        }
+        if first.strip_prefix("keeper_") == Some(name) {
+            let of_word = |word: &&str| match *word {
+                "table" => of_table.clone(),
+                number => vec![number.parse().expect("`table` or the number of a check")],
+            };
+            return rest.iter().flat_map(of_word).collect();
+        }
+    }
+    panic!("docs/refusals.txt has no row for keeper_{name}");
+}
 
 impl Call {
     /// The place of the call in [`NAMES`].
@@ -450,18 +466,34 @@ impl Comparison {
         }))
     }
 
-    /// The (call, refusal) pairs that the rules allow and no call met.
-    pub fn not_met(&self) -> Vec<String> {
-        let mut missing = Vec::new();
+    /// What the numbers of the calls made, and the checks of each call, have
+    /// without the other.
+    pub fn strays(&self) -> Vec<String> {
+        let mut strays = Vec::new();
         for (place, name) in NAMES.iter().enumerate() {
-            let later = LATER_CHECKS[place].iter().copied();
-            for number in (0..=9).chain(later) {
-                if !self.calls.contains_key(&(place, number)) {
-                    missing.push(format!("{name} with {number}"));
+            let mut expected = checks_of(name);
+            expected.push(0);
+            for number in &expected {
+                if !self.calls.contains_key(&(place, *number)) {
+                    strays.push(format!("no {name} answered {number}"));
+                }
+            }
+            for (number, _) in self.numbers(place) {
+                if !expected.contains(&number) {
+                    strays.push(format!(
+                        "{name} answered {number}, which is none of its checks"
+                    ));
                 }
             }
         }
-        missing
+        strays
+    }
+
+    /// The numbers in which calls of a name ended, and how many in each.
+    fn numbers(&self, place: usize) -> impl Iterator<Item = (u32, u64)> + '_ {
+        self.calls
+            .range((place, 0)..=(place, u32::MAX))
+            .map(|(&(_, number), &times)| (number, times))
     }
 
     /// The calls by name and number, a line for each name.
@@ -469,9 +501,8 @@ impl Comparison {
         let mut text = String::new();
         for (place, name) in NAMES.iter().enumerate() {
             let numbers: Vec<String> = self
-                .calls
-                .range((place, 0)..=(place, u32::MAX))
-                .map(|((_, number), times)| format!("{number}: {times}"))
+                .numbers(place)
+                .map(|(number, times)| format!("{number}: {times}"))
                 .collect();
             text += &format!("  {name:13} {}\n", numbers.join(", "));
         }

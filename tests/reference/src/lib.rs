@@ -28,6 +28,7 @@ pub use sheet::keep_sheet;
 pub use steps::{fall_back, save, send};
 pub use table::{
     check_table, count, messages, processes, received, receiver, sender, sent, Message, Table,
+    TABLE_CHECKS,
 };
 
 /// What a call yields: the returned number, the bytes of the answer, and the
