@@ -3,6 +3,8 @@
 # make archives the static libraries: target/staticlib/libkeeper.a, librun_table.a and liblisting_text.a
 # make differential-tests  the library beside the second implementation: CALLS=n for more calls, SCOPES=more for larger scopes
 # make fuzz     runs the fuzzer for FUZZ_SECONDS (60); needs clang
+# make refusal-tests  every list of refusals against docs/refusals.txt
+# make rust-lint  the layout of all Rust code, and clippy's warnings
 # make check    proves what has changed and runs the test programs: quicker, and no verdict
 # make tools    builds the command keeper, target/cargo/release/keeper
 # make bench    the archive's times beside plain C, Rust and work lists, written to docs/BENCHMARKS.md
