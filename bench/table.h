@@ -63,18 +63,18 @@ static inline enum fault fault_at(struct parts t, size_t k)
 static uint32_t check(const uint8_t *table, size_t length)
 {
     if (length < 4)
-        return 1;
+        return KEEPER_TABLE_TOO_SHORT;
     struct parts t = parts_of(table);
     if (t.n == 0 || t.n > KEEPER_MOST_PROCESSES)
-        return 2;
+        return KEEPER_PROCESSES_OUT_OF_RANGE;
     if (t.m > KEEPER_MOST_MESSAGES)
-        return 3;
-    if (length != 4 + 2 * t.n + 8 * t.m)
-        return 4;
+        return KEEPER_TOO_MANY_MESSAGES;
+    if (length != KEEPER_TABLE_SIZE(t.n, t.m))
+        return KEEPER_WRONG_LENGTH;
     for (size_t p = 0; p < t.n; p++) {
         uint16_t count = u16_at(t.counts + 2 * p);
         if (count == 0 || count > KEEPER_MOST_CHECKPOINTS)
-            return 5;
+            return KEEPER_COUNT_OUT_OF_RANGE;
     }
     enum fault first = NO_FAULT;
     for (size_t k = 0; k < t.m; k++) {
@@ -89,7 +89,7 @@ static uint32_t check(const uint8_t *table, size_t length)
 static inline uint32_t put_line(const uint16_t *line, size_t n, uint8_t *answer, size_t room, size_t *written)
 {
     if (room < 2 * n)
-        return 16;
+        return KEEPER_ANSWER_TOO_SHORT;
     for (size_t p = 0; p < n; p++)
         put_u16(answer + 2 * p, line[p]);
     *written = 2 * n;
@@ -105,7 +105,7 @@ static inline uint32_t put_fall_back(struct parts t, const uint16_t *line, uint8
         left += u16_at(t.sends + 4 * k + 2) < line[u16_at(t.sends + 4 * k)];
     size_t size = 4 + 2 * t.n + 8 * left;
     if (room < size)
-        return 16;
+        return KEEPER_ANSWER_TOO_SHORT;
     put_u16(answer, (uint16_t)t.n);
     put_u16(answer + 2, (uint16_t)left);
     for (size_t p = 0; p < t.n; p++)
@@ -181,7 +181,7 @@ static inline uint32_t put_sheet(struct parts t, const uint16_t *lines, uint8_t 
         logged += (size_t)is_kept(lines, lowest, t, k);
     size_t size = 4 + 4 * kept + 2 * logged;
     if (room < size)
-        return 16;
+        return KEEPER_ANSWER_TOO_SHORT;
     put_u16(answer, (uint16_t)kept);
     put_u16(answer + 2, (uint16_t)logged);
     uint8_t *process = answer + 4;

@@ -153,7 +153,7 @@ static void line_by_marks(uint16_t *line, uint32_t set)
             return refusal; \
         struct parts t = parts_of(table); \
         if (numbers < t.n * t.n) \
-            return 15; \
+            return KEEPER_SCRATCH_TOO_SHORT; \
         build(t); \
         for (size_t p = 0; p < t.n; p++) \
             LINE_OF(scratch + t.n * p, 1u << p); \
