@@ -1,6 +1,13 @@
-//! The calls as the archives have them: a slice is a pointer and a length,
-//! `&mut usize` a pointer. The tests make them directly, because the binding
-//! keeps `written` to itself.
+//! The calls as the archives have them and the C headers declare them: a
+//! slice is a pointer and a length, in elements. For callers who need what
+//! the safe calls keep to themselves, such as `written` under a refusal.
+//!
+//! # Safety
+//!
+//! Each pointer is to as many elements as its length says, and may be any,
+//! null too, where that is 0; `written` is never null. Pointers to numbers of
+//! more than 8 bits are aligned. Nothing lent to one call overlaps anything
+//! else lent to it.
 
 extern "C" {
     pub fn keeper_check_table(table: *const u8, length: usize) -> u32;
@@ -33,7 +40,7 @@ extern "C" {
         length: usize,
         process: u16,
         list: *const u16,
-        entries: usize,
+        list_length: usize,
         answer: *mut u8,
         room: usize,
         written: *mut usize,
@@ -54,6 +61,21 @@ extern "C" {
         room: usize,
         written: *mut usize,
     ) -> u32;
+}
+
+#[cfg(feature = "listing_text")]
+extern "C" {
+    pub fn keeper_listing(
+        table: *const u8,
+        length: usize,
+        text: *mut u8,
+        room: usize,
+        written: *mut usize,
+    ) -> u32;
+}
+
+#[cfg(feature = "run_table")]
+extern "C" {
     pub fn run_table_check(table: *const u8, length: usize) -> u32;
     pub fn run_table_processes(table: *const u8, length: usize) -> u16;
     pub fn run_table_messages(table: *const u8, length: usize) -> u16;
