@@ -1,4 +1,4 @@
--- The keep sheet (document 01, "The keep sheet"): retained checkpoints and message logs, from the lines of single holders.
+-- The keep sheet (docs/MANUAL.md, "The keep sheet"): retained checkpoints and message logs, from the lines of single holders.
 -- Assumes nothing.
 use mathlib.Core.Bool.{Bool, _&&_, _||_}
 use mathlib.Core.List.{List, _∷_, _++_, map}

@@ -24,8 +24,6 @@ use Rattle.keeper.proofs.SheetBytes.{read-kept, read-logged, read-position, rea
 use Rattle.keeper.proofs.SheetLaws.{long-passed, scratch-filled}
 use Rattle.keeper.specs.Answers.{Yields, bufferAfter, lengthAfter, numberOf, unless}
 use Rattle.keeper.specs.Calls.{keepSheetAnswer, scratchAfter, scratchChecks}
-use Rattle.lines.proofs.ArrayLaws.{array-length, array-numbers}
-use Rattle.lines.specs.Arrays.{arrayOf}
 use Rattle.listing_text.proofs.RowLaws.{line-in}
 use Rattle.listing_text.proofs.TextLaws.{Parts, each-rows, overlay-front}
 use Rattle.listing_text.specs.Listing.{checkpointRow, holdRow, lineRow, listing, listingAnswer, listingOf, listingUnless, messageRow, refusedRow, share, shareRow}

@@ -1,5 +1,5 @@
-// Sets of processes: a set is a number of 32 bits, and process p is in it where bit p is set (document
-// 01: processes that hold).
+// Sets of processes: a set is a number of 32 bits, and process p is in it where bit p is set
+// (docs/MANUAL.md, "Lines": processes that hold).
 ghost use mathlib.Core.Path.{_≡_};
 ghost use Prim.Native.Nat.{_<_, _^_};
 ghost use Rattle.process_set.specs.Sets.{member, highBit};

@@ -1,4 +1,4 @@
--- What a run table's bytes say, in the order of document 01, "The run table" and "In checking order".
+-- What a run table's bytes say, in the order of docs/MANUAL.md, "The run table" and "Refusals".
 --     Lists      lists that are given by their entries, and searches
 --     Numbers    16-bit numbers in bytes
 --     Table      messages and tables, free of bytes

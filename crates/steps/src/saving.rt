@@ -1,4 +1,4 @@
-// Checkpoint (document 01: save): the listed messages are received, and the count of the process grows.
+// Checkpoint (docs/MANUAL.md, "Steps": save): the listed messages are received, and the count of the process grows.
 use run_table::format::receipts_at;
 use run_table::format::sends_at;
 use run_table::numbers::put_u16;
