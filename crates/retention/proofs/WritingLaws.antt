@@ -16,8 +16,9 @@ use native.Mathlib.Nat.{le-antisymm, mul-add-div, mul-add-mod-self-left}
 use native.Mathlib.Omega.{arith}
 use lib.Dec.{lit<}
 use lib.ListN.{length, length-append, length-map}
-use Rattle.kept.proofs.ScratchLaws.{Standing, select-first, select-next, stands}
-use Rattle.kept.specs.Scratch.{First, columnAt, statesOf}
+use Rattle.consistency.specs.Lines.{Line}
+use Rattle.kept.proofs.KeptLaws.{Standing, select-first, select-next, stands}
+use Rattle.kept.specs.Kept.{First, columnAt, statesOf}
 use Rattle.retention.specs.Writing.{Put}
 use Rattle.retention.specs.Written.{written}
 use Rattle.retention.specs.declared.writer.SheetWriter.{SheetWriter}
@@ -165,10 +166,10 @@ module _ (f : ℕ → List ℕ) (n : ℕ) (before : List ℕ) (at : ℕ) (after 
       putting-more (rows f) n before at after next k h later (f k) end (k + 1) (rw is at put) (omega arith) (rows-more f k) (rows-room f k n l)
 
 -- what the code puts of process i, once it has read the count
-pub column-read : (states : Bool) (s : List ℕ) (n : ℕ) (counts : List ℕ) (i count : ℕ) → count ≡ u16At counts (2 * i)
-    → columnAt states i (statesOf s n i count) ≡ columnAt states i (statesOf s n i (countAt counts i))
+pub column-read : (states : Bool) (n : ℕ) (line : ℕ → Line) (counts : List ℕ) (i count : ℕ) → count ≡ u16At counts (2 * i)
+    → columnAt states i (statesOf n line i count) ≡ columnAt states i (statesOf n line i (countAt counts i))
 unfolding countAt
-column-read states s n counts i count read = ap (λ (x : ℕ). columnAt states i (statesOf s n i x)) read
+column-read states n line counts i count read = ap (λ (x : ℕ). columnAt states i (statesOf n line i x)) read
 
 -- ---- the whole sheet: K and Q, the two arrays of checkpoints, and the positions
 module _ (before : List ℕ) (k q : ℕ) (cs qs : List ℕ) (size-c : length cs ≡ 2 * k) (size-q : length qs ≡ q) (room : 4 + 4 * k + 2 * q ≤ length before)

@@ -13,7 +13,8 @@ ghost use mathlib.Core.List.{_∷_, [], _++_};
 ghost use mathlib.Core.Path.{_≡_};
 ghost use Prim.Native.Nat.{ℕ, _+_, _*_, _<_, _≤_};
 ghost use lib.ListN.{length};
-ghost use Rattle.kept.specs.Scratch.{columnAt, columnOf, positionsOf, statesOf};
+ghost use Rattle.kept.specs.Kept.{columnAt, columnOf, positionsOf, statesOf};
+ghost use Rattle.kept.specs.Scratch.{entryAt};
 ghost use Rattle.retention.specs.Writing.{Put};
 ghost use Rattle.run_table.specs.Format.{processAt};
 
@@ -65,8 +66,8 @@ fn put_process(
     requires { ⌜ n * n ≤ length (now scratch) ⌝ }
     requires { ⌜ n ≤ 32 ⌝ }
     requires { ⌜ i < n ⌝ }
-    requires { ⌜ at + 2 * length (columnAt states i (statesOf (now scratch) n i count)) ≤ length (now buffer) ⌝ }
-    ensures { λ r. ⌜ Put (now (buffer .entry)) (now (buffer .exit)) at (columnAt states i (statesOf (now (scratch .entry)) n i count)) r ⌝ }
+    requires { ⌜ at + 2 * length (columnAt states i (statesOf n (entryAt (now scratch) n) i count)) ≤ length (now buffer) ⌝ }
+    ensures { λ r. ⌜ Put (now (buffer .entry)) (now (buffer .exit)) at (columnAt states i (statesOf n (entryAt (now (scratch .entry)) n) i count)) r ⌝ }
 {
     let mut next = at;
     let mut state = next_kept(scratch, n, i, 0, count);
@@ -90,8 +91,8 @@ fn put_column(
     requires { ⌜ n * n ≤ length (now scratch) ⌝ }
     requires { ⌜ n ≤ 32 ⌝ }
     requires { ⌜ length (now counts) ≡ 2 * n ⌝ }
-    requires { ⌜ at + 2 * length (columnOf states (now scratch) n (now counts)) ≤ length (now buffer) ⌝ }
-    ensures { λ r. ⌜ Put (now (buffer .entry)) (now (buffer .exit)) at (columnOf states (now (scratch .entry)) n (now (counts .entry))) r ⌝ }
+    requires { ⌜ at + 2 * length (columnOf states n (entryAt (now scratch) n) (now counts)) ≤ length (now buffer) ⌝ }
+    ensures { λ r. ⌜ Put (now (buffer .entry)) (now (buffer .exit)) at (columnOf states n (entryAt (now (scratch .entry)) n) (now (counts .entry))) r ⌝ }
 {
     let mut next = at;
     let mut i = 0;
@@ -113,8 +114,8 @@ pub fn put_checkpoints(
     requires { ⌜ n * n ≤ length (now scratch) ⌝ }
     requires { ⌜ n ≤ 32 ⌝ }
     requires { ⌜ length (now counts) ≡ 2 * n ⌝ }
-    requires { ⌜ at + 2 * length (columnOf false (now scratch) n (now counts) ++ columnOf true (now scratch) n (now counts)) ≤ length (now buffer) ⌝ }
-    ensures { λ r. ⌜ Put (now (buffer .entry)) (now (buffer .exit)) at (columnOf false (now (scratch .entry)) n (now (counts .entry)) ++ columnOf true (now (scratch .entry)) n (now (counts .entry))) r ⌝ }
+    requires { ⌜ at + 2 * length (columnOf false n (entryAt (now scratch) n) (now counts) ++ columnOf true n (entryAt (now scratch) n) (now counts)) ≤ length (now buffer) ⌝ }
+    ensures { λ r. ⌜ Put (now (buffer .entry)) (now (buffer .exit)) at (columnOf false n (entryAt (now (scratch .entry)) n) (now (counts .entry)) ++ columnOf true n (entryAt (now (scratch .entry)) n) (now (counts .entry))) r ⌝ }
 {
     let next = put_column(buffer, at, false, scratch, n, counts);
     put_column(buffer, next, true, scratch, n, counts)
@@ -137,8 +138,8 @@ pub fn put_positions(
     requires { ⌜ length (now receipts) ≡ 4 * m ⌝ }
     requires { ⌜ ((k : ℕ) → k < m → processAt (now sends) k < n) ⌝ }
     requires { ⌜ ((k : ℕ) → k < m → processAt (now receipts) k < n) ⌝ }
-    requires { ⌜ at + 2 * length (positionsOf (now scratch) n (now sends) (now receipts) m) ≤ length (now buffer) ⌝ }
-    ensures { λ r. ⌜ Put (now (buffer .entry)) (now (buffer .exit)) at (positionsOf (now (scratch .entry)) n (now (sends .entry)) (now (receipts .entry)) m) r ⌝ }
+    requires { ⌜ at + 2 * length (positionsOf n (entryAt (now scratch) n) (now sends) (now receipts) m) ≤ length (now buffer) ⌝ }
+    ensures { λ r. ⌜ Put (now (buffer .entry)) (now (buffer .exit)) at (positionsOf n (entryAt (now (scratch .entry)) n) (now (sends .entry)) (now (receipts .entry)) m) r ⌝ }
 {
     let lowest = lowest_line(scratch, n);
     let mut next = at;

@@ -2,8 +2,8 @@
 -- Assumes nothing.
 use borrow.Author.Needs.{needs}
 use native.Mathlib.Omega.{arith}
-use Rattle.kept.proofs.ScratchLaws.{undelivered-kept, old-kept, delivered-kept}
-use Rattle.run_table.specs.Format.{processAt}
+use Rattle.kept.proofs.KeptLaws.{undelivered-kept, old-kept, delivered-kept}
+use Rattle.run_table.specs.Format.{checkpointAt, messageAt, processAt}
 use Rattle.kept.proofs.messages.is_kept.Statement.{statement}
 use Rattle.kept.proofs.messages.is_kept.Tie as tie
 
@@ -26,10 +26,12 @@ u16-at-requires-2 : tie.Need-u16-at-requires-2
 u16-at-requires-2 c κs = search needs
 
 returns : tie.Need-returns
-returns c = undelivered-kept _ _ _ _ _ _ (c .before .u16-at2 .ensures) (c .if1 .taken)
+unfolding messageAt checkpointAt
+returns c = undelivered-kept _ _ _ (omega arith)
 
 returns-2 : tie.Need-returns-2
-returns-2 c = old-kept _ _ _ _ _ _ (c .before .before .u16-at2 .ensures) _ (c .before .before .before .before .before .before .before .pre .0) (c .before .if1 .left) (c .if2 .taken)
+unfolding messageAt checkpointAt
+returns-2 c = old-kept _ _ _ (λ e. c .before .if1 .left (omega arith)) (omega arith)
 
 mul-u16-at-3 : tie.Need-mul-u16-at-3
 mul-u16-at-3 c = search needs
@@ -54,9 +56,10 @@ unfolding processAt
 crosses-line-requires c κs = omega arith
 
 returns-3 : tie.Need-returns-3
+unfolding messageAt checkpointAt processAt
 returns-3 c =
-    delivered-kept _ _ _ _ _ _ (c .before .before .before .before .before .u16-at2 .ensures) _ _ _ _ (c .before .before .u16-at3 .ensures) (c .before .u16-at4 .ensures)
-    (c .before .before .before .before .before .before .u16-at .ensures) (c .before .before .before .before .if1 .left) (c .crosses-line .ensures)
+    delivered-kept _ _ _ _ _ _ _ (omega arith) (omega arith) (omega arith) (omega arith) (c .before .before .before .before .if1 .left) _
+    (c .crosses-line .ensures)
 
 pub is-kept-spec : {M : Type 1} → statement M
 is-kept-spec =

@@ -3,13 +3,15 @@
 use native.Mathlib.Omega.{arith}
 use Prim.Native.Nat.{_-_}
 use lib.ListN.{replicate}
-use Rattle.kept.proofs.ScratchLaws.{Copied, copied-none, copied-more, copied-all, lowest-first}
-use Rattle.kept.specs.Scratch.{lowestAt, lowestLine}
+use Rattle.kept.proofs.KeptLaws.{lowest-first}
+use Rattle.kept.proofs.ScratchLaws.{Copied, copied-none, copied-more, copied-all}
+use Rattle.kept.specs.Kept.{lowestAt, lowestLine}
+use Rattle.kept.specs.Scratch.{entryAt}
 use Rattle.kept.proofs.messages.lowest_line.Statement.{statement}
 use Rattle.kept.proofs.messages.lowest_line.Tie as tie
 
 abbrev Inv-loop : tie.InvT-loop
-Inv-loop scratch n lowest₀ i₀ lowest i = Copied (lowestAt scratch n) n 0 (replicate 32 0) lowest i
+Inv-loop scratch n lowest₀ i₀ lowest i = Copied (lowestAt n (entryAt scratch n)) n 0 (replicate 32 0) lowest i
 
 abbrev μ-loop : tie.MeasureT-loop
 μ-loop scratch n lowest₀ i₀ lowest i = n - i
@@ -34,9 +36,7 @@ loop-less c = omega arith
 
 loop-again : tie.Need-loop-again Inv-loop μ-loop
 loop-again c =
-    let turn = c .before .before in
-    copied-more _ _ _ _ _ _ (turn .loop .inv) (omega arith) (c .before .loop-test .taken) (turn .loop .i) _ (omega arith)
-    (lowest-first _ _ _ _ (c .next-kept .ensures))
+    copied-more _ _ _ _ _ _ (c .before .before .loop .inv) (omega arith) (omega arith) _ _ (omega arith) (lowest-first _ _ _ _ (c .next-kept .ensures))
 
 returns : tie.Need-returns Inv-loop μ-loop
 unfolding lowestLine

@@ -4,14 +4,16 @@ use native.Mathlib.Omega.{arith}
 use mathlib.Core.Path.{refl}
 use Prim.Native.Nat.{_-_, zero-le}
 use Rattle.retention.proofs.WritingLaws.{Putting, putting-none, putting-length, putting-all, row-room, row-more, column-read}
-use Rattle.kept.specs.Scratch.{columnAt, columnOf, statesOf}
+use Rattle.kept.specs.Kept.{columnAt, columnOf, statesOf}
+use Rattle.kept.specs.Scratch.{entryAt}
 use Rattle.run_table.specs.Format.{countAt}
 use Rattle.retention.proofs.writing.put_column.Statement.{statement}
 use Rattle.run_table.specs.Lists.{rows}
 use Rattle.retention.proofs.writing.put_column.Tie as tie
 
 abbrev Inv-loop : tie.InvT-loop
-Inv-loop buffer₀ at states scratch n counts next₀ i₀ buffer next i = Putting (rows (λ j. columnAt states j (statesOf scratch n j (countAt counts j)))) n buffer₀ at buffer next i
+Inv-loop buffer₀ at states scratch n counts next₀ i₀ buffer next i =
+    Putting (rows (λ j. columnAt states j (statesOf n (entryAt scratch n) j (countAt counts j)))) n buffer₀ at buffer next i
 
 abbrev μ-loop : tie.MeasureT-loop
 μ-loop buffer₀ at states scratch n counts next₀ i₀ buffer next i = n - i

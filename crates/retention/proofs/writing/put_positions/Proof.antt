@@ -5,16 +5,18 @@ use native.Mathlib.Omega.{arith}
 use mathlib.Core.Path.{refl}
 use borrow.Author.Tests.{not-true, not-false}
 use Prim.Native.Nat.{_-_, zero-le}
-use Rattle.kept.proofs.ScratchLaws.{lowest-read}
+use Rattle.kept.proofs.KeptLaws.{lowest-read}
 use Rattle.retention.proofs.WritingLaws.{Putting, putting-none, putting-length, putting-all, passing-room, passing-skip, passing-more}
-use Rattle.kept.specs.Scratch.{isKept, positionsOf}
+use Rattle.kept.specs.Kept.{isKept, positionsOf}
+use Rattle.kept.specs.Scratch.{entryAt}
 use Rattle.run_table.specs.Format.{messageAt, processAt}
 use Rattle.retention.proofs.writing.put_positions.Statement.{statement}
 use Rattle.run_table.specs.Lists.{select}
 use Rattle.retention.proofs.writing.put_positions.Tie as tie
 
 abbrev Inv-loop : tie.InvT-loop
-Inv-loop buffer₀ at scratch n sends receipts m lowest next₀ k₀ buffer next k = Putting (select (λ j. isKept scratch n (messageAt sends receipts j))) m buffer₀ at buffer next k
+Inv-loop buffer₀ at scratch n sends receipts m lowest next₀ k₀ buffer next k =
+    Putting (select (λ j. isKept n (entryAt scratch n) (messageAt sends receipts j))) m buffer₀ at buffer next k
 
 abbrev μ-loop : tie.MeasureT-loop
 μ-loop buffer₀ at scratch n sends receipts m lowest next₀ k₀ buffer next k = m - k
@@ -47,7 +49,7 @@ is-kept-requires c κs =
     let start = c .before .before .before .before .before .before .before .before in
     let l = c .before .loop-test .taken in
     let known = start .pre .1 .1 .1 .1 .1 .1 .0 _ l in
-    (lowest-read _ _ (omega arith) _ (c .before .before .before .lowest-line .ensures) _ _ _ (c .u16-at .ensures) known, omega (arith, start .pre .1 .1 .1 .1 .1 .0 _ l, known))
+    (lowest-read _ _ _ (c .before .before .before .lowest-line .ensures) _ _ _ (c .u16-at .ensures) known, omega (arith, start .pre .1 .1 .1 .1 .1 .0 _ l, known))
 
 add-k : tie.Need-add-k Inv-loop μ-loop
 add-k c = omega arith

@@ -3,12 +3,14 @@
 use native.Mathlib.Omega.{arith}
 use Prim.Native.Nat.{_-_}
 use Rattle.retention.proofs.WritingLaws.{Laying, laying-first, laying-room, laying-more, putting-all, putting-length}
-use Rattle.kept.specs.Scratch.{shows, statesOf}
+use Rattle.kept.specs.Kept.{shows, statesOf}
+use Rattle.kept.specs.Scratch.{entryAt}
 use Rattle.retention.proofs.writing.put_process.Statement.{statement}
 use Rattle.retention.proofs.writing.put_process.Tie as tie
 
 abbrev Inv-loop : tie.InvT-loop
-Inv-loop buffer₀ at states scratch n i count next₀ state₀ buffer next state = Laying (shows scratch n i) count states i buffer₀ at buffer next state
+Inv-loop buffer₀ at states scratch n i count next₀ state₀ buffer next state =
+    Laying (shows n (entryAt scratch n) i) count states i buffer₀ at buffer next state
 
 abbrev μ-loop : tie.MeasureT-loop
 μ-loop buffer₀ at states scratch n i count next₀ state₀ buffer next state = count - state
