@@ -21,6 +21,7 @@ use lib.ListN.{length, getD, length-append, length-map, List·getD-append}
 use Rattle.consistency.specs.Lines.{Line}
 use Rattle.futures.specs.Sheet.{crosses}
 use Rattle.kept.specs.Kept.{First, checkpointsAt, crossesLine, isKept, leastBelow, lowestAt, lowestLine, shows, statesOf}
+use Rattle.run_table.proofs.ArrayLaws.{array-at}
 use Rattle.run_table.proofs.ListLaws.{anyBelow-found, anyBelow-more, anyBelow-none, found-below, getD-tabulate, length-tabulate, none-below}
 use Rattle.run_table.proofs.ListLaws.{rows-more, select-gap, select-more, select-skip, select-small}
 use Rattle.run_table.specs.Format.{countAt, processAt}
@@ -108,12 +109,12 @@ module _ (n : ℕ) (line : ℕ → Line) where
   lowest-first i r h = least-first (λ k. line k i) n r h
 
   -- its number at the receiver of message k, as it was read
-  pub lowest-read : (lowest : List ℕ) → lowest ≡ lowestLine n line → (receipts : List ℕ) (k receiver : ℕ) → receiver ≡ u16At receipts (4 * k)
+  pub lowest-read : n ≤ 32 → (lowest : List ℕ) → lowest ≡ lowestLine n line → (receipts : List ℕ) (k receiver : ℕ) → receiver ≡ u16At receipts (4 * k)
       → processAt receipts k < n → getD lowest receiver 0 ≡ lowestAt n line (processAt receipts k)
-  unfolding lowestLine processAt putAt
-  lowest-read lowest is receipts k receiver read known =
+  unfolding lowestLine processAt
+  lowest-read few lowest is receipts k receiver read known =
       let numbers = tabulate n (lowestAt n line) in
-      ap₂ (λ (l : List ℕ) (i : ℕ). getD l i 0) is read ∙ List·getD-append numbers _ 0 _ (omega (arith, length-tabulate n (lowestAt n line)))
+      ap₂ (λ (l : List ℕ) (i : ℕ). getD l i 0) is read ∙ array-at numbers (omega (arith, length-tabulate n (lowestAt n line))) _
       ∙ getD-tabulate n (lowestAt n line) _ 0 known
 
   -- a message that is received at or before the lowest line crosses no line

@@ -5,12 +5,11 @@ use mathlib.Core.List.{List, map}
 use mathlib.Core.Path.{_≡_}
 use Prim.Native.Nat.{ℕ, zero, suc, min, _≤_, _<_}
 use lib.Dec.{eqb}
-use lib.ListN.{replicate}
 use Rattle.consistency.specs.Lines.{Line}
 use Rattle.futures.specs.Sheet.{Kept, crosses}
+use Rattle.run_table.specs.Arrays.{arrayOf}
 use Rattle.run_table.specs.Format.{countAt, messageAt}
 use Rattle.run_table.specs.Lists.{anyBelow, rows, select, tabulate}
-use Rattle.run_table.specs.Numbers.{putAt}
 use Rattle.run_table.specs.Table.{Message}
 
 -- Some line has state c at process i.
@@ -52,9 +51,9 @@ leastBelow (suc n) f = min (f n) (leastBelow n f)
 unfoldable pub lowestAt : ℕ → (ℕ → Line) → Line
 lowestAt n line i = leastBelow n (λ k. line k i)
 
--- The lowest line: these numbers of n processes, as an array of 32; what stands at n and beyond is 0.
+-- The lowest line: these numbers of n processes, as an array.
 unfoldable pub lowestLine : ℕ → (ℕ → Line) → List ℕ
-lowestLine n line = putAt (replicate 32 0) 0 (tabulate n (lowestAt n line))
+lowestLine n line = arrayOf (tabulate n (lowestAt n line))
 
 -- A message crosses some line.
 unfoldable pub crossesLine : ℕ → (ℕ → Line) → Message → Bool

@@ -3,7 +3,7 @@
 --     pair-put, head-put, table-put   two numbers; the head of a table; a whole table, part by part
 --     numbers-size                    the length of numbers, as bytes
 --     Written                         pieces of one width, put from a place on by a loop: the invariant
---     written-none, written-more, written-all    how it begins, goes on and ends
+--     written-none, written-more, written-room, written-all    how it begins, goes on and ends
 --     numbers-put, numbers-stored     the pieces are numbers, each in two bytes; each as one entry
 -- Assumes nothing.
 use mathlib.Core.List.{List, [], _∷_, _++_, append-assoc}
@@ -88,10 +88,14 @@ module _ (w : ℕ) (piece : ℕ → List ℕ) (n at : ℕ) (before : List ℕ) w
   written-none room = record { within = zero-le; room = room; same-length = refl; contents = sym (putAt-none before at) }
 
   module _ (each : (k : ℕ) → length (piece k) ≡ w) (after : List ℕ) (k : ℕ) (h : Written w piece n at before after k) where
+    -- there is room for it
+    pub written-room : k < n → at + w * k + w ≤ length after
+    written-room l = omega (arith, h .room, h .same-length, mul-suc w k, mul-le-mul-left w l)
+
     -- piece k was put at its place
     pub written-more : k < n → (i : ℕ) (later : List ℕ) → i ≡ at + w * k → later ≡ putAt after i (piece k) → Written w piece n at before later (k + 1)
     written-more l i later place put =
-        let fits : at + w * k + w ≤ length before = omega (arith, h .room, mul-suc w k, mul-le-mul-left w l) in
+        let fits : at + w * k + w ≤ length before = omega (arith, written-room l, h .same-length) in
         let so-far = rows-length piece w each k in
         record {
           within = omega arith;

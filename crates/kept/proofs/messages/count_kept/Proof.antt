@@ -48,7 +48,7 @@ is-kept-requires c κs =
     let turn = c .before in
     let asked = turn .before .before .before .before .before .before .pre in
     let known = asked .1 .1 .1 .1 .1 _ (turn .loop-test .taken) in (
-      lowest-read _ _ _ (turn .before .before .lowest-line .ensures) _ _ _ (c .u16-at .ensures) known,
+      lowest-read _ _ (omega arith) _ (turn .before .before .lowest-line .ensures) _ _ _ (c .u16-at .ensures) known,
       omega (arith, asked .1 .1 .1 .1 .0 _ (turn .loop-test .taken), known),
     )
 
