@@ -1,6 +1,6 @@
 -- What the code finds is the keep sheet of the table.
 --     lines-length, lines-stand                   the lines of single holders; where `fill_lines` leaves them
---     holder-numbers                              the line of one holder, as the code finds it
+--     holder-front                                the line of one holder, as the code finds it
 --     checkpoints-are, positions-are              what lines of single holders say is kept
 --     entry-is                                    lines in the scratch are the lines of single holders
 --     .. -needs, .. -found                        what the code finds, from what it read
@@ -9,7 +9,7 @@
 -- Assumes nothing.
 use mathlib.Core.Bool.{Bool, cond, true, false, _&&_, _||_}
 use mathlib.Core.List.{List, [], _∷_, _++_, append-assoc, map, map-map}
-use mathlib.Core.Path.{_≡_, sym, ap, ap₂, _∙_}
+use mathlib.Core.Path.{_≡_, refl, sym, ap, ap₂, _∙_}
 use Prim.Native.Nat.{ℕ, _+_, _-_, _*_, _^_, _<_, _≤_}
 use native.Mathlib.Nat.{mul-le-mul}
 use native.Mathlib.Omega.{arith}
@@ -22,8 +22,7 @@ use Rattle.consistency.specs.Ceilings.{ceilingOf, lineOf, single}
 use Rattle.consistency.specs.Lines.{Line, at}
 use Rattle.consistency.specs.Lowering.{lineUnder}
 use Rattle.futures.specs.Sheet.{Kept, crosses, holderLine, holderLines, keepsCheckpoint, keepsMessage, keptCheckpoints, keptMessages, sheet}
-use Rattle.lines.proofs.ArrayLaws.{line-numbers}
-use Rattle.lines.specs.Arrays.{arrayOf}
+use Rattle.lines.proofs.LineReads.{set-front}
 use Rattle.process_set.proofs.SetLaws.{member-one}
 use Rattle.process_set.specs.Sets.{member}
 use Rattle.retention.proofs.FewLaws.{checkpoints-few}
@@ -35,6 +34,7 @@ use Rattle.retention.specs.Writing.{Put}
 use Rattle.run_table.proofs.ListLaws.{anyBelow-ext, map-rows, rows-at, rows-ext, rows-length, select-ext, select-small, tabulate-ext}
 use Rattle.run_table.proofs.NumberLaws.{length-u16s}
 use Rattle.run_table.proofs.ReadLaws.{count-is, counts-size, message-good, message-is, messages-few, processes-few, receipts-size, receivers-known, senders-known, sends-size}
+use Rattle.run_table.specs.Arrays.{arrayOf}
 use Rattle.run_table.specs.Checks.{GoodMessage, tableRefusal}
 use Rattle.run_table.specs.Format.{countAt, countsPart, decode, messageAt, processAt, receiptsPart, sendsPart}
 use Rattle.run_table.specs.Lists.{rows, select, tabulate}
@@ -54,9 +54,8 @@ module _ (t : Table) where
   unfolding holderLines
   lines-length = rows-length (holderLine t) N holder-length N
 
-  pub lines-fit : (n : ℕ) (s : List ℕ) → n ≡ N → N * N ≤ length s → length (rows (holderLine t) n) ≤ length s
-  unfolding holderLines
-  lines-fit n s same room = rw same (omega (arith, lines-length))
+  pub lines-fit : (n : ℕ) (s : List ℕ) → n ≡ N → N * N ≤ length s → 0 + n * n ≤ length s
+  lines-fit n s same room = rw same (omega arith)
 
   -- where the lines stand once they are written to the front of a scratch
   pub lines-stand : (before after : List ℕ) → N * N ≤ length before → after ≡ putAt before 0 (holderLines t) → take (N * N) after ≡ holderLines t
@@ -120,9 +119,10 @@ kept-few bytes none =
     )
 
 -- the line of holder k, as the code finds it
-pub holder-numbers : (bytes : List ℕ) (none : tableRefusal bytes ≡ 0) (n k set : ℕ) (line : List ℕ) → n ≡ processCount (decode bytes) → set ≡ 2 ^ k
-    → line ≡ arrayOf (lineOf (decode bytes) (member set)) → tabulate n (λ p. getD line p 0) ≡ holderLine (decode bytes) k
-holder-numbers bytes none n k set line read-n one e = line-numbers bytes none set n line read-n e ∙ holder-line (decode bytes) k set one
+pub holder-front : (bytes : List ℕ) (none : tableRefusal bytes ≡ 0) (n k : ℕ) (line : List ℕ) → n ≡ processCount (decode bytes)
+    → line ≡ arrayOf (lineOf (decode bytes) (member (2 ^ k))) → take n line ≡ holderLine (decode bytes) k
+holder-front bytes none n k line read-n e =
+    ap (λ (x : ℕ). take x line) read-n ∙ set-front bytes none (2 ^ k) line e ∙ holder-line (decode bytes) k (2 ^ k) refl
 
 -- the numbers of the sheet
 sheet-is : (t : Table) (k q : ℕ) (cs qs : List ℕ) → k ≡ length (keptCheckpoints t) → q ≡ length (keptMessages t)

@@ -5,10 +5,10 @@ pub mod writing;
 
 use kept::checkpoints;
 use kept::messages;
-use kept::scratch;
 use lines::line_of_holder;
 use lines::propagation::propagating;
 use run_table::parts;
+use run_table::writing::store_numbers;
 ghost use mathlib.Core.Path.{_≡_};
 ghost use Prim.Native.Nat.{_+_, _*_, _≤_};
 ghost use lib.ListN.{length, take};
@@ -29,7 +29,8 @@ pub fn fill_lines(table: &[u8], scratch: &mut [u16])
     let mut at = 0;
     let mut k = 0;
     while k < n {
-        scratch::copy_line(line_of_holder(table, k, propagates[k]), n, scratch, at);
+        let line = line_of_holder(table, k, propagates[k]);
+        store_numbers(scratch, at, &line[..n]);
         at += n;
         k += 1;
     }

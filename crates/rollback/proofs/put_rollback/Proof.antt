@@ -59,9 +59,16 @@ sends-at-requires c κs = omega (arith, few (counted (c .before .before .before)
 put-messages-requires : tie.Need-put-messages-requires
 put-messages-requires c κs =
     let put = c .before .before .before .before in
-    let asked = start (counted put) .pre in
-    (asked .0, (asked .1 .0, (asked .1 .1 .0,
-    omega (arith, asked .1 .1 .1, counted put .before .process-count .ensures, c .sends-at .ensures, put .put-head .kept))))
+    let asked = start (counted put) .pre in (
+      asked .0,
+      (
+        asked .1 .0,
+        (
+          asked .1 .1 .0,
+          omega (arith, asked .1 .1 .1, counted put .before .process-count .ensures, c .sends-at .ensures, put .put-head .kept),
+        ),
+      ),
+    )
 
 same-length : tie.Need-same-length
 same-length c = search needs

@@ -49,7 +49,7 @@ is-kept-requires c κs =
     let start = c .before .before .before .before .before .before .before .before in
     let l = c .before .loop-test .taken in
     let known = start .pre .1 .1 .1 .1 .1 .1 .0 _ l in
-    (lowest-read _ _ _ (c .before .before .before .lowest-line .ensures) _ _ _ (c .u16-at .ensures) known, omega (arith, start .pre .1 .1 .1 .1 .1 .0 _ l, known))
+    (lowest-read _ _ (omega arith) _ (c .before .before .before .lowest-line .ensures) _ _ _ (c .u16-at .ensures) known, omega (arith, start .pre .1 .1 .1 .1 .1 .0 _ l, known))
 
 add-k : tie.Need-add-k Inv-loop μ-loop
 add-k c = omega arith
