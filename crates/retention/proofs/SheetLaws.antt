@@ -4,11 +4,11 @@
 --     checkpoints-are, positions-are              what lines of single holders say is kept
 --     entry-is                                    lines in the scratch are the lines of single holders
 --     .. -needs, .. -found                        what the code finds, from what it read
---     sheet-length, sheet-is                      the sheet's length and its numbers
+--     sheet-length                                the sheet's length
 --     kept-few                                    the sheet of an accepted table is not long
 -- Assumes nothing.
-use mathlib.Core.Bool.{Bool, cond, true, false, _&&_, _||_}
-use mathlib.Core.List.{List, [], _∷_, _++_, append-assoc, map, map-map}
+use mathlib.Core.Bool.{Bool, cond, _&&_, _||_}
+use mathlib.Core.List.{List, _∷_, _++_, map, map-map}
 use mathlib.Core.Path.{_≡_, refl, sym, ap, ap₂, _∙_}
 use Prim.Native.Nat.{ℕ, _+_, _-_, _*_, _^_, _<_, _≤_}
 use native.Mathlib.Nat.{mul-le-mul}
@@ -27,18 +27,17 @@ use Rattle.process_set.proofs.SetLaws.{member-one}
 use Rattle.process_set.specs.Sets.{member}
 use Rattle.retention.proofs.FewLaws.{checkpoints-few}
 use Rattle.kept.proofs.ScratchLaws.{cell-below}
-use Rattle.retention.proofs.WritingLaws.{room-checkpoints, room-positions, sheet-put}
 use Rattle.kept.specs.Kept.{checkpointsAt, checkpointsOf, columnAt, columnOf, crossesLine, isKept, positionsOf, shows, statesOf}
 use Rattle.kept.specs.Scratch.{entryAt}
-use Rattle.retention.specs.Writing.{Put}
 use Rattle.run_table.proofs.ListLaws.{anyBelow-ext, map-rows, rows-at, rows-ext, rows-length, select-ext, select-small, tabulate-ext}
 use Rattle.run_table.proofs.NumberLaws.{length-u16s}
-use Rattle.run_table.proofs.ReadLaws.{count-is, counts-size, message-good, message-is, messages-few, processes-few, receipts-size, receivers-known, senders-known, sends-size}
+use Rattle.run_table.proofs.ReadLaws.{count-is, counts-size, message-good, message-is, messages-few, processes-few}
+use Rattle.run_table.proofs.ReadLaws.{receipts-size, receivers-known, senders-known, sends-size}
 use Rattle.run_table.specs.Arrays.{arrayOf}
 use Rattle.run_table.specs.Checks.{GoodMessage, tableRefusal}
 use Rattle.run_table.specs.Format.{countAt, countsPart, decode, messageAt, processAt, receiptsPart, sendsPart}
 use Rattle.run_table.specs.Lists.{rows, select, tabulate}
-use Rattle.run_table.specs.Numbers.{putAt, u16s}
+use Rattle.run_table.specs.Numbers.{putAt}
 use Rattle.run_table.specs.Table.{Message, Table, countOf, messageCount, messageOf, processCount}
 
 -- ---- the lines of single holders
@@ -124,12 +123,6 @@ pub holder-front : (bytes : List ℕ) (none : tableRefusal bytes ≡ 0) (n k : �
 holder-front bytes none n k line read-n e =
     ap (λ (x : ℕ). take x line) read-n ∙ set-front bytes none (2 ^ k) line e ∙ holder-line (decode bytes) k (2 ^ k) refl
 
--- the numbers of the sheet
-sheet-is : (t : Table) (k q : ℕ) (cs qs : List ℕ) → k ≡ length (keptCheckpoints t) → q ≡ length (keptMessages t)
-    → cs ≡ map (λ x. x .process) (keptCheckpoints t) ++ map (λ x. x .state) (keptCheckpoints t) → qs ≡ keptMessages t → u16s (k ∷ q ∷ (cs ++ qs)) ≡ sheet t
-unfolding sheet
-sheet-is t k q cs qs a b c d = rw (a, b, c, d, append-assoc)
-
 -- ---- what the code finds in a scratch that has the lines of an accepted table
 module _ (bytes : List ℕ) (none : tableRefusal bytes ≡ 0) (s : List ℕ)
     (stand : take (processCount (decode bytes) * processCount (decode bytes)) s ≡ holderLines (decode bytes)) where
@@ -153,32 +146,13 @@ module _ (bytes : List ℕ) (none : tableRefusal bytes ≡ 0) (s : List ℕ)
     pub checkpoints-found : checkpointsOf n (entryAt s n) counts ≡ keptCheckpoints t
     checkpoints-found = rw (read-n, read-c) (checkpoints-are t (entryAt s (N t)) entry-is (countsPart bytes) (count-is bytes none))
 
-    processes-found : columnOf false n (entryAt s n) counts ≡ map (λ k. k .process) (keptCheckpoints t)
+    -- one array of the sheet: the states of the kept checkpoints, or else their processes
+    pub column-found : (states : Bool) → columnOf states n (entryAt s n) counts ≡ map (λ k. cond states (k .state) (k .process)) (keptCheckpoints t)
     unfolding columnOf columnAt checkpointsOf checkpointsAt
-    processes-found =
-        rows-ext _ _ n (λ i _. sym (map-map (λ (k : Kept). k .process) (λ c. record { process = i; state = c }) (statesOf n (entryAt s n) i (countAt counts i))))
-        ∙ sym (map-rows (λ (k : Kept). k .process) _ n) ∙ ap (map (λ (k : Kept). k .process)) checkpoints-found
-
-    states-found : columnOf true n (entryAt s n) counts ≡ map (λ k. k .state) (keptCheckpoints t)
-    unfolding columnOf columnAt checkpointsOf checkpointsAt
-    states-found =
-        rows-ext _ _ n (λ i _. sym (map-map (λ (k : Kept). k .state) (λ c. record { process = i; state = c }) (statesOf n (entryAt s n) i (countAt counts i))))
-        ∙ sym (map-rows (λ (k : Kept). k .state) _ n) ∙ ap (map (λ (k : Kept). k .state)) checkpoints-found
-
-    columns-found : columnOf false n (entryAt s n) counts ++ columnOf true n (entryAt s n) counts ≡ map (λ k. k .process) (keptCheckpoints t) ++ map (λ k. k .state) (keptCheckpoints t)
-    columns-found = ap₂ (λ (x y : List ℕ). x ++ y) processes-found states-found
-
-    columns-size : (k : ℕ) → k ≡ length (keptCheckpoints t) → length (columnOf false n (entryAt s n) counts ++ columnOf true n (entryAt s n) counts) ≡ 2 * k
-    columns-size k e =
-        let ps = map (λ (x : Kept). x .process) (keptCheckpoints t) in
-        let ss = map (λ (x : Kept). x .state) (keptCheckpoints t) in
-        omega (
-          arith,
-          ap length columns-found,
-          length-append ps ss,
-          length-map (keptCheckpoints t) (λ (x : Kept). x .process),
-          length-map (keptCheckpoints t) (λ (x : Kept). x .state),
-        )
+    column-found states =
+        let number : Kept → ℕ = λ k. cond states (k .state) (k .process) in
+        rows-ext _ _ n (λ i _. sym (map-map number (λ c. record { process = i; state = c }) (statesOf n (entryAt s n) i (countAt counts i))))
+        ∙ sym (map-rows number _ n) ∙ ap (map number) checkpoints-found
 
   module _ (n m : ℕ) (sends receipts : List ℕ) (read-n : n ≡ N t) (read-m : m ≡ messageCount t) (read-s : sends ≡ sendsPart bytes)
       (read-r : receipts ≡ receiptsPart bytes) where
@@ -198,61 +172,3 @@ module _ (bytes : List ℕ) (none : tableRefusal bytes ≡ 0) (s : List ℕ)
     positions-found =
         rw (read-n, read-m, read-s, read-r)
         (positions-are t (entryAt s (N t)) entry-is (sendsPart bytes) (receiptsPart bytes) (message-is bytes none) (message-good bytes none))
-
-    positions-size : (q : ℕ) → q ≡ length (keptMessages t) → length (positionsOf n (entryAt s n) sends receipts m) ≡ q
-    positions-size q e = ap length positions-found ∙ sym e
-
-  -- the sheet, as the code puts it: K and Q, then the two arrays of checkpoints, then the positions
-  module _ (n : ℕ) (counts : List ℕ) (read-n : n ≡ N t) (read-c : counts ≡ countsPart bytes) (k q : ℕ) (kept : k ≡ length (keptCheckpoints t))
-      (logged : q ≡ length (keptMessages t)) (before a : List ℕ) (at : ℕ) (sizes : Put before a 0 (k ∷ q ∷ []) at)
-      (room : 4 + 4 * length (keptCheckpoints t) + 2 * length (keptMessages t) ≤ length before) where
-    columns : List ℕ
-    columns = columnOf false n (entryAt s n) counts ++ columnOf true n (entryAt s n) counts
-
-    columns-length : length columns ≡ 2 * k
-    unfolding columns
-    columns-length = columns-size n counts read-n read-c k kept
-
-    fits : 4 + 4 * k + 2 * q ≤ length before
-    fits = omega arith
-
-    pub columns-needs : (n * n ≤ length s)
-        × ((n ≤ 32) × ((length counts ≡ 2 * n) × (at + 2 * length (columnOf false n (entryAt s n) counts ++ columnOf true n (entryAt s n) counts) ≤ length a)))
-    unfolding columns
-    columns-needs =
-        let needed = checkpoints-needs n counts read-n read-c in
-        (needed .0, (needed .1 .0, (needed .1 .1, room-checkpoints before k q columns (keptMessages t) columns-length (sym logged) fits a at sizes)))
-
-    module _ (m : ℕ) (sends receipts : List ℕ) (read-m : m ≡ messageCount t) (read-s : sends ≡ sendsPart bytes) (read-r : receipts ≡ receiptsPart bytes)
-        (a₂ : List ℕ) (at₂ : ℕ) (put : Put a a₂ at (columnOf false n (entryAt s n) counts ++ columnOf true n (entryAt s n) counts) at₂) where
-      positions : List ℕ
-      positions = positionsOf n (entryAt s n) sends receipts m
-
-      positions-length : length positions ≡ q
-      unfolding positions
-      positions-length = positions-size n m sends receipts read-n read-m read-s read-r q logged
-
-      pub positions-needs : (n * n ≤ length s)
-          × ((n ≤ 32)
-          × ((m ≤ 4096)
-          × ((length sends ≡ 4 * m)
-          × ((length receipts ≡ 4 * m)
-          × (((k : ℕ) → k < m → processAt sends k < n)
-          × (((k : ℕ) → k < m → processAt receipts k < n) × (at₂ + 2 * length (positionsOf n (entryAt s n) sends receipts m) ≤ length a₂)))))))
-      unfolding columns positions
-      positions-needs =
-          let needed = messages-needs n m sends receipts read-n read-m read-s read-r in
-          let last = room-positions before k q columns positions columns-length positions-length fits a at sizes a₂ at₂ put in (
-            needed .0,
-            (
-              needed .1 .0,
-              (omega (arith, messages-few bytes none), (needed .1 .1 .0, (needed .1 .1 .1 .0, (needed .1 .1 .1 .1 .0, (needed .1 .1 .1 .1 .1, last))))),
-            ),
-          )
-
-      pub sheet-written : (a₃ : List ℕ) (at₃ : ℕ) → Put a₂ a₃ at₂ (positionsOf n (entryAt s n) sends receipts m) at₃ → a₃ ≡ putAt before 0 (sheet t)
-      unfolding columns positions
-      sheet-written a₃ at₃ last =
-          sheet-put before k q columns positions columns-length positions-length fits a at sizes a₂ at₂ put a₃ at₃ last
-          ∙ ap (putAt before 0)
-          (sheet-is t k q columns positions kept logged (columns-found n counts read-n read-c) (positions-found n m sends receipts read-n read-m read-s read-r))

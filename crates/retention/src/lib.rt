@@ -3,6 +3,8 @@
 pub mod writer;
 pub mod writing;
 
+use crate::writer::SheetWriter;
+use crate::writing::Part;
 use kept::checkpoints;
 use kept::messages;
 use lines::line_of_holder;
@@ -66,23 +68,12 @@ pub fn put_sheet(table: &[u8], scratch: &[u16], kept: usize, logged: usize, answ
     requires { ⌜ 4 + 4 * length (keptCheckpoints (decode (now table))) + 2 * length (keptMessages (decode (now table))) ≤ length (now answer) ⌝ }
     ensures { λ _. ⌜ now (answer .exit) ≡ putAt (now (answer .entry)) 0 (sheet (decode (now (table .entry)))) ⌝ }
 {
-    let n = parts::process_count(table);
-    let m = parts::message_count(table);
-    let after_sizes = writing::put_sizes(answer, kept, logged);
-    let after_checkpoints = writing::put_checkpoints(
-        answer,
-        after_sizes,
-        scratch,
-        n,
-        parts::counts(table),
-    );
-    writing::put_positions(
-        answer,
-        after_checkpoints,
-        scratch,
-        n,
-        parts::sends(table),
-        parts::receipts(table),
-        m,
-    );
+    SheetWriter {
+        buffer: answer,
+        at: 0,
+    }
+        .put(Part::Sizes(kept, logged), table, scratch)
+        .put(Part::Processes, table, scratch)
+        .put(Part::States, table, scratch)
+        .put(Part::Positions, table, scratch);
 }

@@ -103,10 +103,11 @@ loop-again : tie.Need-loop-again Inv-loop μ-loop
 loop-again c =
     let placed = c .before .before in
     let here = placed .before .before .before in
-    let at = here .before .before in
-    (written-more _ _ _ _ _ (each at) _ _ (at .loop .inv .0) (here .before .loop-test .taken) _ _ (omega (arith, at .loop .inv .1))
-      (placed .store-numbers .ensures ∙ ap (putAt _ _) (holder-front _ (start (at .before) .pre .0) _ _ _ (at .before .before .process-count .ensures) (here .line-of-holder .ensures))),
-    omega (arith, at .loop .inv .1, mul-suc (at .before .before .process-count .result) (at .loop .k), ap (λ (j : ℕ). at .before .before .process-count .result * j) (add-one (at .loop .k))))
+    let at = here .before .before in (
+      written-more _ _ _ _ _ (each at) _ _ (at .loop .inv .0) (here .before .loop-test .taken) _ _ (omega (arith, at .loop .inv .1))
+          (placed .store-numbers .ensures ∙ ap (putAt _ _) (holder-front _ (start (at .before) .pre .0) _ _ _ (at .before .before .process-count .ensures) (here .line-of-holder .ensures))),
+      omega (arith, at .loop .inv .1, mul-suc (at .before .before .process-count .result) (at .loop .k), ap (λ (j : ℕ). at .before .before .process-count .result * j) (add-one (at .loop .k))),
+    )
 
 same-length : tie.Need-same-length Inv-loop μ-loop
 same-length c = c .before .loop .inv .0 .same-length
