@@ -7,14 +7,8 @@ use Rattle.lines.proofs.LineReads.{set-read}
 use Rattle.lines.proofs.line_of_set.Statement.{statement}
 use Rattle.lines.proofs.line_of_set.Tie as tie
 
-ceiling-of-set-requires : tie.Need-ceiling-of-set-requires
-ceiling-of-set-requires c κs = search needs
-
-line-under-requires : tie.Need-line-under-requires
-line-under-requires c κs = search needs
-
 returns : tie.Need-returns
 returns c = c .line-under .ensures ∙ ap (lineUnder _) (c .before .ceiling-of-set .ensures) ∙ set-read _ (c .before .before .before .pre) _
 
 pub line-of-set-spec : {M : Type 1} → statement M
-line-of-set-spec = tie.close (tie.spec ceiling-of-set-requires line-under-requires returns)
+line-of-set-spec = tie.close (tie.spec (λ c κs. search needs) (λ c κs. search needs) returns)

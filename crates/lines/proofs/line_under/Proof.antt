@@ -6,15 +6,6 @@ use Rattle.lines.proofs.LineReads.{line-read, lower-needs}
 use Rattle.lines.proofs.line_under.Statement.{statement}
 use Rattle.lines.proofs.line_under.Tie as tie
 
-message-count-requires : tie.Need-message-count-requires
-message-count-requires c κs = search needs
-
-sends-requires : tie.Need-sends-requires
-sends-requires c κs = search needs
-
-receipts-requires : tie.Need-receipts-requires
-receipts-requires c κs = search needs
-
 lower-requires : tie.Need-lower-requires
 lower-requires c κs =
     let sized = c .before .before in
@@ -29,4 +20,4 @@ returns c =
 pub line-under-spec : {M : Type 1} → statement M
 line-under-spec =
     tie.close
-    (tie.spec message-count-requires sends-requires receipts-requires lower-requires returns)
+    (tie.spec (λ c κs. search needs) (λ c κs. search needs) (λ c κs. search needs) lower-requires returns)

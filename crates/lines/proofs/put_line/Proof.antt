@@ -18,9 +18,6 @@ few c = omega (arith, processes-few _ (c .before .before .before .pre .0), c .pr
 front : (c : tie.After-process-count) → length (take (c .process-count .result) (c .before .before .before .args .t2)) ≡ c .process-count .result
 front c = length-take-le _ _ (omega (arith, few c))
 
-process-count-requires : tie.Need-process-count-requires
-process-count-requires c κs = search needs
-
 array-share-prefix-line : tie.Need-array-share-prefix-line
 array-share-prefix-line c = omega (arith, few (c .before))
 
@@ -32,9 +29,6 @@ put-numbers-requires c κs =
     let sized = c .before .before in
     omega (arith, front sized, sized .process-count .ensures, sized .before .before .before .pre .1)
 
-same-length : tie.Need-same-length
-same-length c = search needs
-
 returns : tie.Need-returns
 returns c =
     let put = c .before .before in
@@ -44,9 +38,9 @@ pub put-line-spec : {M : Type 1} → statement M
 put-line-spec =
     tie.close
     (tie.spec
-    process-count-requires
+    (λ c κs. search needs)
     array-share-prefix-line
     slice-aggregate-put-numbers
     put-numbers-requires
-    same-length
+    (λ c. search needs)
     returns)

@@ -5,15 +5,6 @@ use Rattle.lines.proofs.LineReads.{set-front}
 use Rattle.lines.proofs.put_line_of_set.Statement.{statement}
 use Rattle.lines.proofs.put_line_of_set.Tie as tie
 
-line-of-set-requires : tie.Need-line-of-set-requires
-line-of-set-requires c κs = search needs
-
-put-line-requires : tie.Need-put-line-requires
-put-line-requires c κs = search needs
-
-same-length : tie.Need-same-length
-same-length c = search needs
-
 returns : tie.Need-returns
 returns c =
     let found = c .before .before .before .before in
@@ -21,4 +12,4 @@ returns c =
 
 pub put-line-of-set-spec : {M : Type 1} → statement M
 put-line-of-set-spec =
-    tie.close (tie.spec line-of-set-requires put-line-requires same-length returns)
+    tie.close (tie.spec (λ c κs. search needs) (λ c κs. search needs) (λ c. search needs) returns)

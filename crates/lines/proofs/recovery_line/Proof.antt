@@ -8,12 +8,9 @@ use Rattle.run_table.specs.Arrays.{arrayOf}
 use Rattle.lines.proofs.recovery_line.Statement.{statement}
 use Rattle.lines.proofs.recovery_line.Tie as tie
 
-line-of-set-requires : tie.Need-line-of-set-requires
-line-of-set-requires c κs = search needs
-
 returns : tie.Need-returns
 unfolding allProcesses
 returns c = c .line-of-set .ensures ∙ ap arrayOf (all-hold _ (c .before .before .pre))
 
 pub recovery-line-spec : {M : Type 1} → statement M
-recovery-line-spec = tie.close (tie.spec line-of-set-requires returns)
+recovery-line-spec = tie.close (tie.spec (λ c κs. search needs) returns)

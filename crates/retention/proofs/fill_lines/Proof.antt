@@ -66,12 +66,6 @@ room : (c : tie.After-line-of-holder Inv-loop μ-loop)
     → turn c .loop .at + turn c .before .before .process-count .result ≤ length (turn c .loop .scratch)
 room c = omega (arith, written-room _ _ _ _ _ (each (turn c)) _ _ (turn c .loop .inv .0) (c .before .loop-test .taken), turn c .loop .inv .1)
 
-process-count-requires : tie.Need-process-count-requires Inv-loop μ-loop
-process-count-requires c κs = search needs
-
-propagating-requires : tie.Need-propagating-requires Inv-loop μ-loop
-propagating-requires c κs = search needs
-
 loop-holds : tie.Need-loop-holds Inv-loop μ-loop
 loop-holds c = (written-none _ _ _ _ _ (lines-fit _ _ (now (start c .args .scratch)) (c .before .process-count .ensures) (start c .pre .1)), omega arith)
 
@@ -92,12 +86,6 @@ store-numbers-requires c κs = omega (arith, front (c .before .before), room (c 
 
 add-at : tie.Need-add-at Inv-loop μ-loop
 add-at c = omega (arith, room (c .before .before .before .before .before), c .before .before .store-numbers .kept)
-
-add-k : tie.Need-add-k Inv-loop μ-loop
-add-k c = omega arith
-
-loop-less : tie.Need-loop-less Inv-loop μ-loop
-loop-less c = omega arith
 
 loop-again : tie.Need-loop-again Inv-loop μ-loop
 loop-again c =
@@ -124,8 +112,8 @@ fill-lines-spec =
     (tie.spec
     Inv-loop
     μ-loop
-    process-count-requires
-    propagating-requires
+    (λ c κs. search needs)
+    (λ c κs. search needs)
     loop-holds
     array-read-line-of-holder
     line-of-holder-requires
@@ -133,8 +121,8 @@ fill-lines-spec =
     slice-aggregate-store-numbers
     store-numbers-requires
     add-at
-    add-k
-    loop-less
+    (λ c. omega arith)
+    (λ c. omega arith)
     loop-again
     same-length
     returns)

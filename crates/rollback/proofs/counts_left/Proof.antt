@@ -25,9 +25,6 @@ abbrev μ-loop : tie.MeasureT-loop
 few : (c : tie.After-process-count Inv-loop μ-loop) → c .process-count .result ≤ 32
 few c = omega (arith, processes-few _ (c .before .before .pre .0), c .process-count .ensures)
 
-process-count-requires : tie.Need-process-count-requires Inv-loop μ-loop
-process-count-requires c κs = search needs
-
 loop-holds : tie.Need-loop-holds Inv-loop μ-loop
 loop-holds c = filled-none _ _
 
@@ -49,12 +46,6 @@ mul-counts-2 c = omega (arith, few (c .before .before))
 array-write-counts : tie.Need-array-write-counts Inv-loop μ-loop
 array-write-counts c = omega (arith, few (c .before .before))
 
-add-p : tie.Need-add-p Inv-loop μ-loop
-add-p c = omega arith
-
-loop-less : tie.Need-loop-less Inv-loop μ-loop
-loop-less c = omega arith
-
 loop-again : tie.Need-loop-again Inv-loop μ-loop
 loop-again c =
     let sized = c .before .before in
@@ -74,14 +65,14 @@ counts-left-spec =
     (tie.spec
     Inv-loop
     μ-loop
-    process-count-requires
+    (λ c κs. search needs)
     loop-holds
     mul-counts
     array-read-counts
     add-counts
     mul-counts-2
     array-write-counts
-    add-p
-    loop-less
+    (λ c. omega arith)
+    (λ c. omega arith)
     loop-again
     returns)

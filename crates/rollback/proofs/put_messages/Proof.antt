@@ -40,15 +40,6 @@ behind c = receipt-within _ (c .before .before .before .before .before .before .
 room : (c : Here) → c .before .before .before .before .loop .place + 4 * c .before .before .before .before .before .before .before .before .before .before .args .m + 4 ≤ length (c .before .before .before .before .loop .buffer)
 room c = gathered-room _ _ _ _ _ _ _ (c .before .before .before .before .loop .inv) (omega arith) (found c)
 
-message-count-requires : tie.Need-message-count-requires Inv-loop μ-loop
-message-count-requires c κs = search needs
-
-sends-requires : tie.Need-sends-requires Inv-loop μ-loop
-sends-requires c κs = search needs
-
-receipts-requires : tie.Need-receipts-requires Inv-loop μ-loop
-receipts-requires c κs = search needs
-
 loop-holds : tie.Need-loop-holds Inv-loop μ-loop
 loop-holds c = gathered-none _ _ _ _ (c .before .before .before .before .before .pre .1 .1 .1) (c .before .before .before .before .before .pre .1 .1 .0)
 
@@ -67,20 +58,8 @@ add-u16-at c = omega (arith, within (c .before))
 u16-at-requires-2 : tie.Need-u16-at-requires-2 Inv-loop μ-loop
 u16-at-requires-2 c κs = omega (arith, within (c .before))
 
-add-k : tie.Need-add-k Inv-loop μ-loop
-add-k c = omega arith
-
-cast-if1 : tie.Need-cast-if1 Inv-loop μ-loop
-cast-if1 c = omega arith
-
-mul-if1 : tie.Need-mul-if1 Inv-loop μ-loop
-mul-if1 c = omega arith
-
 array-read-if1 : tie.Need-array-read-if1 Inv-loop μ-loop
 array-read-if1 c = sender-small _ (c .before .before .before .before .before .before .before .before .before .pre .0) _ _ (omega arith) (c .before .before .before .before .before .sends .ensures) _ (c .before .u16-at .ensures)
-
-loop-less : tie.Need-loop-less Inv-loop μ-loop
-loop-less c = omega arith
 
 loop-again : tie.Need-loop-again Inv-loop μ-loop
 loop-again c = gathered-skips _ _ _ _ _ _ _ (c .before .before .before .before .loop .inv) (omega arith) (found-going _ (c .before .before .before .before .before .before .before .before .before .before .pre .0) _ (c .before .before .before .before .before .before .before .before .before .before .pre .1 .0) _ _ (omega arith) _ _ (c .before .before .u16-at .ensures) (c .before .u16-at2 .ensures) (c .before .before .before .before .before .before .sends .ensures) (c .if1 .taken))
@@ -109,26 +88,14 @@ mul-put-entry c = omega (arith, room (c .before .before .before .before .before 
 add-put-entry : tie.Need-add-put-entry Inv-loop μ-loop
 add-put-entry c = omega (arith, room (c .before .before .before .before .before .before .before))
 
-cast-receipt-left : tie.Need-cast-receipt-left Inv-loop μ-loop
-cast-receipt-left c = omega arith
-
-mul-receipt-left : tie.Need-mul-receipt-left Inv-loop μ-loop
-mul-receipt-left c = omega arith
-
 array-read-receipt-left : tie.Need-array-read-receipt-left Inv-loop μ-loop
 array-read-receipt-left c = receiver-small _ (c .before .before .before .before .before .before .before .before .before .before .before .before .before .before .before .before .before .pre .0) _ _ (omega arith) (c .before .before .before .before .before .before .before .before .before .before .before .before .receipts .ensures) _ (c .before .before .before .before .before .before .u16-at3 .ensures)
-
-receipt-left-requires : tie.Need-receipt-left-requires Inv-loop μ-loop
-receipt-left-requires c κs = tt
 
 put-entry-requires-2 : tie.Need-put-entry-requires-2 Inv-loop μ-loop
 put-entry-requires-2 c κs = omega (arith, room (c .before .before .before .before .before .before .before .before))
 
 add-place : tie.Need-add-place Inv-loop μ-loop
 add-place c = omega (arith, room (c .before .before .before .before .before .before .before .before .before .before .before))
-
-loop-less-2 : tie.Need-loop-less-2 Inv-loop μ-loop
-loop-less-2 c = omega arith
 
 loop-again-2 : tie.Need-loop-again-2 Inv-loop μ-loop
 loop-again-2 c =
@@ -155,20 +122,20 @@ put-messages-spec =
     (tie.spec
     Inv-loop
     μ-loop
-    message-count-requires
-    sends-requires
-    receipts-requires
+    (λ c κs. search needs)
+    (λ c κs. search needs)
+    (λ c κs. search needs)
     loop-holds
     mul-u16-at
     u16-at-requires
     mul-u16-at-2
     add-u16-at
     u16-at-requires-2
-    add-k
-    cast-if1
-    mul-if1
+    (λ c. omega arith)
+    (λ c. omega arith)
+    (λ c. omega arith)
     array-read-if1
-    loop-less
+    (λ c. omega arith)
     loop-again
     mul-u16-at-3
     u16-at-requires-3
@@ -178,13 +145,13 @@ put-messages-spec =
     put-entry-requires
     mul-put-entry
     add-put-entry
-    cast-receipt-left
-    mul-receipt-left
+    (λ c. omega arith)
+    (λ c. omega arith)
     array-read-receipt-left
-    receipt-left-requires
+    (λ c κs. tt)
     put-entry-requires-2
     add-place
-    loop-less-2
+    (λ c. omega arith)
     loop-again-2
     same-length
     returns)

@@ -36,12 +36,6 @@ long c = ap length (c .counts-left .ensures) ∙ array-length _
 front : (c : tie.After-counts-left) → length (take (c .before .process-count .result) (c .counts-left .result)) ≡ c .before .process-count .result
 front c = length-take-le _ _ (omega (arith, few c, long c))
 
-process-count-requires : tie.Need-process-count-requires
-process-count-requires c κs = search needs
-
-counts-left-requires : tie.Need-counts-left-requires
-counts-left-requires c κs = search needs
-
 array-share-prefix-counts : tie.Need-array-share-prefix-counts
 array-share-prefix-counts c = omega (arith, few (c .before), long (c .before))
 
@@ -70,9 +64,6 @@ put-messages-requires c κs =
       ),
     )
 
-same-length : tie.Need-same-length
-same-length c = search needs
-
 returns : tie.Need-returns
 returns c =
     let last = c .before .before in
@@ -89,12 +80,12 @@ pub put-rollback-spec : {M : Type 1} → statement M
 put-rollback-spec =
     tie.close
     (tie.spec
-    process-count-requires
-    counts-left-requires
+    (λ c κs. search needs)
+    (λ c κs. search needs)
     array-share-prefix-counts
     slice-aggregate-put-head
     put-head-requires
     sends-at-requires
     put-messages-requires
-    same-length
+    (λ c. search needs)
     returns)

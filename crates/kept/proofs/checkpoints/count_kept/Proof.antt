@@ -18,23 +18,8 @@ abbrev μ-loop : tie.MeasureT-loop
 loop-holds : tie.Need-loop-holds Inv-loop μ-loop
 loop-holds c = totalled-none
 
-mul-u16-at : tie.Need-mul-u16-at Inv-loop μ-loop
-mul-u16-at c = omega arith
-
-u16-at-requires : tie.Need-u16-at-requires Inv-loop μ-loop
-u16-at-requires c κs = omega arith
-
-count-states-requires : tie.Need-count-states-requires Inv-loop μ-loop
-count-states-requires c κs = omega arith
-
 add-total : tie.Need-add-total Inv-loop μ-loop
 add-total c = omega (arith, states-small _ _ _ _ _ (c .count-states .ensures))
-
-add-i : tie.Need-add-i Inv-loop μ-loop
-add-i c = omega arith
-
-loop-less : tie.Need-loop-less Inv-loop μ-loop
-loop-less c = omega arith
 
 loop-again : tie.Need-loop-again Inv-loop μ-loop
 loop-again c =
@@ -52,11 +37,11 @@ count-kept-spec =
     Inv-loop
     μ-loop
     loop-holds
-    mul-u16-at
-    u16-at-requires
-    count-states-requires
+    (λ c. omega arith)
+    (λ c κs. omega arith)
+    (λ c κs. omega arith)
     add-total
-    add-i
-    loop-less
+    (λ c. omega arith)
+    (λ c. omega arith)
     loop-again
     returns)

@@ -15,23 +15,11 @@ Inv-loop scratch n i count kept₀ state₀ kept state =
 abbrev μ-loop : tie.MeasureT-loop
 μ-loop scratch n i count kept₀ state₀ kept state = count - state
 
-next-kept-requires : tie.Need-next-kept-requires Inv-loop μ-loop
-next-kept-requires c κs = omega arith
-
 loop-holds : tie.Need-loop-holds Inv-loop μ-loop
 loop-holds c = (stands _ _ _ _ (c .next-kept .ensures), tallied-first (c .next-kept .ensures))
 
 add-kept : tie.Need-add-kept Inv-loop μ-loop
 add-kept c = omega (arith, tallied-small (c .before .loop .inv .1))
-
-add-next-kept : tie.Need-add-next-kept Inv-loop μ-loop
-add-next-kept c = omega arith
-
-next-kept-requires-2 : tie.Need-next-kept-requires-2 Inv-loop μ-loop
-next-kept-requires-2 c κs = omega arith
-
-loop-less : tie.Need-loop-less Inv-loop μ-loop
-loop-less c = omega arith
 
 loop-again : tie.Need-loop-again Inv-loop μ-loop
 loop-again c =
@@ -48,11 +36,11 @@ count-states-spec =
     (tie.spec
     Inv-loop
     μ-loop
-    next-kept-requires
+    (λ c κs. omega arith)
     loop-holds
     add-kept
-    add-next-kept
-    next-kept-requires-2
-    loop-less
+    (λ c. omega arith)
+    (λ c κs. omega arith)
+    (λ c. omega arith)
     loop-again
     returns)

@@ -18,23 +18,8 @@ Inv-loop scratch n sends receipts m lowest kept₀ k₀ kept k =
 abbrev μ-loop : tie.MeasureT-loop
 μ-loop scratch n sends receipts m lowest kept₀ k₀ kept k = m - k
 
-lowest-line-requires : tie.Need-lowest-line-requires Inv-loop μ-loop
-lowest-line-requires c κs = omega arith
-
 loop-holds : tie.Need-loop-holds Inv-loop μ-loop
 loop-holds c = tallied-none
-
-mul-u16-at : tie.Need-mul-u16-at Inv-loop μ-loop
-mul-u16-at c = omega arith
-
-u16-at-requires : tie.Need-u16-at-requires Inv-loop μ-loop
-u16-at-requires c κs = omega arith
-
-cast-receiver : tie.Need-cast-receiver Inv-loop μ-loop
-cast-receiver c = search needs
-
-mul-is-kept : tie.Need-mul-is-kept Inv-loop μ-loop
-mul-is-kept c = search needs
 
 array-read-is-kept : tie.Need-array-read-is-kept Inv-loop μ-loop
 unfolding processAt
@@ -52,20 +37,11 @@ is-kept-requires c κs =
       omega (arith, asked .1 .1 .1 .1 .0 _ (turn .loop-test .taken), known),
     )
 
-add-k : tie.Need-add-k Inv-loop μ-loop
-add-k c = omega arith
-
-loop-less : tie.Need-loop-less Inv-loop μ-loop
-loop-less c = omega arith
-
 loop-again : tie.Need-loop-again Inv-loop μ-loop
 loop-again c = tallied-skip (c .before .before .before .before .loop .inv) (omega arith) _ (c .before .is-kept .ensures) (not-true _ (c .if1 .taken))
 
 add-kept : tie.Need-add-kept Inv-loop μ-loop
 add-kept c = omega (arith, tallied-small (c .before .before .before .before .loop .inv))
-
-loop-less-2 : tie.Need-loop-less-2 Inv-loop μ-loop
-loop-less-2 c = omega arith
 
 loop-again-2 : tie.Need-loop-again-2 Inv-loop μ-loop
 loop-again-2 c = tallied-more (c .before .before .before .before .loop .inv) (omega arith) _ (c .before .is-kept .ensures) (not-false _ (c .if1 .left))
@@ -80,18 +56,18 @@ count-kept-spec =
     (tie.spec
     Inv-loop
     μ-loop
-    lowest-line-requires
+    (λ c κs. omega arith)
     loop-holds
-    mul-u16-at
-    u16-at-requires
-    cast-receiver
-    mul-is-kept
+    (λ c. omega arith)
+    (λ c κs. omega arith)
+    (λ c. search needs)
+    (λ c. search needs)
     array-read-is-kept
     is-kept-requires
-    add-k
-    loop-less
+    (λ c. omega arith)
+    (λ c. omega arith)
     loop-again
     add-kept
-    loop-less-2
+    (λ c. omega arith)
     loop-again-2
     returns)

@@ -17,23 +17,8 @@ abbrev μ-loop : tie.MeasureT-loop
 loop-holds : tie.Need-loop-holds Inv-loop μ-loop
 loop-holds c = uncrossed-none
 
-add-k : tie.Need-add-k Inv-loop μ-loop
-add-k c = omega arith
-
-entry-requires : tie.Need-entry-requires Inv-loop μ-loop
-entry-requires c κs = omega arith
-
-loop-less : tie.Need-loop-less Inv-loop μ-loop
-loop-less c = omega arith
-
 loop-again : tie.Need-loop-again Inv-loop μ-loop
 loop-again c = received-before (c .before .before .before .loop .inv) (omega arith) (omega arith)
-
-entry-requires-2 : tie.Need-entry-requires-2 Inv-loop μ-loop
-entry-requires-2 c κs = omega arith
-
-loop-less-2 : tie.Need-loop-less-2 Inv-loop μ-loop
-loop-less-2 c = omega arith
 
 loop-again-2 : tie.Need-loop-again-2 Inv-loop μ-loop
 loop-again-2 c = sent-after (c .before .before .before .before .before .loop .inv) (omega arith) (omega arith)
@@ -51,12 +36,12 @@ crosses-line-spec =
     Inv-loop
     μ-loop
     loop-holds
-    add-k
-    entry-requires
-    loop-less
+    (λ c. omega arith)
+    (λ c κs. omega arith)
+    (λ c. omega arith)
     loop-again
-    entry-requires-2
-    loop-less-2
+    (λ c κs. omega arith)
+    (λ c. omega arith)
     loop-again-2
     returns
     returns-2)

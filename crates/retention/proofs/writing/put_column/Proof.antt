@@ -22,23 +22,11 @@ loop-holds : tie.Need-loop-holds Inv-loop μ-loop
 unfolding rows columnOf
 loop-holds c = putting-none _ _ _ _ _ zero-le refl (c .before .before .before .pre .1 .1 .1)
 
-mul-u16-at : tie.Need-mul-u16-at Inv-loop μ-loop
-mul-u16-at c = omega arith
-
-u16-at-requires : tie.Need-u16-at-requires Inv-loop μ-loop
-u16-at-requires c κs = omega arith
-
 put-process-requires : tie.Need-put-process-requires Inv-loop μ-loop
 put-process-requires c κs =
     let start = c .before .before .before .before .before .before .before in
     let l = c .before .before .loop-test .taken in
     (start .pre .0, (start .pre .1 .0, (l, row-room _ _ _ _ _ _ _ (c .before .before .before .loop .inv) l _ (column-read _ _ _ _ _ _ (c .u16-at .ensures)))))
-
-add-i : tie.Need-add-i Inv-loop μ-loop
-add-i c = omega arith
-
-loop-less : tie.Need-loop-less Inv-loop μ-loop
-loop-less c = omega arith
 
 loop-again : tie.Need-loop-again Inv-loop μ-loop
 loop-again c = row-more _ _ _ _ _ _ _ (c .before .before .before .before .before .before .loop .inv) (c .before .before .before .before .before .loop-test .taken) _ (column-read _ _ _ _ _ _ (c .before .before .before .u16-at .ensures)) _ _ (c .before .before .put-process .ensures)
@@ -57,11 +45,11 @@ put-column-spec =
     Inv-loop
     μ-loop
     loop-holds
-    mul-u16-at
-    u16-at-requires
+    (λ c. omega arith)
+    (λ c κs. omega arith)
     put-process-requires
-    add-i
-    loop-less
+    (λ c. omega arith)
+    (λ c. omega arith)
     loop-again
     same-length
     returns)

@@ -6,18 +6,9 @@ use Rattle.run_table.specs.Numbers.{u16Bytes, u16s}
 use Rattle.retention.proofs.writing.put_number.Statement.{statement}
 use Rattle.retention.proofs.writing.put_number.Tie as tie
 
-put-u16-requires : tie.Need-put-u16-requires
-put-u16-requires c κs = search needs
-
-add-result : tie.Need-add-result
-add-result c = search needs
-
-same-length : tie.Need-same-length
-same-length c = search needs
-
 returns : tie.Need-returns
 unfolding u16s u16Bytes
 returns c = record { contents = c .before .before .put-u16 .ensures; place = omega arith }
 
 pub put-number-spec : {M : Type 1} → statement M
-put-number-spec = tie.close (tie.spec put-u16-requires add-result same-length returns)
+put-number-spec = tie.close (tie.spec (λ c κs. search needs) (λ c. search needs) (λ c. search needs) returns)

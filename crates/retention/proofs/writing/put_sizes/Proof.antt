@@ -7,25 +7,10 @@ use Rattle.retention.proofs.WritingLaws.{put-low, put-then}
 use Rattle.retention.proofs.writing.put_sizes.Statement.{statement}
 use Rattle.retention.proofs.writing.put_sizes.Tie as tie
 
-cast-put-number : tie.Need-cast-put-number
-cast-put-number c = search needs
-
-put-number-requires : tie.Need-put-number-requires
-put-number-requires c κs = search needs
-
-cast-put-number-2 : tie.Need-cast-put-number-2
-cast-put-number-2 c = search needs
-
-put-number-requires-2 : tie.Need-put-number-requires-2
-put-number-requires-2 c κs = search needs
-
-same-length : tie.Need-same-length
-same-length c = search needs
-
 returns : tie.Need-returns
 returns c =
     let first = c .before .before .before .before .before .before in
     put-low _ _ _ (_ ∷ _ ∷ []) _ (put-then _ _ _ _ _ (first .put-number .ensures) (_ ∷ []) (omega arith) _ _ (c .before .before .put-number2 .ensures))
 
 pub put-sizes-spec : {M : Type 1} → statement M
-put-sizes-spec = tie.close (tie.spec cast-put-number put-number-requires cast-put-number-2 put-number-requires-2 same-length returns)
+put-sizes-spec = tie.close (tie.spec (λ c. search needs) (λ c κs. search needs) (λ c. search needs) (λ c κs. search needs) (λ c. search needs) returns)

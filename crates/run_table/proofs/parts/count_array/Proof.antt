@@ -28,12 +28,6 @@ few c = omega (arith, processes-few _ (c .before .before .before .pre), c .befor
 size : (c : tie.After-counts Inv-loop μ-loop) → length (now (c .counts .result)) ≡ 2 * c .before .process-count .result
 size c = omega (arith, ap length (c .counts .ensures), counts-size _ (c .before .before .before .pre), c .before .process-count .ensures)
 
-process-count-requires : tie.Need-process-count-requires Inv-loop μ-loop
-process-count-requires c κs = search needs
-
-counts-requires : tie.Need-counts-requires Inv-loop μ-loop
-counts-requires c κs = search needs
-
 loop-holds : tie.Need-loop-holds Inv-loop μ-loop
 loop-holds c = filled-none _ _
 
@@ -48,12 +42,6 @@ mul-counts c = omega (arith, few (c .before .before .before))
 
 array-write-counts : tie.Need-array-write-counts Inv-loop μ-loop
 array-write-counts c = omega (arith, few (c .before .before .before))
-
-add-p : tie.Need-add-p Inv-loop μ-loop
-add-p c = omega arith
-
-loop-less : tie.Need-loop-less Inv-loop μ-loop
-loop-less c = omega arith
 
 loop-again : tie.Need-loop-again Inv-loop μ-loop
 unfolding countAt countOf
@@ -76,14 +64,14 @@ count-array-spec =
     (tie.spec
     Inv-loop
     μ-loop
-    process-count-requires
-    counts-requires
+    (λ c κs. search needs)
+    (λ c κs. search needs)
     loop-holds
     mul-u16-at
     u16-at-requires
     mul-counts
     array-write-counts
-    add-p
-    loop-less
+    (λ c. omega arith)
+    (λ c. omega arith)
     loop-again
     returns)

@@ -6,21 +6,6 @@ use Rattle.run_table.proofs.WriteLaws.{head-put}
 use Rattle.run_table.proofs.writing.put_head.Statement.{statement}
 use Rattle.run_table.proofs.writing.put_head.Tie as tie
 
-cast-put-entry : tie.Need-cast-put-entry
-cast-put-entry c = search needs
-
-cast-put-entry-2 : tie.Need-cast-put-entry-2
-cast-put-entry-2 c = search needs
-
-put-entry-requires : tie.Need-put-entry-requires
-put-entry-requires c κs = search needs
-
-put-numbers-requires : tie.Need-put-numbers-requires
-put-numbers-requires c κs = search needs
-
-same-length : tie.Need-same-length
-same-length c = search needs
-
 returns : tie.Need-returns
 returns c =
     let counted = c .before .before in
@@ -31,9 +16,9 @@ pub put-head-spec : {M : Type 1} → statement M
 put-head-spec =
     tie.close
     (tie.spec
-    cast-put-entry
-    cast-put-entry-2
-    put-entry-requires
-    put-numbers-requires
-    same-length
+    (λ c. search needs)
+    (λ c. search needs)
+    (λ c κs. search needs)
+    (λ c κs. search needs)
+    (λ c. search needs)
     returns)

@@ -42,26 +42,11 @@ grown c = set (c .count-array .result) (start c .args .process) (getD (c .count-
 grown-long : (c : tie.After-count-array) → length (grown c) ≡ 32
 grown-long c = length-set (c .count-array .result) (start c .args .process) _ ∙ array-long (known c)
 
-process-count-requires : tie.Need-process-count-requires
-process-count-requires c κs = search needs
-
-message-count-requires : tie.Need-message-count-requires
-message-count-requires c κs = search needs
-
-count-array-requires : tie.Need-count-array-requires
-count-array-requires c κs = search needs
-
-mul-number : tie.Need-mul-number
-mul-number c = search needs
-
 array-read-number : tie.Need-array-read-number
 array-read-number c = omega (arith, start c .pre .1 .0, known c .read-n, n-few (known c))
 
 add-counts : tie.Need-add-counts
 add-counts c = omega (arith, count-small (known c) _ (start c .pre .1 .0))
-
-mul-counts : tie.Need-mul-counts
-mul-counts c = search needs
 
 array-write-counts : tie.Need-array-write-counts
 array-write-counts c = omega (arith, start c .pre .1 .0, known c .read-n, n-few (known c))
@@ -80,12 +65,6 @@ put-head-requires c κs =
 sends-at-requires : tie.Need-sends-at-requires
 sends-at-requires c κs = omega (arith, n-few (known (counted (c .before .before .before))))
 
-sends-requires : tie.Need-sends-requires
-sends-requires c κs = search needs
-
-mul-copy-numbers : tie.Need-mul-copy-numbers
-mul-copy-numbers c = search needs
-
 copy-numbers-requires : tie.Need-copy-numbers-requires
 copy-numbers-requires c κs =
     let read = counted (head-put c) in
@@ -95,9 +74,6 @@ receipts-at-requires : tie.Need-receipts-at-requires
 receipts-at-requires c κs =
     let read = counted (head-put (c .before .before .before .before)) in
     omega (arith, n-few (known read), m-few (known read))
-
-receipts-requires : tie.Need-receipts-requires
-receipts-requires c κs = search needs
 
 put-receipts-requires : tie.Need-put-receipts-requires
 put-receipts-requires c κs =
@@ -109,9 +85,6 @@ put-receipts-requires c κs =
         omega (arith, start read .pre .1 .1 .1, known read .read-n, known read .read-m, c .before .receipts-at .ensures, head-put put .put-head .kept, c .before .before .before .before .before .copy-numbers .kept),
       ),
     )
-
-same-length : tie.Need-same-length
-same-length c = search needs
 
 returns : tie.Need-returns
 returns c =
@@ -127,23 +100,23 @@ pub put-checkpoint-spec : {M : Type 1} → statement M
 put-checkpoint-spec =
     tie.close
     (tie.spec
-    process-count-requires
-    message-count-requires
-    count-array-requires
-    mul-number
+    (λ c κs. search needs)
+    (λ c κs. search needs)
+    (λ c κs. search needs)
+    (λ c. search needs)
     array-read-number
     add-counts
-    mul-counts
+    (λ c. search needs)
     array-write-counts
     array-share-prefix-counts
     slice-aggregate-put-head
     put-head-requires
     sends-at-requires
-    sends-requires
-    mul-copy-numbers
+    (λ c κs. search needs)
+    (λ c. search needs)
     copy-numbers-requires
     receipts-at-requires
-    receipts-requires
+    (λ c κs. search needs)
     put-receipts-requires
-    same-length
+    (λ c. search needs)
     returns)

@@ -30,18 +30,6 @@ known c = record {
   read-counts = c .count-array .ensures;
 }
 
-process-count-requires : tie.Need-process-count-requires
-process-count-requires c κs = search needs
-
-message-count-requires : tie.Need-message-count-requires
-message-count-requires c κs = search needs
-
-count-array-requires : tie.Need-count-array-requires
-count-array-requires c κs = search needs
-
-mul-sent : tie.Need-mul-sent
-mul-sent c = search needs
-
 array-read-sent : tie.Need-array-read-sent
 array-read-sent c = omega (arith, start c .pre .1 .0, known c .read-n, n-few (known c))
 
@@ -54,9 +42,6 @@ array-share-prefix-counts c = omega (arith, n-few (known (c .before)), array-lon
 slice-aggregate-put-head : tie.Need-slice-aggregate-put-head
 slice-aggregate-put-head c = front-size (known (c .before .before)) _ (array-long (known (c .before .before)))
 
-add-put-head : tie.Need-add-put-head
-add-put-head c = search needs
-
 put-head-requires : tie.Need-put-head-requires
 put-head-requires c κs =
     let read = c .before .before in
@@ -65,24 +50,15 @@ put-head-requires c κs =
 sends-at-requires : tie.Need-sends-at-requires
 sends-at-requires c κs = omega (arith, n-few (known (counted (c .before .before .before))))
 
-sends-requires : tie.Need-sends-requires
-sends-requires c κs = search needs
-
 put-longer-requires : tie.Need-put-longer-requires
 put-longer-requires c κs =
     let read = counted (head-put c) in
     (sends-long (known read) _ (c .sends .ensures), omega (arith, start read .pre .1 .1, known read .read-n, known read .read-m, c .before .sends-at .ensures, head-put c .put-head .kept))
 
-add-receipts-at : tie.Need-add-receipts-at
-add-receipts-at c = search needs
-
 receipts-at-requires : tie.Need-receipts-at-requires
 receipts-at-requires c κs =
     let read = counted (head-put (c .before .before .before .before)) in
     omega (arith, n-few (known read), m-few (known read))
-
-receipts-requires : tie.Need-receipts-requires
-receipts-requires c κs = search needs
 
 put-longer-requires-2 : tie.Need-put-longer-requires-2
 put-longer-requires-2 c κs =
@@ -91,9 +67,6 @@ put-longer-requires-2 c κs =
       receipts-long (known read) _ (c .receipts .ensures),
       omega (arith, start read .pre .1 .1, known read .read-n, known read .read-m, c .before .receipts-at .ensures, head-put put .put-head .kept, c .before .before .before .before .before .put-longer .kept),
     )
-
-same-length : tie.Need-same-length
-same-length c = search needs
 
 returns : tie.Need-returns
 returns c =
@@ -108,22 +81,22 @@ pub put-send-spec : {M : Type 1} → statement M
 put-send-spec =
     tie.close
     (tie.spec
-    process-count-requires
-    message-count-requires
-    count-array-requires
-    mul-sent
+    (λ c κs. search needs)
+    (λ c κs. search needs)
+    (λ c κs. search needs)
+    (λ c. search needs)
     array-read-sent
     sub-sent
     array-share-prefix-counts
     slice-aggregate-put-head
-    add-put-head
+    (λ c. search needs)
     put-head-requires
     sends-at-requires
-    sends-requires
+    (λ c κs. search needs)
     put-longer-requires
-    add-receipts-at
+    (λ c. search needs)
     receipts-at-requires
-    receipts-requires
+    (λ c κs. search needs)
     put-longer-requires-2
-    same-length
+    (λ c. search needs)
     returns)
