@@ -2,8 +2,10 @@
 -- Assumes nothing.
 use mathlib.Core.Bool.{true}
 use mathlib.Core.Path.{_≡_, refl}
-use Rattle.run_table.specs.Checks.{badCount, badLength, badProcessCount, badReceipt, badSend, firstCaught, outside, tableChecks, tableRefusal, toItself, tooManyMessages, tooShort, unknownProcess}
-use Rattle.run_table.specs.Format.{checkpointAt, countAt, countsPart, decode, encode, entriesOf, messageAt, messagesIn, processAt, processesIn, receiptsPart, sendsPart, tableLength}
+use Rattle.run_table.specs.Checks.{badCount, badLength, badProcessCount, badReceipt, badSend, firstCaught, outside, tableChecks, tableRefusal}
+use Rattle.run_table.specs.Checks.{toItself, tooManyMessages, tooShort, unknownProcess}
+use Rattle.run_table.specs.Format.{checkpointAt, countAt, countsPart, decode, encode, entriesOf, messageAt, messagesIn, processAt, processesIn}
+use Rattle.run_table.specs.Format.{receiptsPart, sendsPart}
 use Rattle.run_table.specs.Lists.{any, anyBelow, rows, select, sum, tabulate}
 use Rattle.run_table.specs.Numbers.{u16At, u16Bytes, u16s}
 use Rattle.run_table.specs.Table.{countOf, messageCount, messageOf, processCount}
@@ -13,9 +15,14 @@ use Rattle.process_set.specs.Sets.{highBit, member}
 use Rattle.futures.specs.Steps.{afterRollback, putBack, remaining, stays}
 use Rattle.futures.specs.Sheet.{crosses, holderLine, keepsCheckpoint, keepsMessage, keptCheckpoints, keptMessages, sheet}
 use Rattle.keeper.specs.Answers.{answer, unless}
-use Rattle.keeper.specs.Calls.{fallBackAnswer, keepSheetAnswer, lineOfSetAnswer, recoveryLineAnswer, scratchChecks}
+use Rattle.keeper.specs.Calls.{fallBackAnswer, keepSheetAnswer, keepSheetChecks, lineOfSetAnswer, lineOfSetChecks, recoveryLineAnswer}
 use Rattle.keeper.specs.Cases.{allHold, answerOf, lateReceipt, lateSend, markedCases, sameAnswer, sameBytes, tableA, tableB, tableC, tableD}
 
 pub marked-cases : allHold markedCases ≡ true
-unfolding firstCaught outside tooShort badProcessCount tooManyMessages badLength badCount unknownProcess toItself badSend badReceipt tableChecks tableRefusal processesIn messagesIn tableLength countsPart sendsPart receiptsPart countAt processAt checkpointAt messageAt decode entriesOf encode u16At u16Bytes u16s tabulate any anyBelow processCount messageCount countOf messageOf ceilingOf lineOf recoveryLine single isOrphan lower pass passes sum lineUnder member highBit stays putBack remaining afterRollback holderLine keepsCheckpoint crosses keepsMessage select rows keptCheckpoints keptMessages sheet unless answer recoveryLineAnswer lineOfSetAnswer scratchChecks keepSheetAnswer fallBackAnswer tableA tableB tableC tableD lateReceipt lateSend answerOf sameBytes sameAnswer allHold markedCases
+unfolding firstCaught outside tooShort badProcessCount tooManyMessages badLength badCount unknownProcess toItself badSend badReceipt tableChecks
+    tableRefusal processesIn messagesIn countsPart sendsPart receiptsPart countAt processAt checkpointAt messageAt decode entriesOf encode u16At
+    u16Bytes u16s tabulate any anyBelow processCount messageCount countOf messageOf ceilingOf lineOf recoveryLine single isOrphan lower pass passes
+    sum lineUnder member highBit stays putBack remaining afterRollback holderLine keepsCheckpoint crosses keepsMessage select rows keptCheckpoints
+    keptMessages sheet unless answer recoveryLineAnswer lineOfSetChecks lineOfSetAnswer keepSheetChecks keepSheetAnswer fallBackAnswer tableA tableB
+    tableC tableD lateReceipt lateSend answerOf sameBytes sameAnswer allHold markedCases
 marked-cases = refl

@@ -75,7 +75,8 @@ module _ (table : List ℕ) (none : tableRefusal table ≡ 0) (before after : Li
     read-process =
         ap (u16At after) (omega arith)
         ∙ read (suc (suc n)) (getD ks n d .process) (omega (arith, size))
-        (List·getD-append ps (ss ++ qs) 0 n (omega (arith, sizes .0)) ∙ any-default ps n 0 (d .process) (omega (arith, sizes .0)) ∙ List·getD-map (λ (k : Kept). k .process) ks n d)
+        (List·getD-append ps (ss ++ qs) 0 n (omega (arith, sizes .0)) ∙ any-default ps n 0 (d .process) (omega (arith, sizes .0))
+        ∙ List·getD-map (λ (k : Kept). k .process) ks n d)
         (omega (arith, small (getD ks n d) (listed-at ks n d l) .0))
 
     pub read-state : u16At after (4 + 2 * u16At after 0 + 2 * n) ≡ getD ks n d .state

@@ -1,65 +1,46 @@
 -- The answer of the keep sheet.
---     scratch-kept, scratch-short, scratch-filled    the scratch afterwards, where a check refuses and where none before 16 does
---     sheet-size                                     the length of the sheet, from the two numbers that were counted
+--     short-scratch, long-scratch, scratch-long    15, by the scratch's length
+--     scratch-kept, scratch-filled                 the scratch afterwards, where a check before 16 catches and where none does
 -- Assumes nothing.
-use mathlib.Core.List.{List, _++_}
+use mathlib.Core.List.{List}
 use mathlib.Core.Path.{_≡_, refl, sym, ap, _∙_}
-use Prim.Native.Nat.{ℕ, zero, suc, _+_, _*_, _≤_, _<_}
-use native.Mathlib.Omega.{arith}
-use borrow.Author.Tests.{le-ltb, lt-ltb}
+use Prim.Native.Nat.{ℕ, zero, suc, _*_, _≤_, _<_}
+use borrow.Author.Tests.{le-ltb, lt-ltb, ltb-false}
 use lib.ListN.{length}
-use Rattle.futures.specs.Sheet.{holderLines, keptCheckpoints, keptMessages, sheet}
-use Rattle.keeper.proofs.AnswerLaws.{put-in-front}
-use Rattle.keeper.specs.Calls.{linesUnless, scratchAfter, scratchChecks}
-use Rattle.retention.proofs.SheetLaws.{sheet-length}
-use Rattle.run_table.proofs.CheckLaws.{append-passed, append-stopped, clear, passed, stopped, table-refusals}
+use Rattle.futures.specs.Sheet.{holderLines}
+use Rattle.keeper.proofs.AnswerLaws.{Quiet, put-in-front}
+use Rattle.keeper.proofs.RefusalLaws.{own-caught}
+use Rattle.keeper.specs.Calls.{keepSheetChecks, linesUnless, scratchAfter}
+use Rattle.run_table.proofs.CheckLaws.{areRefusals, caughtBy, clear, passed, quiet, stopped}
 use Rattle.run_table.specs.Checks.{firstCaught, tableChecks, tableRefusal}
 use Rattle.run_table.specs.Format.{decode}
 use Rattle.run_table.specs.Numbers.{putAt}
-use Rattle.run_table.specs.Table.{Table, processCount}
+use Rattle.run_table.specs.Table.{processCount}
 
-module _ (table scratch : List ℕ) where
-  abbrev t : Table
-  t = decode table
+module _ (table : List ℕ) where
+  abbrev square : ℕ
+  square = processCount (decode table) * processCount (decode table)
 
-  abbrev before-16 : ℕ
-  before-16 = firstCaught (tableChecks table ++ scratchChecks t (length scratch))
+  pub long-scratch : (numbers : ℕ) → tableRefusal table ≡ 0 → square ≤ numbers → Quiet (keepSheetChecks table numbers)
+  unfolding keepSheetChecks tableChecks areRefusals
+  long-scratch numbers none long = record { refusals = refl; none = sym (own-caught table _ none (passed _ _ 0 (le-ltb numbers square long) clear)) }
 
-  unchanged : (n : ℕ) → before-16 ≡ suc n → scratch ≡ scratchAfter table scratch
-  unfolding scratchAfter linesUnless
-  unchanged n e = sym (ap (λ (r : ℕ). linesUnless r (holderLines t) scratch) e)
+  pub short-scratch : (numbers : ℕ) → tableRefusal table ≡ 0 → numbers < square → _≡_ {A = ℕ} 15 (firstCaught (keepSheetChecks table numbers))
+  unfolding keepSheetChecks
+  short-scratch numbers none short = own-caught table _ none (stopped _ _ (lt-ltb numbers square short))
 
-  -- a check of the table catches
-  pub scratch-kept : (r : ℕ) → r ≡ tableRefusal table → (r ≡ 0 → ⊥) → scratch ≡ scratchAfter table scratch
-  unfolding tableRefusal
-  scratch-kept zero e nonzero = absurd (nonzero refl)
-  scratch-kept (suc n) e nonzero = unchanged n (append-stopped (tableChecks table) (scratchChecks t (length scratch)) n (sym e))
+  pub scratch-long : (numbers : ℕ) → Quiet (keepSheetChecks table numbers) → square ≤ numbers
+  unfolding keepSheetChecks tableChecks caughtBy
+  scratch-long numbers q = ltb-false numbers square (quiet (keepSheetChecks table numbers) (q .refusals) (q .none) 15)
 
-  module _ (none : tableRefusal table ≡ 0) (n : ℕ) (read : n ≡ processCount t) where
-    past-table : before-16 ≡ firstCaught (scratchChecks t (length scratch))
-    unfolding tableRefusal
-    past-table = append-passed (tableChecks table) (scratchChecks t (length scratch)) (table-refusals table) none
-
-    square : n * n ≡ processCount t * processCount t
-    square = ap (λ (x : ℕ). x * x) read
-
-    -- 15
-    pub short-caught : length scratch < n * n → firstCaught (scratchChecks t (length scratch)) ≡ 15
-    unfolding scratchChecks
-    short-caught short = stopped _ _ (lt-ltb (length scratch) (processCount t * processCount t) (omega (arith, square)))
-
-    pub scratch-short : length scratch < n * n → scratch ≡ scratchAfter table scratch
-    scratch-short short = unchanged 14 (past-table ∙ short-caught short)
-
-    -- the scratch is long enough
-    pub long-passed : n * n ≤ length scratch → firstCaught (scratchChecks t (length scratch)) ≡ 0
-    unfolding scratchChecks
-    long-passed long = passed _ _ 0 (le-ltb (length scratch) (processCount t * processCount t) (omega (arith, square))) clear
-
-    pub scratch-filled : n * n ≤ length scratch → (after : List ℕ) → after ≡ putAt scratch 0 (holderLines t) → after ≡ scratchAfter table scratch
+  module _ (scratch : List ℕ) where
+    pub scratch-kept : (r : ℕ) → r ≡ firstCaught (keepSheetChecks table (length scratch)) → (r ≡ 0 → ⊥) → scratch ≡ scratchAfter table scratch
     unfolding scratchAfter linesUnless
-    scratch-filled long after put =
-        put ∙ put-in-front scratch (holderLines t) ∙ sym (ap (λ (r : ℕ). linesUnless r (holderLines t) scratch) (past-table ∙ long-passed long))
+    scratch-kept zero e nonzero = absurd (nonzero refl)
+    scratch-kept (suc n) e nonzero = ap (λ (r : ℕ). linesUnless r (holderLines (decode table)) scratch) e
 
-pub sheet-size : (t : Table) (kept logged : ℕ) → kept ≡ length (keptCheckpoints t) → logged ≡ length (keptMessages t) → 4 + 4 * kept + 2 * logged ≡ length (sheet t)
-sheet-size t kept logged a b = omega (arith, sheet-length t)
+    pub scratch-filled : Quiet (keepSheetChecks table (length scratch)) → (after : List ℕ) → after ≡ putAt scratch 0 (holderLines (decode table))
+        → after ≡ scratchAfter table scratch
+    unfolding scratchAfter linesUnless
+    scratch-filled q after put =
+        put ∙ put-in-front scratch (holderLines (decode table)) ∙ sym (ap (λ (r : ℕ). linesUnless r (holderLines (decode table)) scratch) (q .none))

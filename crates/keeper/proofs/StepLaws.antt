@@ -1,159 +1,106 @@
--- The checks and the answers of the steps.
---     from-unknown .. send-answers        the checks of a send, one after another
---     process-unknown .. save-answers     the checks of a checkpoint
---     send-passed, save-passed            what holds where none of them catches
---     send-size, save-size, rollback-size the length of the answer
---     send-holds, save-holds, rollback-holds    the answer is an accepted table, the step's
+-- The answers of the steps.
+--     send-bytes, save-bytes, rollback-bytes    the length of the table that a step leaves
+--     send-taken, save-taken, rollback-taken    where no check of the call catches, the step is taken, within the limits
+--     send-known, save-known, save-positions    and what is written stands on known processes and messages
+--     table-holds                               the answer is an accepted table, the step's
 -- Assumes nothing.
-use mathlib.Core.Bool.{true, false, _||_}
+use mathlib.Core.Bool.{false}
 use mathlib.Core.List.{List}
-use mathlib.Core.Path.{_≡_, refl, sym, ap, _∙_, subst⁻¹}
-use Prim.Native.Nat.{ℕ, _+_, _*_, _≤_, _<_}
+use mathlib.Core.Path.{_≡_, refl, sym, ap, _∙_, subst, subst⁻¹}
+use Prim.Native.Nat.{ℕ, _+_, _<_}
 use native.Mathlib.Omega.{arith}
-use borrow.Author.Tests.{eq-eqb, le-leb, leb-false, lt-leb, ne-eqb}
-use lib.Dec.{leb}
+use borrow.Author.Tests.{leb-false}
 use lib.ListN.{length, take, drop}
 use lib.Seq.{take-at}
-use Rattle.futures.proofs.StepLaws.{checkpoint-limits, checkpoint-messages, checkpoint-processes, checkpoint-well-formed, rollback-limits, rollback-processes, rollback-well-formed, send-limits, send-messages, send-processes, send-well-formed, step-taken}
-use Rattle.futures.specs.Steps.{afterCheckpoint, afterRollback, afterSend, badPosition, checkpoint, checkpointChecks, notRising, rollback, send, sendChecks, step}
-use Rattle.keeper.proofs.AnswerLaws.{put-in-front}
+use Rattle.futures.proofs.StepLaws.{checkpoint-known, checkpoint-limits, checkpoint-messages, checkpoint-positions, checkpoint-processes}
+use Rattle.futures.proofs.StepLaws.{rollback-limits, rollback-processes, send-free as free-send, send-limits, send-messages, send-processes}
+use Rattle.futures.proofs.StepLaws.{step-taken, step-well-formed}
+use Rattle.futures.specs.Steps.{Step, afterCheckpoint, afterRollback, afterSend, badPosition, checkpoint, checkpointChecks, rollback, send, sendChecks, step}
+use Rattle.keeper.proofs.AnswerLaws.{Quiet, put-in-front}
+use Rattle.keeper.proofs.RefusalLaws.{front, on-table}
 use Rattle.keeper.specs.Calls.{HoldsTable, saveCallChecks, sendCallChecks}
 use Rattle.run_table.proofs.AcceptLaws.{accepted, accepted-encode, reread}
-use Rattle.run_table.proofs.CheckLaws.{clear, cleared, passed, stopped}
+use Rattle.run_table.proofs.CheckLaws.{caughtBy, quiet}
 use Rattle.run_table.proofs.FormatLaws.{encode-length}
-use Rattle.run_table.specs.Checks.{Accepted, Limits, WellFormed, firstCaught, tableRefusal}
+use Rattle.run_table.specs.Checks.{Accepted, Limits, WellFormed, firstCaught, tableChecks, tableRefusal}
 use Rattle.run_table.specs.Format.{decode, encode, tableLength}
 use Rattle.run_table.specs.Lists.{any}
 use Rattle.run_table.specs.Numbers.{putAt}
-use Rattle.run_table.specs.Table.{Table, countOf, messageCount, processCount}
+use Rattle.run_table.specs.Table.{Table, countOf, messageCount, mostCheckpoints, mostMessages, processCount}
 
--- ---- the checks of a send
-module _ (t : Table) (j i n : ℕ) (read-n : n ≡ processCount t) where
-  pub from-unknown : n ≤ j → _≡_ {A = ℕ} 10 (firstCaught (sendCallChecks t j i))
-  unfolding sendCallChecks sendChecks
-  from-unknown h = sym (stopped _ _ (rw (le-leb (processCount t) j (omega arith))))
+-- ---- the length of the answer
+module _ (t : Table) where
+  pub send-bytes : (j i : ℕ) → length (encode (afterSend t j i)) ≡ tableLength (processCount t) (messageCount t + 1)
+  send-bytes j i = omega (arith, encode-length (afterSend t j i), send-processes t j i, send-messages t j i)
 
-  module _ (from-known : j < n) where
-    pub to-unknown : n ≤ i → _≡_ {A = ℕ} 10 (firstCaught (sendCallChecks t j i))
-    unfolding sendCallChecks sendChecks
-    to-unknown h = sym (stopped _ _ (rw (lt-leb (processCount t) j (omega arith), le-leb (processCount t) i (omega arith))))
+  pub save-bytes : (i : ℕ) (list : List ℕ) → length (encode (afterCheckpoint t i list)) ≡ tableLength (processCount t) (messageCount t)
+  save-bytes i list = omega (arith, encode-length (afterCheckpoint t i list), checkpoint-processes t i list, checkpoint-messages t i list)
 
-    module _ (to-known : i < n) where
-      known : (leb (processCount t) j || leb (processCount t) i) ≡ false
-      known = rw (lt-leb (processCount t) j (omega arith)) (lt-leb (processCount t) i (omega arith))
+  pub rollback-bytes : length (encode (afterRollback t)) ≡ tableLength (processCount t) (messageCount (afterRollback t))
+  rollback-bytes = omega (arith, encode-length (afterRollback t), rollback-processes t)
 
-      pub to-itself : j ≡ i → _≡_ {A = ℕ} 11 (firstCaught (sendCallChecks t j i))
-      unfolding sendCallChecks sendChecks
-      to-itself e = sym (passed _ _ 11 known (stopped _ _ (eq-eqb j i e)))
+-- ---- a step that is taken
+-- The table is accepted, the step leaves this table, and it is within the limits.
+pub record Taken (table : List ℕ) (s : Step) (after : Table) : Type 0 where
+  pub none : tableRefusal table ≡ 0
+  pub gives : step (decode table) s ≡ after
+  pub limits : Limits after
 
-      module _ (two : j ≡ i → ⊥) (m : ℕ) (read-m : m ≡ messageCount t) where
-        pub messages-full : 4096 ≤ m → _≡_ {A = ℕ} 14 (firstCaught (sendCallChecks t j i))
-        unfolding sendCallChecks sendChecks
-        messages-full h = sym (passed _ _ 14 known (passed _ _ 14 (ne-eqb j i two) (stopped _ _ (le-leb 4096 (messageCount t) (omega arith)))))
+module _ (table : List ℕ) where
+  abbrev t : Table
+  t = decode table
 
-        pub send-answers : m < 4096 → _≡_ {A = ℕ} 0 (firstCaught (sendCallChecks t j i))
-        unfolding sendCallChecks sendChecks
-        send-answers h = sym (passed _ _ 0 known (passed _ _ 0 (ne-eqb j i two) (passed _ _ 0 (lt-leb 4096 (messageCount t) (omega arith)) clear)))
+  module _ (j i : ℕ) (q : Quiet (sendCallChecks table j i)) where
+    send-free : firstCaught (sendChecks t j i) ≡ 0
+    unfolding sendCallChecks
+    send-free = front (sendChecks t j i) _ (on-table table _ (q .none) .1)
 
--- ---- the checks of a checkpoint
-module _ (t : Table) (i : ℕ) (list : List ℕ) (n : ℕ) (read-n : n ≡ processCount t) where
-  pub process-unknown : n ≤ i → _≡_ {A = ℕ} 10 (firstCaught (saveCallChecks t i list))
-  unfolding saveCallChecks checkpointChecks
-  process-unknown h = sym (stopped _ _ (le-leb (processCount t) i (omega arith)))
+    pub send-known : j < processCount t
+    send-known = free-send t j i send-free .0
 
-  module _ (process-known : i < n) where
-    known-process : leb (processCount t) i ≡ false
-    known-process = lt-leb (processCount t) i (omega arith)
+    pub send-taken : Taken table (send j i) (afterSend t j i)
+    unfolding sendCallChecks sendChecks tableChecks caughtBy step
+    send-taken =
+        let none = on-table table _ (q .none) .0 in
+        let room = leb-false mostMessages (messageCount t) (quiet (sendCallChecks table j i) (q .refusals) (q .none) 14) in
+        record { none = none; gives = step-taken _ _ _ send-free; limits = send-limits t j i (accepted table none .limits) room }
 
-    pub position-bad : any (badPosition t i) list ≡ true → _≡_ {A = ℕ} 13 (firstCaught (saveCallChecks t i list))
-    unfolding saveCallChecks checkpointChecks
-    position-bad e = sym (passed _ _ 13 known-process (stopped _ _ (rw e)))
+  module _ (i : ℕ) (list : List ℕ) (q : Quiet (saveCallChecks table i list)) where
+    save-free : firstCaught (checkpointChecks t i list) ≡ 0
+    unfolding saveCallChecks
+    save-free = front (checkpointChecks t i list) _ (on-table table _ (q .none) .1)
 
-    module _ (good : any (badPosition t i) list ≡ false) where
-      pub list-bad : notRising list ≡ true → _≡_ {A = ℕ} 13 (firstCaught (saveCallChecks t i list))
-      unfolding saveCallChecks checkpointChecks
-      list-bad e = sym (passed _ _ 13 known-process (stopped _ _ (rw good e)))
+    pub save-known : i < processCount t
+    save-known = checkpoint-known t i list save-free
 
-      module _ (up : notRising list ≡ false) (count : ℕ) (read : count ≡ countOf t i) where
-        free : (any (badPosition t i) list || notRising list) ≡ false
-        free = rw good up
+    pub save-positions : any (badPosition t i) list ≡ false
+    save-positions = checkpoint-positions t i list save-free
 
-        pub states-full : 4096 ≤ count → _≡_ {A = ℕ} 14 (firstCaught (saveCallChecks t i list))
-        unfolding saveCallChecks checkpointChecks
-        states-full h = sym (passed _ _ 14 known-process (passed _ _ 14 free (stopped _ _ (le-leb 4096 (countOf t i) (omega arith)))))
+    pub save-taken : Taken table (checkpoint i list) (afterCheckpoint t i list)
+    unfolding saveCallChecks checkpointChecks tableChecks caughtBy step
+    save-taken =
+        let none = on-table table _ (q .none) .0 in
+        let room = leb-false mostCheckpoints (countOf t i) (quiet (saveCallChecks table i list) (q .refusals) (q .none) 14) in
+        record { none = none; gives = step-taken _ _ _ save-free; limits = checkpoint-limits t i list (accepted table none .limits) room }
 
-        pub save-answers : count < 4096 → _≡_ {A = ℕ} 0 (firstCaught (saveCallChecks t i list))
-        unfolding saveCallChecks checkpointChecks
-        save-answers h = sym (passed _ _ 0 known-process (passed _ _ 0 free (passed _ _ 0 (lt-leb 4096 (countOf t i) (omega arith)) clear)))
-
--- ---- where nothing catches
-pub send-passed : (t : Table) (j i : ℕ) → firstCaught (sendCallChecks t j i) ≡ 0 → (firstCaught (sendChecks t j i) ≡ 0) × (messageCount t < 4096)
-unfolding sendCallChecks sendChecks
-send-passed t j i none =
-    let known = cleared _ _ (omega arith) none in
-    let two = cleared _ _ (omega arith) (known .1) in
-    let free = cleared _ _ (omega arith) (two .1) in
-    (passed _ _ 0 (known .0) (passed _ _ 0 (two .0) clear), leb-false 4096 (messageCount t) (free .0))
-
-pub save-passed : (t : Table) (i : ℕ) (list : List ℕ) → firstCaught (saveCallChecks t i list) ≡ 0
-    → (firstCaught (checkpointChecks t i list) ≡ 0) × (countOf t i < 4096)
-unfolding saveCallChecks checkpointChecks
-save-passed t i list none =
-    let known = cleared _ _ (omega arith) none in
-    let listed = cleared _ _ (omega arith) (known .1) in
-    let free = cleared _ _ (omega arith) (listed .1) in
-    (passed _ _ 0 (known .0) (passed _ _ 0 (listed .0) clear), leb-false 4096 (countOf t i) (free .0))
-
--- ---- the length of the answer, from what was read
-module _ (t : Table) (n m : ℕ) (read-n : n ≡ processCount t) where
-  table-size : (u : Table) → processCount u ≡ processCount t → m ≡ messageCount u → 4 + 2 * n + 8 * m ≡ length (encode u)
-  unfolding tableLength
-  table-size u e e′ = omega (arith, encode-length u)
-
-  pub send-size : (j i : ℕ) → m ≡ messageCount t → 12 + 2 * n + 8 * m ≡ length (encode (afterSend t j i))
-  unfolding tableLength
-  send-size j i e = omega (arith, encode-length (afterSend t j i), send-processes t j i, send-messages t j i)
-
-  pub save-size : (i : ℕ) (list : List ℕ) → m ≡ messageCount t → 4 + 2 * n + 8 * m ≡ length (encode (afterCheckpoint t i list))
-  save-size i list e = table-size (afterCheckpoint t i list) (checkpoint-processes t i list) (e ∙ sym (checkpoint-messages t i list))
-
-  pub rollback-size : m ≡ messageCount (afterRollback t) → 4 + 2 * n + 8 * m ≡ length (encode (afterRollback t))
-  rollback-size e = table-size (afterRollback t) (rollback-processes t) e
+  pub rollback-taken : tableRefusal table ≡ 0 → Taken table rollback (afterRollback t)
+  unfolding step
+  rollback-taken none = record {
+    none = none;
+    gives = refl;
+    limits = rollback-limits t (accepted table none .well-formed) (accepted table none .limits);
+  }
 
 -- ---- the answer as a table
-module _ (t u : Table) (buffer buffer′ : List ℕ) (size : ℕ) where
-  holds : WellFormed t → Limits t → t ≡ u → buffer′ ≡ putAt buffer 0 (encode t) → size ≡ length (encode t) → HoldsTable u buffer′ size
-  holds w l same put e = record {
-    accepted = subst⁻¹ Accepted front (accepted-encode t w l);
-    reads = ap decode front ∙ reread t w l ∙ same;
-  }
-    where
-      front : take size buffer′ ≡ encode t
-      front =
-          ap (take size) (put ∙ put-in-front buffer (encode t)) ∙ take-at (encode t) (drop (length (encode t)) buffer) size (sym e)
+pub table-holds : {table : List ℕ} {s : Step} {after : Table} → Taken table s after → (buffer : List ℕ) {buffer′ : List ℕ} {size : ℕ}
+    → buffer′ ≡ putAt buffer 0 (encode after) → size ≡ length (encode after) → HoldsTable (step (decode table) s) buffer′ size
+table-holds {table} {s} {after} taken buffer {buffer′} {size} put is = record {
+  accepted = subst⁻¹ Accepted first (accepted-encode after well-formed (taken .limits));
+  reads = ap decode first ∙ reread after well-formed (taken .limits) ∙ sym (taken .gives);
+}
+  where
+    well-formed : WellFormed after
+    well-formed = subst WellFormed (taken .gives) (step-well-formed (decode table) (accepted table (taken .none) .well-formed) s)
 
-module _ (table : List ℕ) (none : tableRefusal table ≡ 0) (buffer buffer′ : List ℕ) (size : ℕ) where
-  abbrev here : Table
-  here = decode table
-
-  pub send-holds : (j i : ℕ) → firstCaught (sendCallChecks here j i) ≡ 0 → buffer′ ≡ putAt buffer 0 (encode (afterSend here j i))
-      → size ≡ length (encode (afterSend here j i)) → HoldsTable (step here (send j i)) buffer′ size
-  unfolding step
-  send-holds j i clear put e =
-      let quiet = send-passed here j i clear in
-      holds (afterSend here j i) _ buffer buffer′ size (send-well-formed here j i (accepted table none .well-formed) (quiet .0))
-      (send-limits here j i (accepted table none .limits) (quiet .1)) (sym (step-taken _ _ _ (quiet .0))) put e
-
-  pub save-holds : (i : ℕ) (list : List ℕ) → firstCaught (saveCallChecks here i list) ≡ 0 → buffer′ ≡ putAt buffer 0 (encode (afterCheckpoint here i list))
-      → size ≡ length (encode (afterCheckpoint here i list)) → HoldsTable (step here (checkpoint i list)) buffer′ size
-  unfolding step
-  save-holds i list clear put e =
-      let quiet = save-passed here i list clear in
-      holds (afterCheckpoint here i list) _ buffer buffer′ size (checkpoint-well-formed here i list (accepted table none .well-formed) (quiet .0))
-      (checkpoint-limits here i list (accepted table none .limits) (quiet .1)) (sym (step-taken _ _ _ (quiet .0))) put e
-
-  pub rollback-holds : buffer′ ≡ putAt buffer 0 (encode (afterRollback here)) → size ≡ length (encode (afterRollback here)) → HoldsTable (step here rollback) buffer′ size
-  unfolding step
-  rollback-holds put e =
-      holds (afterRollback here) _ buffer buffer′ size (rollback-well-formed here (accepted table none .well-formed))
-      (rollback-limits here (accepted table none .well-formed) (accepted table none .limits)) refl put e
+    first : take size buffer′ ≡ encode after
+    first = ap (take size) (put ∙ put-in-front buffer (encode after)) ∙ take-at (encode after) (drop (length (encode after)) buffer) size (sym is)

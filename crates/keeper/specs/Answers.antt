@@ -4,7 +4,7 @@ use mathlib.Core.Path.{_≡_}
 use Prim.Native.Nat.{ℕ, zero, suc}
 use lib.Dec.{ltb}
 use lib.ListN.{length, drop}
-use Rattle.run_table.specs.Checks.{Check, firstCaught, tableChecks}
+use Rattle.run_table.specs.Checks.{Check, firstCaught}
 
 -- A call is refused, by the number of a check, or answers with bytes.
 pub data Answer : Type 0 where
@@ -16,11 +16,9 @@ unfoldable pub unless : ℕ → List ℕ → Answer
 unless zero bytes = answered bytes
 unless (suc n) bytes = refused (suc n)
 
--- The answer of a call on a table: checks 1 to 9, the call's own, and at last 16, that the answer buffer is shorter than the
--- answer.
-unfoldable pub answer : List ℕ → List Check → List ℕ → ℕ → Answer
-answer table own bytes room =
-    unless (firstCaught (tableChecks table ++ (own ++ (record { caught = ltb room (length bytes); number = 16 } ∷ [])))) bytes
+-- The answer of a call: its checks, in checking order, and at last 16, that the answer buffer is shorter than the answer.
+unfoldable pub answer : List Check → List ℕ → ℕ → Answer
+answer checks bytes room = unless (firstCaught (checks ++ (record { caught = ltb room (length bytes); number = 16 } ∷ []))) bytes
 
 -- The number returned: 0, or the refusal's.
 unfoldable pub numberOf : Answer → ℕ

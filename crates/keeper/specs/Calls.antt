@@ -5,7 +5,7 @@ use mathlib.Core.Path.{_≡_}
 use Prim.Native.Nat.{ℕ, zero, suc, _+_, _*_, _<_}
 use lib.Dec.{leb, ltb}
 use lib.ListN.{length, take, drop}
-use Rattle.consistency.specs.Ceilings.{Holders, ceilingOf, lineOf, recoveryLine}
+use Rattle.consistency.specs.Ceilings.{lineOf, recoveryLine}
 use Rattle.consistency.specs.Lines.{Latest, at}
 use Rattle.futures.specs.Futures.{CheckpointNeeded, MessageNeeded}
 use Rattle.futures.specs.Sheet.{holderLines, sheet}
@@ -16,39 +16,76 @@ use Rattle.run_table.specs.Checks.{Accepted, Check, firstCaught, tableChecks}
 use Rattle.run_table.specs.Format.{decode, encode}
 use Rattle.run_table.specs.Lists.{tabulate}
 use Rattle.run_table.specs.Numbers.{u16At, u16s}
-use Rattle.run_table.specs.Table.{Table, countOf, messageCount, processCount}
+use Rattle.run_table.specs.Table.{Table, countOf, messageCount, mostCheckpoints, mostMessages, processCount}
 
+-- The checks of a call on a table: the table's, 1 to 9, and then the call's own.
+abbrev pub onTable : List ℕ → List Check → List Check
+onTable table own = tableChecks table ++ own
+
+-- ---- lines
 -- The recovery line of the run: checks 1 to 9, 16.
 unfoldable pub recoveryLineAnswer : List ℕ → ℕ → Answer
-recoveryLineAnswer table room = answer table [] (u16s (recoveryLine (decode table))) room
+recoveryLineAnswer table room = answer (tableChecks table) (u16s (recoveryLine (decode table))) room
 
--- The line of a set: checks 1 to 9, 12, 16.
+-- The checks of the line of a set: 1 to 9; 12, that the set has a bit at N or above.
+unfoldable pub lineOfSetChecks : List ℕ → ℕ → List Check
+lineOfSetChecks table set = onTable table (record { caught = highBit set (processCount (decode table)); number = 12 } ∷ [])
+
+-- The line of a set: these, and 16.
 unfoldable pub lineOfSetAnswer : List ℕ → ℕ → ℕ → Answer
-lineOfSetAnswer table set room =
-    answer table (record { caught = highBit set (processCount (decode table)); number = 12 } ∷ []) (u16s (lineOf (decode table) (member set))) room
+lineOfSetAnswer table set room = answer (lineOfSetChecks table set) (u16s (lineOf (decode table) (member set))) room
 
--- The line that an answer's first n numbers give is the latest consistent one under the ceiling of these holders.
-unfoldable pub HoldsLatest : List ℕ → Holders → List ℕ → Type 0
-HoldsLatest table holds buffer =
-    Latest (decode table .messages) (at (ceilingOf (decode table) holds)) (at (tabulate (processCount (decode table)) (λ p. u16At buffer (2 * p))))
+-- The line that an answer's first N numbers give is the latest consistent one, of the table's messages, under this ceiling.
+unfoldable pub HoldsLatest : List ℕ → List ℕ → List ℕ → Type 0
+HoldsLatest table ceiling buffer =
+    Latest (decode table .messages) (at ceiling) (at (tabulate (processCount (decode table)) (λ p. u16At buffer (2 * p))))
+
+-- ---- the steps
+-- The checks of a send: 1 to 9; 10 and 11; 14, that M is 4,096 already.
+unfoldable pub sendCallChecks : List ℕ → ℕ → ℕ → List Check
+sendCallChecks table from to =
+    onTable table (sendChecks (decode table) from to ++ (record { caught = leb mostMessages (messageCount (decode table)); number = 14 } ∷ []))
+
+-- The table after a send: these, and 16.
+unfoldable pub sendAnswer : List ℕ → ℕ → ℕ → ℕ → Answer
+sendAnswer table from to room = answer (sendCallChecks table from to) (encode (afterSend (decode table) from to)) room
+
+-- The checks of a checkpoint: 1 to 9; 10 and 13; 14, that the count of the process is 4,096 already.
+unfoldable pub saveCallChecks : List ℕ → ℕ → List ℕ → List Check
+saveCallChecks table process list =
+    onTable table (checkpointChecks (decode table) process list ++ (record { caught = leb mostCheckpoints (countOf (decode table) process); number = 14 } ∷ []))
+
+-- The table after a checkpoint: these, and 16.
+unfoldable pub saveAnswer : List ℕ → ℕ → List ℕ → ℕ → Answer
+saveAnswer table process list room = answer (saveCallChecks table process list) (encode (afterCheckpoint (decode table) process list)) room
+
+-- The table after a rollback: checks 1 to 9, 16.
+unfoldable pub fallBackAnswer : List ℕ → ℕ → Answer
+fallBackAnswer table room = answer (tableChecks table) (encode (afterRollback (decode table))) room
+
+-- The first bytes of a buffer are an accepted table, and they read as this one.
+pub record HoldsTable (t : Table) (buffer : List ℕ) (size : ℕ) : Type 0 where
+  pub accepted : Accepted (take size buffer)
+  pub reads : decode (take size buffer) ≡ t
 
 -- ---- the keep sheet
--- 15. The scratch is shorter than N × N numbers.
-unfoldable pub scratchChecks : Table → ℕ → List Check
-scratchChecks t numbers = record { caught = ltb numbers (processCount t * processCount t); number = 15 } ∷ []
+-- The checks of the keep sheet: 1 to 9; 15, that the scratch is shorter than N × N numbers.
+unfoldable pub keepSheetChecks : List ℕ → ℕ → List Check
+keepSheetChecks table numbers =
+    onTable table (record { caught = ltb numbers (processCount (decode table) * processCount (decode table)); number = 15 } ∷ [])
 
--- The keep sheet: checks 1 to 9, 15, 16.
+-- The keep sheet: these, and 16.
 unfoldable pub keepSheetAnswer : List ℕ → ℕ → ℕ → Answer
-keepSheetAnswer table numbers room = answer table (scratchChecks (decode table) numbers) (sheet (decode table)) room
+keepSheetAnswer table numbers room = answer (keepSheetChecks table numbers) (sheet (decode table)) room
 
--- The scratch afterwards, by what the checks before 16 refuse: the lines of single holders, and then what was there; or unchanged.
+-- A scratch by the number of a refusal: the lines, and then what was there; or unchanged.
 unfoldable pub linesUnless : ℕ → List ℕ → List ℕ → List ℕ
 linesUnless zero lines scratch = lines ++ drop (length lines) scratch
 linesUnless (suc n) lines scratch = scratch
 
+-- The scratch afterwards, by what these checks, those before 16, refuse: it has the lines of single holders, or is unchanged.
 unfoldable pub scratchAfter : List ℕ → List ℕ → List ℕ
-scratchAfter table scratch =
-    linesUnless (firstCaught (tableChecks table ++ scratchChecks (decode table) (length scratch))) (holderLines (decode table)) scratch
+scratchAfter table scratch = linesUnless (firstCaught (keepSheetChecks table (length scratch))) (holderLines (decode table)) scratch
 
 -- A sheet in a buffer lists checkpoint c of process i: entry n of its two arrays, for some n below K, is i and c.
 unfoldable pub ListsCheckpoint : List ℕ → ℕ → ℕ → Type 0
@@ -64,30 +101,3 @@ ListsMessage buffer position = (n : ℕ) × (n < u16At buffer 2) × (u16At buffe
 pub record HoldsSheet (t : Table) (buffer : List ℕ) : Type 0 where
   pub checkpoints : (i c : ℕ) → ListsCheckpoint buffer i c ↔ CheckpointNeeded t i c
   pub messages : (k : ℕ) → ListsMessage buffer k ↔ MessageNeeded t k
-
--- ---- the steps
--- Checks 10 and 11; 14, that M is 4,096 already.
-unfoldable pub sendCallChecks : Table → ℕ → ℕ → List Check
-sendCallChecks t from to = sendChecks t from to ++ (record { caught = leb 4096 (messageCount t); number = 14 } ∷ [])
-
--- Checks 10 and 13; 14, that the count of the process is 4,096 already.
-unfoldable pub saveCallChecks : Table → ℕ → List ℕ → List Check
-saveCallChecks t process list = checkpointChecks t process list ++ (record { caught = leb 4096 (countOf t process); number = 14 } ∷ [])
-
--- The table after a send: checks 1 to 9, 10, 11, 14, 16.
-unfoldable pub sendAnswer : List ℕ → ℕ → ℕ → ℕ → Answer
-sendAnswer table from to room = answer table (sendCallChecks (decode table) from to) (encode (afterSend (decode table) from to)) room
-
--- The table after a checkpoint: checks 1 to 9, 10, 13, 14, 16.
-unfoldable pub saveAnswer : List ℕ → ℕ → List ℕ → ℕ → Answer
-saveAnswer table process list room =
-    answer table (saveCallChecks (decode table) process list) (encode (afterCheckpoint (decode table) process list)) room
-
--- The table after a rollback: checks 1 to 9, 16.
-unfoldable pub fallBackAnswer : List ℕ → ℕ → Answer
-fallBackAnswer table room = answer table [] (encode (afterRollback (decode table))) room
-
--- The first bytes of a buffer are an accepted table, and they read as this one.
-pub record HoldsTable (t : Table) (buffer : List ℕ) (size : ℕ) : Type 0 where
-  pub accepted : Accepted (take size buffer)
-  pub reads : decode (take size buffer) ≡ t

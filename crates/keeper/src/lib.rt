@@ -2,29 +2,39 @@
 // number of the first check that catches. On success the answer stands at the front of the answer
 // buffer and its length in `written`; on a refusal nothing lent is changed, but that under 16 the
 // scratch of a keep sheet holds the lines.
+//
+// Each call reads alike: its refusal by the checks before 16, the size of its answer, 16, the answer.
 pub mod refusals;
+pub mod sizes;
 
+use lines::recovery_line;
 use refusals::save_refusal;
 use refusals::send_refusal;
+use refusals::set_refusal;
+use refusals::sheet_refusal;
 use retention::count_checkpoints;
 use retention::count_messages;
 use retention::fill_lines;
 use retention::put_sheet;
 use rollback::count_remaining;
 use rollback::put_rollback;
-use rollback::recovery_line;
 use run_table::checks::check;
-use run_table::parts::message_count;
-use run_table::parts::process_count;
+use sizes::line_size;
+use sizes::rollback_size;
+use sizes::save_size;
+use sizes::send_size;
+use sizes::sheet_size;
 use steps::saving::put_checkpoint;
 use steps::sending::put_send;
 ghost use mathlib.Core.Bool.{true};
 ghost use mathlib.Core.Path.{_≡_};
 ghost use Prim.Native.Nat.{ℕ};
 ghost use lib.ListN.{length};
+ghost use Rattle.consistency.specs.Ceilings.{ceilingOf};
 ghost use Rattle.futures.specs.Steps.{checkpoint, rollback, send, step};
 ghost use Rattle.keeper.specs.Answers.{Yields};
-ghost use Rattle.keeper.specs.Calls.{HoldsLatest, HoldsSheet, HoldsTable, fallBackAnswer, keepSheetAnswer, lineOfSetAnswer, recoveryLineAnswer, saveAnswer, scratchAfter, sendAnswer};
+ghost use Rattle.keeper.specs.Calls.{HoldsLatest, HoldsSheet, HoldsTable, scratchAfter};
+ghost use Rattle.keeper.specs.Calls.{fallBackAnswer, keepSheetAnswer, lineOfSetAnswer, recoveryLineAnswer, saveAnswer, sendAnswer};
 ghost use Rattle.process_set.specs.Sets.{member};
 ghost use Rattle.run_table.specs.Checks.{tableRefusal};
 ghost use Rattle.run_table.specs.Format.{decode};
@@ -42,17 +52,18 @@ pub extern "C" fn keeper_check_table(table: &[u8]) -> u32
 pub extern "C" fn keeper_recovery_line(table: &[u8], answer: &mut [u8], written: &mut usize) -> u32
     ensures outcome { λ r. ⌜ Yields (recoveryLineAnswer (now (table .entry)) (length (now (answer .entry)))) r
         (now (answer .entry)) (now (answer .exit)) (now (written .entry)) (now (written .exit)) ⌝ }
-    ensures latest { λ (r : ℕ). ⌜ (r ≡ 0 → HoldsLatest (now (table .entry)) (λ p. true) (now (answer .exit))) ⌝ }
+    ensures latest { λ (r : ℕ). ⌜ (r ≡ 0 → HoldsLatest (now (table .entry)) (ceilingOf (decode (now (table .entry))) (λ p. true))
+        (now (answer .exit))) ⌝ }
 {
     let refusal = check(table);
     if refusal != 0 {
         return refusal;
     }
-    let size = 2 * process_count(table);
+    let size = line_size(table);
     if answer.len() < size {
         return 16;
     }
-    lines::put_line_of_set(table, 4294967295, answer);
+    lines::put_line_of_set(table, process_set::ALL, answer);
     *written = size;
     0
 }
@@ -67,22 +78,19 @@ pub extern "C" fn keeper_line_of_set(
 ) -> u32
     ensures outcome { λ r. ⌜ Yields (lineOfSetAnswer (now (table .entry)) set (length (now (answer .entry)))) r
         (now (answer .entry)) (now (answer .exit)) (now (written .entry)) (now (written .exit)) ⌝ }
-    ensures latest { λ (r : ℕ). ⌜ (r ≡ 0 → HoldsLatest (now (table .entry)) (member set) (now (answer .exit))) ⌝ }
+    ensures latest { λ (r : ℕ). ⌜ (r ≡ 0 → HoldsLatest (now (table .entry)) (ceilingOf (decode (now (table .entry))) (member set))
+        (now (answer .exit))) ⌝ }
 {
-    let refusal = check(table);
+    let refusal = set_refusal(table, set);
     if refusal != 0 {
         return refusal;
     }
-    let n = process_count(table);
-    if process_set::has_high_bit(set, n) {
-        return 12;
-    }
-    let length = 2 * n;
-    if answer.len() < length {
+    let size = line_size(table);
+    if answer.len() < size {
         return 16;
     }
     lines::put_line_of_set(table, set, answer);
-    *written = length;
+    *written = size;
     0
 }
 
@@ -97,17 +105,14 @@ pub extern "C" fn keeper_send(
 ) -> u32
     ensures outcome { λ r. ⌜ Yields (sendAnswer (now (table .entry)) from to (length (now (answer .entry)))) r
         (now (answer .entry)) (now (answer .exit)) (now (written .entry)) (now (written .exit)) ⌝ }
-    ensures table { λ (r : ℕ). ⌜ (r ≡ 0 → HoldsTable (step (decode (now (table .entry))) (send from to)) (now (answer .exit)) (now (written .exit))) ⌝ }
+    ensures table { λ (r : ℕ). ⌜ (r ≡ 0 → HoldsTable (step (decode (now (table .entry))) (send from to))
+        (now (answer .exit)) (now (written .exit))) ⌝ }
 {
-    let refusal = check(table);
+    let refusal = send_refusal(table, from, to);
     if refusal != 0 {
         return refusal;
     }
-    let caught = send_refusal(table, from, to);
-    if caught != 0 {
-        return caught;
-    }
-    let size = 12 + 2 * process_count(table) + 8 * message_count(table);
+    let size = send_size(table);
     if answer.len() < size {
         return 16;
     }
@@ -128,17 +133,14 @@ pub extern "C" fn keeper_save(
 ) -> u32
     ensures outcome { λ r. ⌜ Yields (saveAnswer (now (table .entry)) process (now (list .entry)) (length (now (answer .entry)))) r
         (now (answer .entry)) (now (answer .exit)) (now (written .entry)) (now (written .exit)) ⌝ }
-    ensures table { λ (r : ℕ). ⌜ (r ≡ 0 → HoldsTable (step (decode (now (table .entry))) (checkpoint process (now (list .entry)))) (now (answer .exit)) (now (written .exit))) ⌝ }
+    ensures table { λ (r : ℕ). ⌜ (r ≡ 0 → HoldsTable (step (decode (now (table .entry))) (checkpoint process (now (list .entry))))
+        (now (answer .exit)) (now (written .exit))) ⌝ }
 {
-    let refusal = check(table);
+    let refusal = save_refusal(table, process, list);
     if refusal != 0 {
         return refusal;
     }
-    let caught = save_refusal(table, process, list);
-    if caught != 0 {
-        return caught;
-    }
-    let size = 4 + 2 * process_count(table) + 8 * message_count(table);
+    let size = save_size(table);
     if answer.len() < size {
         return 16;
     }
@@ -152,7 +154,8 @@ pub extern "C" fn keeper_save(
 pub extern "C" fn keeper_fall_back(table: &[u8], answer: &mut [u8], written: &mut usize) -> u32
     ensures outcome { λ r. ⌜ Yields (fallBackAnswer (now (table .entry)) (length (now (answer .entry)))) r
         (now (answer .entry)) (now (answer .exit)) (now (written .entry)) (now (written .exit)) ⌝ }
-    ensures table { λ (r : ℕ). ⌜ (r ≡ 0 → HoldsTable (step (decode (now (table .entry))) (rollback)) (now (answer .exit)) (now (written .exit))) ⌝ }
+    ensures table { λ (r : ℕ). ⌜ (r ≡ 0 → HoldsTable (step (decode (now (table .entry))) rollback)
+        (now (answer .exit)) (now (written .exit))) ⌝ }
 {
     let refusal = check(table);
     if refusal != 0 {
@@ -160,7 +163,7 @@ pub extern "C" fn keeper_fall_back(table: &[u8], answer: &mut [u8], written: &mu
     }
     let line = recovery_line(table);
     let m = count_remaining(table, line);
-    let size = 4 + 2 * process_count(table) + 8 * m;
+    let size = rollback_size(table, m);
     if answer.len() < size {
         return 16;
     }
@@ -184,18 +187,14 @@ pub extern "C" fn keeper_keep_sheet(
     ensures lines { λ _. ⌜ now (scratch .exit) ≡ scratchAfter (now (table .entry)) (now (scratch .entry)) ⌝ }
     ensures demand { λ (r : ℕ). ⌜ (r ≡ 0 → HoldsSheet (decode (now (table .entry))) (now (answer .exit))) ⌝ }
 {
-    let refusal = check(table);
+    let refusal = sheet_refusal(table, scratch.len());
     if refusal != 0 {
         return refusal;
-    }
-    let n = process_count(table);
-    if scratch.len() < n * n {
-        return 15;
     }
     fill_lines(table, scratch);
     let kept = count_checkpoints(table, scratch);
     let logged = count_messages(table, scratch);
-    let size = 4 + 4 * kept + 2 * logged;
+    let size = sheet_size(kept, logged);
     if answer.len() < size {
         return 16;
     }

@@ -1,18 +1,39 @@
-// The checks of the steps on an accepted table: the number of the first that catches, or 0.
-use run_table::numbers::u16_at;
+// The refusals of the calls: the number of the first check before 16 that catches, or 0. The table's
+// checks come first, so what stands behind them judges an accepted table.
+use process_set::has_high_bit;
+use run_table::checks::check;
+use run_table::format::MOST_CHECKPOINTS;
+use run_table::format::MOST_MESSAGES;
+use run_table::lookups;
 use run_table::parts;
 use steps::saving::bad_position;
 use steps::saving::not_rising;
 ghost use mathlib.Core.Path.{_≡_};
-ghost use Rattle.keeper.specs.Calls.{saveCallChecks, sendCallChecks};
-ghost use Rattle.run_table.specs.Checks.{firstCaught, tableRefusal};
-ghost use Rattle.run_table.specs.Format.{decode};
+ghost use Rattle.keeper.specs.Calls.{keepSheetChecks, lineOfSetChecks, saveCallChecks, sendCallChecks};
+ghost use Rattle.run_table.specs.Checks.{firstCaught};
 
-// A send: 10, 11, 14.
-pub fn send_refusal(table: &[u8], from: u16, to: u16) -> u32
-    requires { ⌜ tableRefusal (now table) ≡ 0 ⌝ }
-    ensures { λ r. ⌜ r ≡ firstCaught (sendCallChecks (decode (now (table .entry))) from to) ⌝ }
+// The line of a set: the table's checks, 12.
+pub fn set_refusal(table: &[u8], set: u32) -> u32
+    ensures { λ r. ⌜ r ≡ firstCaught (lineOfSetChecks (now (table .entry)) set) ⌝ }
 {
+    let refusal = check(table);
+    if refusal != 0 {
+        return refusal;
+    }
+    if has_high_bit(set, parts::process_count(table)) {
+        return 12;
+    }
+    0
+}
+
+// A send: the table's checks, 10, 11, 14.
+pub fn send_refusal(table: &[u8], from: u16, to: u16) -> u32
+    ensures { λ r. ⌜ r ≡ firstCaught (sendCallChecks (now (table .entry)) from to) ⌝ }
+{
+    let refusal = check(table);
+    if refusal != 0 {
+        return refusal;
+    }
     let n = parts::process_count(table);
     if n <= (from as usize) {
         return 10;
@@ -23,20 +44,21 @@ pub fn send_refusal(table: &[u8], from: u16, to: u16) -> u32
     if from == to {
         return 11;
     }
-    let m = parts::message_count(table);
-    if 4096 <= m {
+    if MOST_MESSAGES <= parts::message_count(table) {
         return 14;
     }
     0
 }
 
-// A checkpoint: 10, 13, 14.
+// A checkpoint: the table's checks, 10, 13, 14.
 pub fn save_refusal(table: &[u8], process: u16, list: &[u16]) -> u32
-    requires { ⌜ tableRefusal (now table) ≡ 0 ⌝ }
-    ensures { λ r. ⌜ r ≡ firstCaught (saveCallChecks (decode (now (table .entry))) process (now (list .entry))) ⌝ }
+    ensures { λ r. ⌜ r ≡ firstCaught (saveCallChecks (now (table .entry)) process (now (list .entry))) ⌝ }
 {
-    let n = parts::process_count(table);
-    if n <= (process as usize) {
+    let refusal = check(table);
+    if refusal != 0 {
+        return refusal;
+    }
+    if parts::process_count(table) <= (process as usize) {
         return 10;
     }
     if bad_position(table, process, list) {
@@ -45,9 +67,23 @@ pub fn save_refusal(table: &[u8], process: u16, list: &[u16]) -> u32
     if not_rising(list) {
         return 13;
     }
-    let count = u16_at(parts::counts(table), 2 * (process as usize));
-    if 4096 <= count {
+    if MOST_CHECKPOINTS <= lookups::count(table, process as usize) {
         return 14;
+    }
+    0
+}
+
+// The keep sheet, given the length of the scratch: the table's checks, 15.
+pub fn sheet_refusal(table: &[u8], numbers: usize) -> u32
+    ensures { λ r. ⌜ r ≡ firstCaught (keepSheetChecks (now (table .entry)) numbers) ⌝ }
+{
+    let refusal = check(table);
+    if refusal != 0 {
+        return refusal;
+    }
+    let n = parts::process_count(table);
+    if numbers < n * n {
+        return 15;
     }
     0
 }

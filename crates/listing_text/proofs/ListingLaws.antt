@@ -11,7 +11,6 @@ use mathlib.Core.Path.{_≡_, refl, sym, ap, ap₂, _∙_, subst}
 use Prim.Native.Nat.{ℕ, zero, suc, _+_, _*_, _/_, _≤_, _<_}
 use native.Mathlib.Nat.{div-le-self, mul-le-mul}
 use native.Mathlib.Omega.{arith}
-use borrow.Author.Tests.{le-ltb, lt-ltb}
 use lib.Dec.{ltb}
 use lib.ListN.{length, take, drop, getD, length-append, length-drop, length-take, take-append-drop}
 use lib.Seq.{getD-drop, take-append-seam}
@@ -19,11 +18,12 @@ use Rattle.consistency.proofs.CeilingLaws.{set-length}
 use Rattle.consistency.specs.Ceilings.{recoveryLine}
 use Rattle.consistency.specs.Lines.{at}
 use Rattle.futures.specs.Sheet.{Kept, holderLine, holderLines, keptCheckpoints, keptMessages, sheet}
-use Rattle.keeper.proofs.AnswerLaws.{all-answered, put-in-front, table-refused}
+use Rattle.keeper.proofs.AnswerLaws.{Quiet, answered, put-in-front, refused, too-short}
+use Rattle.keeper.proofs.RefusalLaws.{table-caught}
 use Rattle.keeper.proofs.SheetBytes.{read-kept, read-logged, read-position, read-process, read-state}
-use Rattle.keeper.proofs.SheetLaws.{long-passed, scratch-filled}
-use Rattle.keeper.specs.Answers.{Yields, bufferAfter, lengthAfter, numberOf, unless}
-use Rattle.keeper.specs.Calls.{keepSheetAnswer, scratchAfter, scratchChecks}
+use Rattle.keeper.proofs.SheetLaws.{long-scratch, scratch-filled}
+use Rattle.keeper.specs.Answers.{Yields, answer, bufferAfter, lengthAfter, numberOf, unless}
+use Rattle.keeper.specs.Calls.{keepSheetAnswer, keepSheetChecks, scratchAfter}
 use Rattle.listing_text.proofs.RowLaws.{line-in}
 use Rattle.listing_text.proofs.TextLaws.{Parts, each-rows, overlay-front}
 use Rattle.listing_text.specs.Listing.{checkpointRow, holdRow, lineRow, listing, listingAnswer, listingOf, listingUnless, messageRow, refusedRow, share, shareRow}
@@ -32,9 +32,11 @@ use Rattle.listing_text.specs.Text.{Laid, each, overlay}
 use Rattle.retention.proofs.SheetLaws.{entry-is, holder-length, kept-few, lines-length, lines-stand, sheet-length}
 use Rattle.kept.specs.Scratch.{entryAt}
 use Rattle.run_table.proofs.AcceptLaws.{accepted}
+use Rattle.run_table.proofs.ArrayLaws.{array-front, array-length}
 use Rattle.run_table.proofs.CheckLaws.{areRefusals, clear, passed, stopped}
 use Rattle.run_table.proofs.ListLaws.{rows-ext, tabulate-ext, tabulate-getD}
 use Rattle.run_table.proofs.ReadLaws.{processes-few}
+use Rattle.run_table.specs.Arrays.{arrayOf}
 use Rattle.run_table.specs.Checks.{firstCaught, tableRefusal}
 use Rattle.run_table.specs.Format.{decode}
 use Rattle.run_table.specs.Lists.{rows, sum, tabulate}
@@ -71,28 +73,35 @@ module _ (table scratch bytes : List ℕ) (long : 1024 ≤ length scratch) (room
   lines-room : tableRefusal table ≡ 0 → processCount t * processCount t ≤ length scratch
   lines-room none = omega (arith, long, mul-le-mul (processes-few table none) (processes-few table none))
 
+  calm : tableRefusal table ≡ 0 → Quiet (keepSheetChecks table (length scratch))
+  calm none = long-scratch table (length scratch) none (lines-room none)
+
   answered-by : (none : tableRefusal table ≡ 0) (written : ℕ)
       → Yields (keepSheetAnswer table (length scratch) (length bytes)) 0 bytes (putAt bytes 0 (sheet t)) written (length (sheet t))
-  unfolding keepSheetAnswer scratchChecks areRefusals
+  unfolding keepSheetAnswer
   answered-by none written =
-      all-answered table (scratchChecks t (length scratch)) (sheet t) (length bytes) none refl (long-passed table scratch none (processCount t) refl (lines-room none)) bytes (putAt bytes 0 (sheet t)) written (length (sheet t))
-      (omega (arith, room, sheet-length t, kept-few table none .0, kept-few table none .1)) refl refl
+      answered (keepSheetChecks table (length scratch)) (sheet t) (length bytes) (calm none) refl
+      (omega (arith, room, sheet-length t, kept-few table none .0, kept-few table none .1)) refl
 
-  module _ (r : ℕ) (after scratch′ : List ℕ) (written written′ : ℕ) (y : Yields (keepSheetAnswer table (length scratch) (length bytes)) r bytes after written written′)
-      (filled : scratch′ ≡ scratchAfter table scratch) where
+  module _ (r : ℕ) (after scratch′ : List ℕ) (written written′ : ℕ)
+      (y : Yields (keepSheetAnswer table (length scratch) (length bytes)) r bytes after written written′) (filled : scratch′ ≡ scratchAfter table scratch) where
+    refused-by : (k : ℕ) → tableRefusal table ≡ suc k → Yields (keepSheetAnswer table (length scratch) (length bytes)) (suc k) bytes bytes written written
+    unfolding keepSheetAnswer keepSheetChecks
+    refused-by k e =
+        let some : suc k ≡ 0 → ⊥ = λ z. omega (arith, z) in
+        refused (keepSheetChecks table (length scratch)) (sheet t) (length bytes) (table-caught table _ (sym e) some) some
+
     pub sheet-number : r ≡ tableRefusal table
-    unfolding keepSheetAnswer
     sheet-number = go (tableRefusal table) refl where
       go : (k : ℕ) → tableRefusal table ≡ k → r ≡ k
       go zero e = y .number-is ∙ sym (answered-by e written .number-is)
-      go (suc k) e =
-          y .number-is ∙ sym (table-refused table (scratchChecks t (length scratch)) (sheet t) (length bytes) (suc k) bytes written (sym e) (λ z. omega (arith, z)) .number-is)
+      go (suc k) e = y .number-is ∙ sym (refused-by k e .number-is)
 
     pub sheet-answered : tableRefusal table ≡ 0 → Answered t scratch′ after
     sheet-answered none = record {
       lines-are =
           lines-stand t scratch scratch′ (lines-room none)
-          (filled ∙ sym (scratch-filled table scratch none (processCount t) refl (lines-room none) (putAt scratch 0 (holderLines t)) refl));
+          (filled ∙ sym (scratch-filled table scratch (calm none) (putAt scratch 0 (holderLines t)) refl));
       sheet-is =
           ap (take (length (sheet t))) (y .buffer-is ∙ sym (answered-by none written .buffer-is) ∙ put-in-front bytes (sheet t))
           ∙ take-append-seam (sheet t) (drop (length (sheet t)) bytes);
@@ -117,7 +126,7 @@ module _ (table : List ℕ) (none : tableRefusal table ≡ 0) where
       let few : processCount t₂ ≤ 32 = processes-few table none in
       let size : length (recoveryLine t₂) ≡ processCount t₂ = set-length t₂ (λ p. true) in
       let fits : n ≤ length line = omega (arith, ap length is, array-length (recoveryLine t₂)) in
-      (fits, take-tabulate n line fits ∙ array-numbers (recoveryLine t₂) line n is (omega arith) (omega arith))
+      (fits, array-front (recoveryLine t₂) line n is (omega arith) (omega arith))
 
   module _ (scratch bytes : List ℕ) (h : Answered t₂ scratch bytes) where
     -- the lines of single holders
@@ -224,34 +233,32 @@ module _ (table buffer last : List ℕ) (size written : ℕ) (measured : Laid []
   unfolding overlay
   unchanged = ap (λ (l : List ℕ). l ++ buffer) (measured .contents)
 
-  abbrev refusal : ℕ → ℕ
-  refusal room = firstCaught (record { caught = ltb room (length (listingOf table)); number = 16 } ∷ [])
-
   pub listing-longer : length (last ++ buffer) < size → length buffer < length (listingOf table)
   listing-longer short = omega (arith, short, ap length unchanged, measured .place)
 
+  -- no check but 16
+  no-checks : Quiet []
+  unfolding areRefusals
+  no-checks = record { refusals = refl; none = clear }
+
   pub listing-refused : length (last ++ buffer) < size → Yields (listingAnswer table (length buffer)) 16 buffer (last ++ buffer) written written
-  unfolding listingAnswer unless numberOf bufferAfter lengthAfter
-  listing-refused short =
-      let caught : refusal (length buffer) ≡ 16 = stopped _ _ (lt-ltb (length buffer) (length (listingOf table)) (listing-longer short)) in
-      rw (unchanged, caught) (record { number-is = refl; buffer-is = refl; length-is = refl })
+  unfolding listingAnswer
+  listing-refused short = rw unchanged (too-short [] (listingOf table) (length buffer) no-checks refl (listing-longer short))
 
   pub listing-answered : size ≤ length (last ++ buffer) → (after : List ℕ) (end : ℕ) → Laid (last ++ buffer) after 0 (listingOf table) end
       → Yields (listingAnswer table (length buffer)) 0 buffer after written size
-  unfolding listingAnswer unless numberOf bufferAfter lengthAfter
+  unfolding listingAnswer
   listing-answered enough after end laid =
-      let fits : length (listingOf table) ≤ length buffer = omega (arith, enough, ap length unchanged, measured .place) in
-      let passes : refusal (length buffer) ≡ 0 = passed _ _ _ (le-ltb (length buffer) (length (listingOf table)) fits) clear in
-      rw passes (record {
-        number-is = refl;
-        buffer-is = laid .contents ∙ ap (λ (b : List ℕ). overlay b 0 (listingOf table)) unchanged ∙ overlay-front buffer (listingOf table) fits;
-        length-is = omega (arith, measured .place);
-      })
+      let fits : size ≤ length buffer = omega (arith, enough, ap length unchanged) in
+      let is : size ≡ length (listingOf table) = omega (arith, measured .place) in
+      answered [] (listingOf table) (length buffer) no-checks is fits
+      (laid .contents ∙ ap (λ (b : List ℕ). overlay b 0 (listingOf table)) unchanged ∙ overlay-front buffer (listingOf table) (omega arith)
+      ∙ sym (put-in-front buffer (listingOf table)))
 
 -- an answer ends within the buffer
 answer-inside : (table buffer buffer′ : List ℕ) (written written′ : ℕ) → Yields (listingAnswer table (length buffer)) 0 buffer buffer′ written written′
     → written′ ≤ length buffer′
-unfolding listingAnswer unless numberOf bufferAfter lengthAfter
+unfolding listingAnswer answer unless numberOf bufferAfter lengthAfter
 answer-inside table buffer buffer′ written written′ y = go (ltb (length buffer) (length (listingOf table))) refl where
   text : List ℕ
   text = listingOf table

@@ -1,13 +1,12 @@
 -- The listing (document 01, "The listing program"). Assumes nothing.
 use mathlib.Core.List.{List, [], _∷_, _++_}
 use Prim.Native.Nat.{ℕ, zero, suc, _*_, _/_}
-use lib.Dec.{ltb}
 use lib.ListN.{length}
 use Rattle.consistency.specs.Ceilings.{recoveryLine}
 use Rattle.futures.specs.Sheet.{Kept, holderLine, keptCheckpoints, keptMessages}
-use Rattle.keeper.specs.Answers.{Answer, unless}
+use Rattle.keeper.specs.Answers.{Answer, answer}
 use Rattle.listing_text.specs.Text.{each, row}
-use Rattle.run_table.specs.Checks.{firstCaught, tableRefusal}
+use Rattle.run_table.specs.Checks.{tableRefusal}
 use Rattle.run_table.specs.Format.{decode}
 use Rattle.run_table.specs.Lists.{rows, sum}
 use Rattle.run_table.specs.Table.{Table, processCount}
@@ -58,4 +57,4 @@ listingOf table = listingUnless (tableRefusal table) (listing (decode table))
 
 -- The call's answer: it is refused by 16 where the buffer is shorter than the listing, and by nothing else.
 unfoldable pub listingAnswer : List ℕ → ℕ → Answer
-listingAnswer table room = unless (firstCaught (record { caught = ltb room (length (listingOf table)); number = 16 } ∷ [])) (listingOf table)
+listingAnswer table room = answer [] (listingOf table) room

@@ -3,100 +3,59 @@
 use borrow.Author.Needs.{needs}
 use native.Mathlib.Omega.{arith}
 use mathlib.Core.Path.{_≡_, refl, sym, _∙_}
-use Prim.Native.Nat.{_+_, _*_}
 use denote.Ref.{now}
-use lib.ListN.{length}
-use Rattle.futures.specs.Steps.{afterSend, sendChecks}
-use Rattle.futures.proofs.StepLaws.{send-free}
-use Rattle.keeper.proofs.AnswerLaws.{all-answered, own-caught, room-refused, table-refused}
-use Rattle.keeper.proofs.StepLaws.{send-holds, send-passed, send-size}
+use Rattle.futures.specs.Steps.{sendChecks}
+use Rattle.keeper.proofs.AnswerLaws.{Quiet, answered, refused, sixteen, too-short}
+use Rattle.keeper.proofs.RefusalLaws.{on-table}
+use Rattle.keeper.proofs.StepLaws.{send-bytes, send-known, send-taken, table-holds}
 use Rattle.keeper.specs.Calls.{sendAnswer, sendCallChecks}
 use Rattle.run_table.proofs.CheckLaws.{areRefusals}
-use Rattle.run_table.proofs.ReadLaws.{messages-few, processes-few}
-use Rattle.run_table.specs.Checks.{firstCaught, tableRefusal}
-use Rattle.run_table.specs.Format.{decode, encode}
+use Rattle.run_table.specs.Checks.{tableChecks, tableRefusal}
+use Rattle.run_table.specs.Format.{decode}
 use Rattle.keeper.proofs.keeper_send.Statement.{statement}
 use Rattle.keeper.proofs.keeper_send.Tie as tie
 
--- the table is accepted, from where no check of it caught
-accepted : (c : tie.Else1) → tableRefusal (now (c .before .before .before .before .args .table)) ≡ 0
-accepted c = sym (c .before .check .ensures) ∙ c .if1 .left
+-- no check before 16 caught, so the table is accepted
+abbrev start : tie.Else1 → tie.Start
+start c = c .before .before .before .before
 
--- no check of the step caught
-quiet : (c : tie.Else2) → firstCaught (sendCallChecks (decode (now (c .before .before .before .before .before .before .args .table))) (c .before .before .before .before .before .before .args .from) (c .before .before .before .before .before .before .args .to)) ≡ 0
-quiet c = sym (c .before .send-refusal .ensures) ∙ c .if2 .left
+quiet : (c : tie.Else1) → Quiet (sendCallChecks (now (start c .args .table)) (start c .args .from) (start c .args .to))
+unfolding sendCallChecks sendChecks tableChecks areRefusals
+quiet c = record { refusals = refl; none = sym (c .before .send-refusal .ensures) ∙ c .if1 .left }
 
--- the size of the answer, as it was computed
-size : (c : tie.After-message-count) → 12 + 2 * c .before .process-count .result + 8 * c .message-count .result ≡ length (encode (afterSend (decode (now (c .before .before .before .before .before .before .before .before .args .table))) (c .before .before .before .before .before .before .before .before .args .from) (c .before .before .before .before .before .before .before .before .args .to)))
-size c = send-size _ _ _ (c .before .process-count .ensures) _ _ (c .message-count .ensures)
-
-check-requires : tie.Need-check-requires
-check-requires c κs = search needs
+accepted : (c : tie.Else1) → tableRefusal (now (start c .args .table)) ≡ 0
+unfolding sendCallChecks
+accepted c = on-table _ _ (quiet c .none) .0
 
 returns : tie.Need-returns
 unfolding sendAnswer
-returns c = (table-refused _ _ _ _ _ _ _ (c .before .check .ensures) (c .if1 .taken), (λ e. absurd (c .if1 .taken e)))
+returns c = (refused _ _ _ (c .before .send-refusal .ensures) (c .if1 .taken), λ e. absurd (c .if1 .taken e))
 
-send-refusal-requires : tie.Need-send-refusal-requires
-send-refusal-requires c κs = search needs
+send-size-requires : tie.Need-send-size-requires
+send-size-requires c κs = accepted c
 
 returns-2 : tie.Need-returns-2
 unfolding sendAnswer
-returns-2 c = (own-caught _ _ _ _ (accepted (c .before .before)) _ _ _ (c .before .send-refusal .ensures) (c .if2 .taken), (λ e. absurd (c .if2 .taken e)))
-
-process-count-requires : tie.Need-process-count-requires
-process-count-requires c κs = search needs
-
-mul-size : tie.Need-mul-size
-mul-size c = omega (arith, processes-few _ (accepted (c .before .before .before)), messages-few _ (accepted (c .before .before .before)), c .process-count .ensures)
-
-add-size : tie.Need-add-size
-add-size c = omega (arith, processes-few _ (accepted (c .before .before .before)), messages-few _ (accepted (c .before .before .before)), c .process-count .ensures)
-
-message-count-requires : tie.Need-message-count-requires
-message-count-requires c κs = search needs
-
-mul-size-2 : tie.Need-mul-size-2
-mul-size-2 c = omega (arith, processes-few _ (accepted (c .before .before .before .before)), messages-few _ (accepted (c .before .before .before .before)), c .before .process-count .ensures, c .message-count .ensures)
-
-add-size-2 : tie.Need-add-size-2
-add-size-2 c = omega (arith, processes-few _ (accepted (c .before .before .before .before)), messages-few _ (accepted (c .before .before .before .before)), c .before .process-count .ensures, c .message-count .ensures)
-
-returns-3 : tie.Need-returns-3
-unfolding sendAnswer sendCallChecks sendChecks areRefusals
-returns-3 c =
-    (room-refused _ _ _ _ (accepted (c .before .before .before .before .before)) refl (quiet (c .before .before .before)) _ _ (omega (arith, c .if3 .taken, size (c .before))), (λ e. absurd (omega (arith, e))))
+returns-2 c = (too-short _ _ _ (quiet (c .before .before)) (c .before .send-size .ensures _ _) (c .if2 .taken), sixteen)
 
 put-send-requires : tie.Need-put-send-requires
-put-send-requires c κs = (accepted (c .before .before .before .before .before .before), (send-free _ _ _ (send-passed _ _ _ (quiet (c .before .before .before .before)) .0) .0, omega (arith, c .before .if3 .left, c .before .before .before .process-count .ensures, c .before .before .message-count .ensures)))
+put-send-requires c κs =
+    let sized = c .before .before in
+    let bytes = send-bytes (decode (now (start (sized .before) .args .table))) 0 0 in
+    let is = sized .send-size .ensures 0 0 in
+    (accepted (sized .before), (send-known _ _ _ (quiet (sized .before)), omega (arith, c .before .if2 .left, is, bytes)))
 
-same-length : tie.Need-same-length
-same-length c = search needs
-
-returns-4 : tie.Need-returns-4
-unfolding sendAnswer sendCallChecks sendChecks areRefusals
-returns-4 c =
-    let sized = c .before .before .before .before .before in
-    let none = accepted (sized .before .before .before .before) in (
-      all-answered _ _ _ _ none refl (quiet (sized .before .before)) _ _ _ _ (omega (arith, c .before .before .before .before .if3 .left, size sized)) (c .before .before .put-send .ensures) (size sized),
-      (λ _. send-holds _ none _ _ _ _ _ (quiet (sized .before .before)) (c .before .before .put-send .ensures) (size sized)),
+returns-3 : tie.Need-returns-3
+unfolding sendAnswer
+returns-3 c =
+    let put = c .before .before in
+    let sized = put .before .before .before in
+    let table = put .put-send .ensures in (
+      answered _ _ _ (quiet (sized .before)) (sized .send-size .ensures _ _) (put .before .before .if2 .left) table,
+      λ _. table-holds (send-taken _ _ _ (quiet (sized .before))) _ table (sized .send-size .ensures _ _),
     )
 
 pub keeper-send-spec : {M : Type 1} → statement M
 keeper-send-spec =
     tie.close
-    (tie.spec
-    check-requires
-    returns
-    send-refusal-requires
-    returns-2
-    process-count-requires
-    mul-size
-    add-size
-    message-count-requires
-    mul-size-2
-    add-size-2
-    returns-3
-    put-send-requires
-    same-length
-    returns-4)
+    (tie.spec (λ c κs. search needs) returns send-size-requires returns-2 put-send-requires (λ c. search needs) returns-3)

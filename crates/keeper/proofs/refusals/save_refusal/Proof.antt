@@ -1,71 +1,92 @@
 -- `refusals::save_refusal` meets its contract: the checks, one after another.
 -- Assumes nothing.
 use borrow.Author.Needs.{needs}
-use native.Mathlib.Omega.{arith}
-use mathlib.Core.List.{List}
-use mathlib.Core.Path.{_≡_, sym, ap, _∙_}
-use Prim.Native.Nat.{ℕ}
+use mathlib.Core.Bool.{false, _||_}
+use mathlib.Core.Path.{_≡_, sym, _∙_}
 use denote.Ref.{now}
-use lib.ListN.{length}
-use Rattle.keeper.proofs.StepLaws.{list-bad, position-bad, process-unknown, save-answers, states-full}
-use Rattle.run_table.proofs.ReadLaws.{count-is, counts-size}
-use Rattle.run_table.specs.Format.{countAt, decode}
-use Rattle.run_table.specs.Table.{countOf}
+use lib.Dec.{leb}
+use Rattle.futures.specs.Steps.{badPosition, checkpointChecks, notRising}
+use Rattle.keeper.proofs.RefusalLaws.{first-of, le-read, lt-read, neither, own-caught, read-le, read-lt, second-of, table-caught}
+use Rattle.keeper.specs.Calls.{saveCallChecks}
+use Rattle.run_table.proofs.CheckLaws.{clear, passed, stopped}
+use Rattle.run_table.specs.Checks.{tableRefusal}
+use Rattle.run_table.specs.Format.{decode}
+use Rattle.run_table.specs.Lists.{any}
+use Rattle.run_table.specs.Table.{processCount}
 use Rattle.keeper.proofs.refusals.save_refusal.Statement.{statement}
 use Rattle.keeper.proofs.refusals.save_refusal.Tie as tie
 
--- the count, as it was read
-count : (c : tie.After-u16-at) → c .u16-at .result ≡ countOf (decode (now (c .before .before .before .before .before .before .before .before .before .before .args .table))) (c .before .before .before .before .before .before .before .before .before .before .args .process)
-unfolding countAt
-count c =
-    c .u16-at .ensures ∙ ap (λ (x : List ℕ). countAt x (c .before .before .before .before .before .before .before .before .before .before .args .process)) (c .before .counts .ensures)
-    ∙ count-is _ (c .before .before .before .before .before .before .before .before .before .before .pre) _ (omega (arith, c .before .before .before .before .before .before .before .process-count .ensures, c .before .before .before .before .before .before .if1 .left))
+-- the table is accepted
+accepted : (c : tie.Else1) → tableRefusal (now (c .before .before .before .before .args .table)) ≡ 0
+accepted c = sym (c .before .check .ensures) ∙ c .if1 .left
 
-process-count-requires : tie.Need-process-count-requires
-process-count-requires c κs = search needs
+-- the process is known
+known : (c : tie.Else2)
+    → (let args = c .before .before .before .before .before .before .args in
+    leb (processCount (decode (now (args .table)))) (args .process) ≡ false)
+known c = read-lt (c .before .process-count .ensures) (c .if2 .left)
+
+-- the list is good
+abbrev process : tie.Else4 → tie.Else2
+process c = c .before .before .before .before
+
+listed : (c : tie.Else4)
+    → (let args = process c .before .before .before .before .before .before .args in
+    (any (badPosition (decode (now (args .table))) (args .process)) (now (args .list)) || notRising (now (args .list))) ≡ false)
+listed c =
+    let good = c .before .before in
+    neither _ _ (sym (good .before .bad-position .ensures) ∙ good .if3 .left) (sym (c .before .not-rising .ensures) ∙ c .if4 .left)
 
 returns : tie.Need-returns
-returns c = process-unknown _ _ _ _ (c .before .process-count .ensures) (c .if1 .taken)
-
-bad-position-requires : tie.Need-bad-position-requires
-bad-position-requires c κs = search needs
+unfolding saveCallChecks
+returns c = table-caught _ _ (c .before .check .ensures) (c .if1 .taken)
 
 returns-2 : tie.Need-returns-2
-returns-2 c = position-bad _ _ _ _ (c .before .before .before .process-count .ensures) (c .before .before .if1 .left) (sym (c .before .bad-position .ensures) ∙ c .if2 .taken)
-
-not-rising-requires : tie.Need-not-rising-requires
-not-rising-requires c κs = search needs
+unfolding saveCallChecks checkpointChecks
+returns-2 c = own-caught _ _ (accepted (c .before .before)) (stopped _ _ (read-le (c .before .process-count .ensures) (c .if2 .taken)))
 
 returns-3 : tie.Need-returns-3
-returns-3 c = list-bad _ _ _ _ (c .before .before .before .before .before .process-count .ensures) (c .before .before .before .before .if1 .left) (sym (c .before .before .before .bad-position .ensures) ∙ c .before .before .if2 .left) (sym (c .before .not-rising .ensures) ∙ c .if3 .taken)
-
-counts-requires : tie.Need-counts-requires
-counts-requires c κs = search needs
-
-mul-u16-at : tie.Need-mul-u16-at
-mul-u16-at c = search needs
-
-u16-at-requires : tie.Need-u16-at-requires
-u16-at-requires c κs = omega (arith, counts-size _ (c .before .before .before .before .before .before .before .before .before .pre), ap length (c .counts .ensures), c .before .before .before .before .before .before .process-count .ensures, c .before .before .before .before .before .if1 .left)
+unfolding saveCallChecks checkpointChecks
+returns-3 c =
+    let first = c .before .before in
+    own-caught _ _ (accepted (first .before .before))
+    (passed _ _ _ (known first) (stopped _ _ (first-of _ _ (sym (c .before .bad-position .ensures) ∙ c .if3 .taken))))
 
 returns-4 : tie.Need-returns-4
-returns-4 c = states-full _ _ _ _ (c .before .before .before .before .before .before .before .before .process-count .ensures) (c .before .before .before .before .before .before .before .if1 .left) (sym (c .before .before .before .before .before .before .bad-position .ensures) ∙ c .before .before .before .before .before .if2 .left) (sym (c .before .before .before .before .not-rising .ensures) ∙ c .before .before .before .if3 .left) _ (count (c .before)) (c .if4 .taken)
+unfolding saveCallChecks checkpointChecks
+returns-4 c =
+    let good = c .before .before in
+    let first = good .before .before in
+    own-caught _ _ (accepted (first .before .before))
+    (passed _ _ _ (known first)
+    (stopped _ _ (second-of _ _ (sym (good .before .bad-position .ensures) ∙ good .if3 .left) (sym (c .before .not-rising .ensures) ∙ c .if4 .taken))))
 
 returns-5 : tie.Need-returns-5
-returns-5 c = save-answers _ _ _ _ (c .before .before .before .before .before .before .before .before .process-count .ensures) (c .before .before .before .before .before .before .before .if1 .left) (sym (c .before .before .before .before .before .before .bad-position .ensures) ∙ c .before .before .before .before .before .if2 .left) (sym (c .before .before .before .before .not-rising .ensures) ∙ c .before .before .before .if3 .left) _ (count (c .before)) (c .if4 .left)
+unfolding saveCallChecks checkpointChecks
+returns-5 c =
+    let list = c .before .before in
+    own-caught _ _ (accepted (process list .before .before))
+    (passed _ _ _ (known (process list)) (passed _ _ _ (listed list) (stopped _ _ (le-read (c .before .count .ensures) (c .if5 .taken)))))
+
+returns-6 : tie.Need-returns-6
+unfolding saveCallChecks checkpointChecks
+returns-6 c =
+    let list = c .before .before in
+    own-caught _ _ (accepted (process list .before .before))
+    (passed _ _ _ (known (process list)) (passed _ _ _ (listed list) (passed _ _ _ (lt-read (c .before .count .ensures) (c .if5 .left)) clear)))
 
 pub save-refusal-spec : {M : Type 1} → statement M
 save-refusal-spec =
     tie.close
     (tie.spec
-    process-count-requires
+    (λ c κs. search needs)
     returns
-    bad-position-requires
+    (λ c κs. search needs)
     returns-2
-    not-rising-requires
+    (λ c κs. search needs)
     returns-3
-    counts-requires
-    mul-u16-at
-    u16-at-requires
+    (λ c κs. search needs)
     returns-4
-    returns-5)
+    (λ c κs. search needs)
+    returns-5
+    returns-6)

@@ -1,0 +1,64 @@
+-- The refusals of the calls on a table: the table's checks, and behind them the call's own.
+--     table-caught, own-caught    the call's refusal, where the table is refused and where it is accepted
+--     on-table                    where no check of the call catches, none of the table's does and none of its own
+--     front                       the same of the first part of a list
+--     first-of, second-of, neither    a check of two tests
+--     read-le, read-lt, le-read, lt-read    a test of a number, by what was read
+-- Assumes nothing.
+use mathlib.Core.Bool.{Bool, true, false, _||_}
+use mathlib.Core.List.{List, _++_}
+use mathlib.Core.Path.{_≡_, refl, sym, _∙_}
+use Prim.Native.Nat.{ℕ, zero, suc, _≤_, _<_}
+use native.Mathlib.Omega.{arith}
+use borrow.Author.Tests.{le-leb, lt-leb}
+use lib.Dec.{leb}
+use Rattle.keeper.proofs.AnswerLaws.{caught-first}
+use Rattle.keeper.specs.Calls.{onTable}
+use Rattle.run_table.proofs.CheckLaws.{append-passed, append-stopped, table-refusals}
+use Rattle.run_table.specs.Checks.{Check, firstCaught, tableChecks, tableRefusal}
+
+pub front : (xs ys : List Check) → firstCaught (xs ++ ys) ≡ 0 → firstCaught xs ≡ 0
+front xs ys none = go (firstCaught xs) refl
+  where
+    go : (k : ℕ) → firstCaught xs ≡ k → firstCaught xs ≡ 0
+    go zero e = e
+    go (suc n) e = absurd (omega (arith, append-stopped xs ys n e))
+
+module _ (table : List ℕ) (own : List Check) where
+  pub table-caught : {r : ℕ} → r ≡ tableRefusal table → (r ≡ 0 → ⊥) → r ≡ firstCaught (onTable table own)
+  unfolding tableRefusal
+  table-caught e nonzero = caught-first (tableChecks table) own _ e nonzero
+
+  pub own-caught : {n : ℕ} → tableRefusal table ≡ 0 → firstCaught own ≡ n → n ≡ firstCaught (onTable table own)
+  unfolding tableRefusal
+  own-caught none e = sym (append-passed (tableChecks table) own (table-refusals table) none ∙ e)
+
+  pub on-table : firstCaught (onTable table own) ≡ 0 → (tableRefusal table ≡ 0) × (firstCaught own ≡ 0)
+  unfolding tableRefusal
+  on-table quiet =
+      let none = front (tableChecks table) own quiet in
+      (none, sym (append-passed (tableChecks table) own (table-refusals table) none) ∙ quiet)
+
+module _ (a b : Bool) where
+  pub first-of : a ≡ true → (a || b) ≡ true
+  first-of e = rw e
+
+  pub second-of : a ≡ false → b ≡ true → (a || b) ≡ true
+  second-of e e′ = rw e e′
+
+  pub neither : a ≡ false → b ≡ false → (a || b) ≡ false
+  neither e e′ = rw e e′
+
+-- n is what was read of m
+module _ {n m i : ℕ} (read : n ≡ m) where
+  pub read-le : n ≤ i → leb m i ≡ true
+  read-le h = le-leb m i (omega arith)
+
+  pub read-lt : i < n → leb m i ≡ false
+  read-lt h = lt-leb m i (omega arith)
+
+  pub le-read : i ≤ n → leb i m ≡ true
+  le-read h = le-leb i m (omega arith)
+
+  pub lt-read : n < i → leb i m ≡ false
+  lt-read h = lt-leb i m (omega arith)

@@ -1,0 +1,40 @@
+-- `refusals::set_refusal` meets its contract: the checks, one after another.
+-- Assumes nothing.
+use borrow.Author.Needs.{needs}
+use mathlib.Core.Path.{_≡_, sym, ap, _∙_}
+use denote.Ref.{now}
+use Rattle.keeper.proofs.RefusalLaws.{own-caught, table-caught}
+use Rattle.keeper.specs.Calls.{lineOfSetChecks}
+use Rattle.process_set.specs.Sets.{highBit}
+use Rattle.run_table.proofs.CheckLaws.{clear, passed, stopped}
+use Rattle.run_table.specs.Checks.{tableRefusal}
+use Rattle.run_table.specs.Format.{decode}
+use Rattle.run_table.specs.Table.{processCount}
+use Rattle.keeper.proofs.refusals.set_refusal.Statement.{statement}
+use Rattle.keeper.proofs.refusals.set_refusal.Tie as tie
+
+-- the table is accepted
+accepted : (c : tie.Else1) → tableRefusal (now (c .before .before .before .args .table)) ≡ 0
+accepted c = sym (c .before .check .ensures) ∙ c .if1 .left
+
+-- 12, as it was answered
+twelve : (c : tie.After-has-high-bit)
+    → (let args = c .before .before .before .before .before .args in
+    highBit (args .set) (processCount (decode (now (args .table)))) ≡ c .has-high-bit .result)
+twelve c = sym (c .has-high-bit .ensures ∙ ap (highBit _) (c .before .process-count .ensures))
+
+returns : tie.Need-returns
+unfolding lineOfSetChecks
+returns c = table-caught _ _ (c .before .check .ensures) (c .if1 .taken)
+
+returns-2 : tie.Need-returns-2
+unfolding lineOfSetChecks
+returns-2 c = own-caught _ _ (accepted (c .before .before .before)) (stopped _ _ (twelve (c .before) ∙ c .if2 .taken))
+
+returns-3 : tie.Need-returns-3
+unfolding lineOfSetChecks
+returns-3 c = own-caught _ _ (accepted (c .before .before .before)) (passed _ _ _ (twelve (c .before) ∙ c .if2 .left) clear)
+
+pub set-refusal-spec : {M : Type 1} → statement M
+set-refusal-spec =
+    tie.close (tie.spec (λ c κs. search needs) returns (λ c κs. search needs) (λ c κs. search needs) returns-2 returns-3)

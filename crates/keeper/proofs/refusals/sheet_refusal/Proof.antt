@@ -1,0 +1,44 @@
+-- `refusals::sheet_refusal` meets its contract: the checks, one after another.
+-- Assumes nothing.
+use borrow.Author.Needs.{needs}
+use native.Mathlib.Nat.{mul-le-mul}
+use native.Mathlib.Omega.{arith}
+use mathlib.Core.Path.{_≡_, sym, ap, _∙_}
+use Prim.Native.Nat.{ℕ, _*_, _≤_}
+use denote.Ref.{now}
+use Rattle.keeper.proofs.RefusalLaws.{table-caught}
+use Rattle.keeper.proofs.SheetLaws.{long-scratch, short-scratch}
+use Rattle.keeper.specs.Calls.{keepSheetChecks}
+use Rattle.run_table.proofs.ReadLaws.{processes-few}
+use Rattle.run_table.specs.Checks.{tableRefusal}
+use Rattle.keeper.proofs.refusals.sheet_refusal.Statement.{statement}
+use Rattle.keeper.proofs.refusals.sheet_refusal.Tie as tie
+
+-- the table is accepted
+accepted : (c : tie.Else1) → tableRefusal (now (c .before .before .before .args .table)) ≡ 0
+accepted c = sym (c .before .check .ensures) ∙ c .if1 .left
+
+-- N, as it was read, is small
+few : (c : tie.After-process-count) → c .process-count .result ≤ 32
+few c = omega (arith, c .process-count .ensures, processes-few _ (accepted (c .before)))
+
+returns : tie.Need-returns
+unfolding keepSheetChecks
+returns c = table-caught _ _ (c .before .check .ensures) (c .if1 .taken)
+
+mul-if2 : tie.Need-mul-if2
+mul-if2 c = omega (arith, mul-le-mul (few c) (few c))
+
+returns-2 : tie.Need-returns-2
+returns-2 c =
+    let read = c .before in
+    short-scratch _ _ (accepted (read .before)) (omega (arith, c .if2 .taken, ap (λ (n : ℕ). n * n) (read .process-count .ensures)))
+
+returns-3 : tie.Need-returns-3
+returns-3 c =
+    let read = c .before in
+    sym (long-scratch _ _ (accepted (read .before)) (omega (arith, c .if2 .left, ap (λ (n : ℕ). n * n) (read .process-count .ensures))) .none)
+
+pub sheet-refusal-spec : {M : Type 1} → statement M
+sheet-refusal-spec =
+    tie.close (tie.spec (λ c κs. search needs) returns (λ c κs. search needs) mul-if2 returns-2 returns-3)

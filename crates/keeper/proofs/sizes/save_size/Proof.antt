@@ -1,0 +1,14 @@
+-- `sizes::save_size` meets its contract: an accepted table is as long as the format says, and a checkpoint leaves its sizes.
+-- Assumes nothing.
+use mathlib.Core.Path.{sym, _∙_}
+use Rattle.keeper.proofs.StepLaws.{save-bytes}
+use Rattle.run_table.proofs.ReadLaws.{whole}
+use Rattle.keeper.proofs.sizes.save_size.Statement.{statement}
+use Rattle.keeper.proofs.sizes.save_size.Tie as tie
+
+returns : tie.Need-returns
+returns c process list = whole _ (c .pre) ∙ sym (save-bytes _ process list)
+
+pub save-size-spec : {M : Type 1} → statement M
+save-size-spec =
+    tie.close (tie.spec returns)
