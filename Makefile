@@ -3,6 +3,8 @@
 # make archives the static libraries: target/staticlib/libkeeper.a, librun_table.a and liblisting_text.a
 # make differential-tests  the library beside the second implementation: CALLS=n for more calls, SCOPES=more for larger scopes
 # make fuzz     runs the fuzzer for FUZZ_SECONDS (60); needs clang
+# make refusal-tests  every list of refusals against docs/refusals.txt
+# make rust-lint  the layout of all Rust code, and clippy's warnings
 # make check    proves what has changed and runs the test programs: quicker, and no verdict
 # make tools    builds the command keeper, target/cargo/release/keeper
 # make bench    the archive's times beside plain C, Rust and work lists, written to docs/BENCHMARKS.md
@@ -11,7 +13,7 @@ SHELL := /bin/sh
 .DEFAULT_GOAL := help
 .PHONY: help list program test check format reference-tests corpus-tests
 .PHONY: archives c-tests install uninstall install-test tools tools-tests
-.PHONY: binding-tests differential-tests differential-faults fuzz fuzz-tools fuzz-replay bench
+.PHONY: refusal-tests rust-lint binding-tests differential-tests differential-faults fuzz fuzz-tools fuzz-replay bench
 
 help:
 	@sed -n 's/^# \(make .*\)/\1/p' Makefile
@@ -33,7 +35,7 @@ program: need-rt
 	    { line[++n] = $$0 } \
 	    /^rt: .* proved \([0-9]/ { print >"/dev/stderr" }'
 
-test: need-rt need-gcc need-cargo format reference-tests corpus-tests c-tests install-test binding-tests tools-tests differential-tests fuzz-replay
+test: need-rt need-gcc need-cargo format refusal-tests reference-tests corpus-tests c-tests install-test rust-lint binding-tests tools-tests differential-tests fuzz-replay
 	@rt ci
 
 check: need-rt
@@ -55,6 +57,12 @@ reference-tests: need-cargo
 	    target/cargo/release/cases <crates/$$c/stdin | cmp - crates/$$c/stdout || { echo "$$c: stdout is not what the second implementation answers"; exit 1; }; \
 	    echo "$$c: the expected output is the second implementation's"; \
 	done
+
+# Every list of refusals, in whatever language, against docs/refusals.txt; and that a difference is found.
+refusal-tests:
+	@mkdir -p target/tests
+	@sh tests/refusals/compare.sh
+	@sh tests/refusals/must_fail.sh target/tests
 
 # The archives of the libraries. Each is proved as it is written, every time, so it is done again only
 # where a source is newer. One rt at a time: it shares target/, and takes all processors itself.
@@ -116,9 +124,25 @@ install-test: need-gcc archives program tools
 corpus-tests: program
 	@sh tests/corpus/run.sh target/bin/listing
 
-# The Rust binding: its doc tests on example A.
+# The layout of all Rust code, and clippy with no warning let through. Each is left out, in a line, where it is not there.
+RUST_FOLDERS := $(patsubst %/Cargo.toml,%,$(sort $(shell find bench bindings fuzz tests tools -name target -prune -o -name Cargo.toml -print)))
+rust-lint: archives need-cargo
+	@if cargo fmt --version >/dev/null 2>&1; then \
+	    for f in $(RUST_FOLDERS); do (cd $$f && cargo fmt --check) || { echo "$$f: cargo fmt lays it out otherwise"; exit 1; }; done; \
+	    echo "layout of $(words $(RUST_FOLDERS)) Rust folders: as cargo fmt has it"; \
+	else echo "cargo fmt is missing: the layout of the Rust code was not looked at"; fi
+	@if cargo clippy --version >/dev/null 2>&1; then \
+	    for f in $(RUST_FOLDERS); do \
+	        (cd $$f && cargo clippy --quiet --all-targets --all-features --target-dir $(CURDIR)/target/cargo -- -D warnings) || { echo "$$f: clippy warns"; exit 1; }; \
+	    done; \
+	    echo "clippy has no warning in $(words $(RUST_FOLDERS)) Rust folders"; \
+	else echo "cargo clippy is missing: it did not look at the Rust code"; fi
+
+# The Rust binding: its doc tests on example A, with all its features; and that it builds with none of them.
 binding-tests: archives need-cargo
-	@cd bindings/rust && $(CARGO) test --release --target-dir ../../target/cargo >../../target/tests/binding.log 2>&1 || { cat ../../target/tests/binding.log; exit 1; }
+	@mkdir -p target/tests
+	@cd bindings/rust && $(CARGO) build --release --target-dir ../../target/cargo
+	@cd bindings/rust && $(CARGO) test --release --all-features --target-dir ../../target/cargo >../../target/tests/binding.log 2>&1 || { cat ../../target/tests/binding.log; exit 1; }
 	@awk '/^test result/ { n += $$4 } END { print n " tests of the Rust binding passed" }' target/tests/binding.log
 
 # Every call of the library beside the second implementation: tables by chance, at the limits, damaged, chains
@@ -140,7 +164,7 @@ differential-faults: archives need-cargo need-gcc
 FUZZ_SECONDS = 60
 FUZZ_SOURCES = fuzz/target.c fuzz/model.c target/staticlib/libkeeper.a
 fuzz-replay: archives need-gcc
-	@gcc -std=c11 -Wall -Wextra -Werror -O2 -o target/tests/fuzz_replay fuzz/replay.c $(FUZZ_SOURCES)
+	@gcc -std=c11 -Wall -Wextra -Werror -O2 -Iinclude -o target/tests/fuzz_replay fuzz/replay.c $(FUZZ_SOURCES)
 	@target/tests/fuzz_replay fuzz/corpus/*
 
 fuzz-tools:
@@ -148,7 +172,7 @@ fuzz-tools:
 
 fuzz: fuzz-tools archives
 	@mkdir -p target/fuzz/corpus
-	@clang -std=c11 -Wall -Wextra -g -O2 -fsanitize=fuzzer,address,undefined -fno-sanitize-recover=undefined -o target/fuzz/fuzz $(FUZZ_SOURCES) || { echo "clang can't build with -fsanitize=fuzzer: its runtime is missing (Debian: libclang-rt-14-dev)" >&2; exit 1; }
+	@clang -std=c11 -Wall -Wextra -g -O2 -Iinclude -fsanitize=fuzzer,address,undefined -fno-sanitize-recover=undefined -o target/fuzz/fuzz $(FUZZ_SOURCES) || { echo "clang can't build with -fsanitize=fuzzer: its runtime is missing (Debian: libclang-rt-14-dev)" >&2; exit 1; }
 	@target/fuzz/fuzz -max_total_time=$(FUZZ_SECONDS) -max_len=1500 -print_final_stats=1 -artifact_prefix=target/fuzz/ target/fuzz/corpus fuzz/corpus
 
 # The command keeper over the proved archives, and its tests; the corpus once more, through the command.

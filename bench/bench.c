@@ -21,7 +21,7 @@
 #define CALLGRIND_DUMP_STATS_AT(label) ((void)(label))
 #endif
 
-enum { MOST_TABLE = 4 + 2 * MOST_PROCESSES + 8 * MOST_MESSAGES, MOST_ANSWER = MOST_TABLE + 64, MOST_ROWS = 64 };
+enum { MOST_ANSWER = KEEPER_LARGEST_TABLE + 64, MOST_ROWS = 64 };
 
 /* ------------------------------------------------------------------------------------------------- */
 /* The implementations. */
@@ -30,11 +30,11 @@ enum { ARCHIVE, PLAIN, BARE, RUST, MARKS, RANGES, IMPLEMENTATIONS };
 
 struct implementation {
     const char *name;
-    SHEET((*keep_sheet));
-    LINE((*recovery_line));
-    LINE((*fall_back));
-    SEND((*send));
-    SAVE((*save));
+    __typeof__(keeper_keep_sheet) *keep_sheet;
+    __typeof__(keeper_recovery_line) *recovery_line;
+    __typeof__(keeper_fall_back) *fall_back;
+    __typeof__(keeper_send) *send;
+    __typeof__(keeper_save) *save;
 };
 
 static const struct implementation implementations[IMPLEMENTATIONS] = {
@@ -68,11 +68,11 @@ enum {
 struct row {
     char label[64], path[256];
     bool history;                  /* a row of the second goal; its passes are few, so it is also looked at closely */
-    uint8_t table[MOST_TABLE], shorter[MOST_TABLE];
+    uint8_t table[KEEPER_LARGEST_TABLE], shorter[KEEPER_LARGEST_TABLE];
     size_t length, shorter_length, n, m;
-    uint16_t saver, list[MOST_MESSAGES];
+    uint16_t saver, list[KEEPER_MOST_MESSAGES];
     size_t entries;
-    bool propagates[MOST_PROCESSES];               /* the single holders whose lines take passes */
+    bool propagates[KEEPER_MOST_PROCESSES];        /* the single holders whose lines take passes */
     size_t propagating;
     size_t kept, logged, kept_before, logged_before;
     double passes_of_holders, passes_of_recovery;
@@ -90,7 +90,7 @@ static struct row rows[MOST_ROWS];
 static size_t row_count;
 
 static uint8_t answer[MOST_ANSWER];
-static uint16_t scratch[MOST_PROCESSES * MOST_PROCESSES];
+static uint16_t scratch[KEEPER_SCRATCH_NUMBERS];
 static size_t written;
 
 static void stop(const char *format, ...)
@@ -159,7 +159,7 @@ static void read_table(struct row *row)
     for (size_t p = 0; p < row->n; p++)
         row->propagating += row->propagates[p];
     /* For a save: the process that most messages wait for, and all of these. */
-    size_t waiting[MOST_PROCESSES] = {0};
+    size_t waiting[KEEPER_MOST_PROCESSES] = {0};
     for (size_t k = 0; k < row->m; k++)
         if (number_at(table + receipts + 4 * k + 2) == 0)
             waiting[number_at(table + receipts + 4 * k)]++;
@@ -175,7 +175,7 @@ static void read_table(struct row *row)
 static void compare(struct row *row)
 {
     static uint8_t first_answer[MOST_ANSWER];
-    static uint16_t first_scratch[MOST_PROCESSES * MOST_PROCESSES];
+    static uint16_t first_scratch[KEEPER_SCRATCH_NUMBERS];
     for (int c = 0; c < CALLS; c++) {
         size_t first_written = 0;
         for (int w = 0; w < IMPLEMENTATIONS; w++) {
@@ -678,10 +678,10 @@ static struct range range_of(double (*figure)(const struct row *))
     return range;
 }
 
-static double check_of_most(const struct row *row) { return row->m == MOST_MESSAGES ? 1e6 * row->here.part[CHECK_OF_ARCHIVE] : 0; }
-static double c_check_of_most(const struct row *row) { return row->m == MOST_MESSAGES ? 1e6 * row->here.part[CHECK_OF_C] : 0; }
-static double send_of_most(const struct row *row) { return row->m == MOST_MESSAGES ? 1e6 * row->here.times[SEND_CALL][ARCHIVE].median : 0; }
-static double send_without_checks(const struct row *row) { return row->m == MOST_MESSAGES ? 1e6 * row->here.times[SEND_CALL][BARE].median : 0; }
+static double check_of_most(const struct row *row) { return row->m == KEEPER_MOST_MESSAGES ? 1e6 * row->here.part[CHECK_OF_ARCHIVE] : 0; }
+static double c_check_of_most(const struct row *row) { return row->m == KEEPER_MOST_MESSAGES ? 1e6 * row->here.part[CHECK_OF_C] : 0; }
+static double send_of_most(const struct row *row) { return row->m == KEEPER_MOST_MESSAGES ? 1e6 * row->here.times[SEND_CALL][ARCHIVE].median : 0; }
+static double send_without_checks(const struct row *row) { return row->m == KEEPER_MOST_MESSAGES ? 1e6 * row->here.times[SEND_CALL][BARE].median : 0; }
 static double rest_ratio(const struct row *row) { return row->history ? rest_part(row, true) / rest_part(row, false) : 0; }
 static double lines_ratio(const struct row *row) { return row->history && row->propagating > 0 ? lines_part(row, true) / lines_part(row, false) : 0; }
 static double rest_share(const struct row *row) { return row->history ? 100 * rest_part(row, true) / row->here.part[SHEET_OF_ARCHIVE] : 0; }

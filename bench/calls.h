@@ -1,61 +1,46 @@
-/* The calls that are compared. Every implementation has the archive's signatures: a slice passes as a
-   pointer and a length, and the length of an answer is written by its pointer. */
+/* The calls that are compared: the archive's, which keeper.h declares, and others that take the same. */
 #ifndef CALLS_H
 #define CALLS_H
 
-#include <stddef.h>
-#include <stdint.h>
+#include "keeper.h"
 
-enum { MOST_PROCESSES = 32, MOST_MESSAGES = 4096, MOST_STATES = 4096 };
-
-#define LINE(name) uint32_t name(const uint8_t *, size_t, uint8_t *, size_t, size_t *)
-#define SEND(name) uint32_t name(const uint8_t *, size_t, uint16_t, uint16_t, uint8_t *, size_t, size_t *)
-#define SAVE(name) uint32_t name(const uint8_t *, size_t, uint16_t, const uint16_t *, size_t, uint8_t *, size_t, size_t *)
-#define SHEET(name) uint32_t name(const uint8_t *, size_t, uint16_t *, size_t, uint8_t *, size_t, size_t *)
-
-/* The archive. */
-uint32_t keeper_check_table(const uint8_t *, size_t);
-uint32_t keeper_line_of_set(const uint8_t *, size_t, uint32_t, uint8_t *, size_t, size_t *);
-LINE(keeper_recovery_line);
-SEND(keeper_send);
-SAVE(keeper_save);
-LINE(keeper_fall_back);
-SHEET(keeper_keep_sheet);
+/* A call of an implementation, which takes what the archive's takes. */
+#define AS_KEEPER(prefix, name) __typeof__(keeper_##name) prefix##_##name
 
 /* Plain C: the same passes, after the same checks of the table. */
-uint32_t plain_check_table(const uint8_t *, size_t);
-uint32_t plain_line_of_set(const uint8_t *, size_t, uint32_t, uint8_t *, size_t, size_t *);
-LINE(plain_recovery_line);
-SEND(plain_send);
-SAVE(plain_save);
-LINE(plain_fall_back);
-SHEET(plain_keep_sheet);
+AS_KEEPER(plain, check_table);
+AS_KEEPER(plain, line_of_set);
+AS_KEEPER(plain, recovery_line);
+AS_KEEPER(plain, send);
+AS_KEEPER(plain, save);
+AS_KEEPER(plain, fall_back);
+AS_KEEPER(plain, keep_sheet);
 
 /* Plain C without the checks of the table. */
-LINE(bare_recovery_line);
-SEND(bare_send);
-SAVE(bare_save);
-LINE(bare_fall_back);
-SHEET(bare_keep_sheet);
+AS_KEEPER(bare, recovery_line);
+AS_KEEPER(bare, send);
+AS_KEEPER(bare, save);
+AS_KEEPER(bare, fall_back);
+AS_KEEPER(bare, keep_sheet);
 
 /* Rust: the same passes, after the same checks. */
-uint32_t rust_check_table(const uint8_t *, size_t);
-LINE(rust_recovery_line);
-SEND(rust_send);
-SAVE(rust_save);
-LINE(rust_fall_back);
-SHEET(rust_keep_sheet);
+AS_KEEPER(rust, check_table);
+AS_KEEPER(rust, recovery_line);
+AS_KEEPER(rust, send);
+AS_KEEPER(rust, save);
+AS_KEEPER(rust, fall_back);
+AS_KEEPER(rust, keep_sheet);
 
 /* Rollback propagation by a work list over the checkpoint graph, after the same checks: with a mark for
    each checkpoint, as Figure 3 of the source has it. */
-LINE(marks_recovery_line);
-LINE(marks_fall_back);
-SHEET(marks_keep_sheet);
+AS_KEEPER(marks, recovery_line);
+AS_KEEPER(marks, fall_back);
+AS_KEEPER(marks, keep_sheet);
 
 /* The same, with the marked checkpoints of a process as a range: they are always its last ones. */
-LINE(ranges_recovery_line);
-LINE(ranges_fall_back);
-SHEET(ranges_keep_sheet);
+AS_KEEPER(ranges, recovery_line);
+AS_KEEPER(ranges, fall_back);
+AS_KEEPER(ranges, keep_sheet);
 
 /* How many passes over the messages the plain C version makes: of the recovery line, and of all single
    holders together. */

@@ -61,13 +61,13 @@ static inline void mark_propagating(bool *propagates, struct parts t)
 
 size_t plain_passes_of_recovery_line(const uint8_t *table)
 {
-    uint16_t line[MOST_PROCESSES];
+    uint16_t line[KEEPER_MOST_PROCESSES];
     return line_of_set(line, parts_of(table), EVERYONE);
 }
 
 size_t plain_passes_of_holders(const uint8_t *table)
 {
-    uint16_t line[MOST_PROCESSES];
+    uint16_t line[KEEPER_MOST_PROCESSES];
     struct parts t = parts_of(table);
     size_t passes = 0;
     for (size_t p = 0; p < t.n; p++)
@@ -78,9 +78,9 @@ size_t plain_passes_of_holders(const uint8_t *table)
 static inline uint32_t do_recovery_line(const uint8_t *table, uint8_t *answer, size_t room, size_t *written)
 {
     struct parts t = parts_of(table);
-    uint16_t line[MOST_PROCESSES];
+    uint16_t line[KEEPER_MOST_PROCESSES];
     if (room < 2 * t.n)
-        return 16;
+        return KEEPER_ANSWER_TOO_SHORT;
     line_of_set(line, t, EVERYONE);
     return put_line(line, t.n, answer, room, written);
 }
@@ -89,14 +89,14 @@ static inline uint32_t do_send(const uint8_t *table, uint16_t from, uint16_t to,
 {
     struct parts t = parts_of(table);
     if (from >= t.n || to >= t.n)
-        return 10;
+        return KEEPER_UNKNOWN_PROCESS;
     if (from == to)
-        return 11;
-    if (t.m >= MOST_MESSAGES)
-        return 14;
+        return KEEPER_SEND_TO_ITSELF;
+    if (t.m >= KEEPER_MOST_MESSAGES)
+        return KEEPER_TABLE_FULL;
     size_t size = 4 + 2 * t.n + 8 * t.m + 8;
     if (room < size)
-        return 16;
+        return KEEPER_ANSWER_TOO_SHORT;
     uint8_t *send = answer + 4 + 2 * t.n + 4 * t.m;
     memcpy(answer, table, 4 + 2 * t.n + 4 * t.m);
     put_u16(answer + 2, (uint16_t)(t.m + 1));
@@ -113,20 +113,20 @@ static inline uint32_t do_save(const uint8_t *table, uint16_t process, const uin
 {
     struct parts t = parts_of(table);
     if (process >= t.n)
-        return 10;
+        return KEEPER_UNKNOWN_PROCESS;
     for (size_t a = 0; a < entries; a++) {
         size_t k = list[a];
         if (k >= t.m || (a > 0 && list[a] <= list[a - 1]))
-            return 13;
+            return KEEPER_BAD_LIST;
         if (u16_at(t.receipts + 4 * k) != process || u16_at(t.receipts + 4 * k + 2) != 0)
-            return 13;
+            return KEEPER_BAD_LIST;
     }
     uint16_t count = u16_at(t.counts + 2 * process);
-    if (count >= MOST_STATES)
-        return 14;
+    if (count >= KEEPER_MOST_CHECKPOINTS)
+        return KEEPER_TABLE_FULL;
     size_t size = 4 + 2 * t.n + 8 * t.m;
     if (room < size)
-        return 16;
+        return KEEPER_ANSWER_TOO_SHORT;
     memcpy(answer, table, size);
     put_u16(answer + 4 + 2 * process, (uint16_t)(count + 1));
     uint8_t *receipts = answer + 4 + 2 * t.n + 4 * t.m;
@@ -139,7 +139,7 @@ static inline uint32_t do_save(const uint8_t *table, uint16_t process, const uin
 static inline uint32_t do_fall_back(const uint8_t *table, uint8_t *answer, size_t room, size_t *written)
 {
     struct parts t = parts_of(table);
-    uint16_t line[MOST_PROCESSES];
+    uint16_t line[KEEPER_MOST_PROCESSES];
     line_of_set(line, t, EVERYONE);
     return put_fall_back(t, line, answer, room, written);
 }
@@ -148,11 +148,11 @@ static inline uint32_t do_keep_sheet(const uint8_t *table, uint16_t *scratch, si
 {
     struct parts t = parts_of(table);
     if (numbers < t.n * t.n)
-        return 15;
-    bool propagates[MOST_PROCESSES] = {false};
+        return KEEPER_SCRATCH_TOO_SHORT;
+    bool propagates[KEEPER_MOST_PROCESSES] = {false};
     mark_propagating(propagates, t);
     for (size_t p = 0; p < t.n; p++) {
-        uint16_t line[MOST_PROCESSES];
+        uint16_t line[KEEPER_MOST_PROCESSES];
         if (propagates[p])
             line_of_set(line, t, 1u << p);
         else
@@ -186,9 +186,9 @@ uint32_t plain_line_of_set(const uint8_t *table, size_t length, uint32_t set, ui
     if (refusal != 0)
         return refusal;
     struct parts t = parts_of(table);
-    uint16_t line[MOST_PROCESSES];
+    uint16_t line[KEEPER_MOST_PROCESSES];
     if (t.n < 32 && set >> t.n != 0)
-        return 12;
+        return KEEPER_UNKNOWN_PROCESS_IN_SET;
     line_of_set(line, t, set);
     return put_line(line, t.n, answer, room, written);
 }

@@ -12,7 +12,7 @@ say "building"
 cargo --quiet build --release --manifest-path tests/reference/Cargo.toml --target-dir target/cargo
 cargo --quiet build --release --manifest-path bench/rust/Cargo.toml --target-dir target/cargo
 for part in bench plain worklist; do
-    gcc -std=gnu11 -Wall -Wextra -Werror -O3 -c -o "$out/$part.o" "bench/$part.c"
+    gcc -std=gnu11 -Wall -Wextra -Werror -O3 -Iinclude -c -o "$out/$part.o" "bench/$part.c"
 done
 # The same code at four places: what is linked after a pad stands 16 bytes further for each 16 bytes of it.
 place() {

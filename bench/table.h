@@ -36,55 +36,60 @@ static inline struct parts parts_of(const uint8_t *table)
     return t;
 }
 
-/* The first of the checks 6 to 9 that catches a message, or 0. A process is known before its count is read. */
-static inline uint32_t fault_at(struct parts t, size_t k)
+/* The checks of messages, in checking order; after them, that none catches. */
+enum fault { UNKNOWN_PROCESS, TO_ITS_SENDER, SEND_TOO_HIGH, RECEIPT_TOO_HIGH, NO_FAULT };
+static const uint32_t refusal_of[] = {
+    KEEPER_UNKNOWN_PROCESS_IN_MESSAGE, KEEPER_MESSAGE_TO_ITS_SENDER, KEEPER_SEND_NUMBER_TOO_HIGH,
+    KEEPER_RECEIPT_NUMBER_TOO_HIGH, KEEPER_OK,
+};
+
+/* The first of them that catches message k. A process is known before its count is read. */
+static inline enum fault fault_at(struct parts t, size_t k)
 {
     uint16_t sender = u16_at(t.sends + 4 * k), receiver = u16_at(t.receipts + 4 * k);
     if (sender >= t.n || receiver >= t.n)
-        return 6;
+        return UNKNOWN_PROCESS;
     if (sender == receiver)
-        return 7;
+        return TO_ITS_SENDER;
     if (u16_at(t.sends + 4 * k + 2) >= u16_at(t.counts + 2 * sender))
-        return 8;
+        return SEND_TOO_HIGH;
     if (u16_at(t.receipts + 4 * k + 2) >= u16_at(t.counts + 2 * receiver))
-        return 9;
-    return 0;
+        return RECEIPT_TOO_HIGH;
+    return NO_FAULT;
 }
 
-/* Checks 1 to 9: the number of the first that catches, or 0. Of the checks 6 to 9 the smallest number that
-   catches a message is that of the first. */
+/* The table's checks: the number of the first that catches, or 0. Of the faults of all messages the first in
+   checking order counts. */
 static uint32_t check(const uint8_t *table, size_t length)
 {
     if (length < 4)
-        return 1;
+        return KEEPER_TABLE_TOO_SHORT;
     struct parts t = parts_of(table);
-    if (t.n == 0 || t.n > MOST_PROCESSES)
-        return 2;
-    if (t.m > MOST_MESSAGES)
-        return 3;
-    if (length != 4 + 2 * t.n + 8 * t.m)
-        return 4;
+    if (t.n == 0 || t.n > KEEPER_MOST_PROCESSES)
+        return KEEPER_PROCESSES_OUT_OF_RANGE;
+    if (t.m > KEEPER_MOST_MESSAGES)
+        return KEEPER_TOO_MANY_MESSAGES;
+    if (length != KEEPER_TABLE_SIZE(t.n, t.m))
+        return KEEPER_WRONG_LENGTH;
     for (size_t p = 0; p < t.n; p++) {
         uint16_t count = u16_at(t.counts + 2 * p);
-        if (count == 0 || count > MOST_STATES)
-            return 5;
+        if (count == 0 || count > KEEPER_MOST_CHECKPOINTS)
+            return KEEPER_COUNT_OUT_OF_RANGE;
     }
-    uint32_t first = 0;
+    enum fault first = NO_FAULT;
     for (size_t k = 0; k < t.m; k++) {
-        uint32_t fault = fault_at(t, k);
-        if (fault == 0)
-            continue;
-        if (first == 0 || fault < first)
+        enum fault fault = fault_at(t, k);
+        if (fault < first)
             first = fault;
     }
-    return first;
+    return refusal_of[first];
 }
 
 /* A line as an answer. */
 static inline uint32_t put_line(const uint16_t *line, size_t n, uint8_t *answer, size_t room, size_t *written)
 {
     if (room < 2 * n)
-        return 16;
+        return KEEPER_ANSWER_TOO_SHORT;
     for (size_t p = 0; p < n; p++)
         put_u16(answer + 2 * p, line[p]);
     *written = 2 * n;
@@ -100,7 +105,7 @@ static inline uint32_t put_fall_back(struct parts t, const uint16_t *line, uint8
         left += u16_at(t.sends + 4 * k + 2) < line[u16_at(t.sends + 4 * k)];
     size_t size = 4 + 2 * t.n + 8 * left;
     if (room < size)
-        return 16;
+        return KEEPER_ANSWER_TOO_SHORT;
     put_u16(answer, (uint16_t)t.n);
     put_u16(answer + 2, (uint16_t)left);
     for (size_t p = 0; p < t.n; p++)
@@ -165,7 +170,7 @@ static inline int is_kept(const uint16_t *lines, const uint16_t *lowest, struct 
 static inline uint32_t put_sheet(struct parts t, const uint16_t *lines, uint8_t *answer, size_t room, size_t *written)
 {
     size_t kept = 0, logged = 0;
-    uint16_t lowest[MOST_PROCESSES];
+    uint16_t lowest[KEEPER_MOST_PROCESSES];
     for (size_t i = 0; i < t.n; i++) {
         uint16_t count = u16_at(t.counts + 2 * i);
         for (uint16_t c = next_kept(lines, t.n, i, 0, count); c < count; c = next_kept(lines, t.n, i, (uint16_t)(c + 1), count))
@@ -176,7 +181,7 @@ static inline uint32_t put_sheet(struct parts t, const uint16_t *lines, uint8_t 
         logged += (size_t)is_kept(lines, lowest, t, k);
     size_t size = 4 + 4 * kept + 2 * logged;
     if (room < size)
-        return 16;
+        return KEEPER_ANSWER_TOO_SHORT;
     put_u16(answer, (uint16_t)kept);
     put_u16(answer + 2, (uint16_t)logged);
     uint8_t *process = answer + 4;

@@ -13,10 +13,10 @@
    process's new one. The edges that leave vertex v are those from leave[v] to leave[v + 1]. */
 struct graph {
     size_t n;
-    uint32_t first[MOST_PROCESSES + 1];
-    uint16_t count[MOST_PROCESSES];
-    uint32_t leave[MOST_PROCESSES * (MOST_STATES + 1) + 2];
-    struct edge { uint16_t receiver, received; } edge[MOST_MESSAGES];
+    uint32_t first[KEEPER_MOST_PROCESSES + 1];
+    uint16_t count[KEEPER_MOST_PROCESSES];
+    uint32_t leave[KEEPER_MOST_PROCESSES * (KEEPER_MOST_CHECKPOINTS + 1) + 2];
+    struct edge { uint16_t receiver, received; } edge[KEEPER_MOST_MESSAGES];
 };
 
 static struct graph graph;
@@ -50,7 +50,7 @@ static void build(struct parts t)
 /* The line of a set, with the marked checkpoints of a process as a range. */
 static void line_by_ranges(uint16_t *line, uint32_t set)
 {
-    uint16_t done[MOST_PROCESSES];
+    uint16_t done[KEEPER_MOST_PROCESSES];
     uint32_t work = 0;
     for (size_t p = 0; p < graph.n; p++) {
         done[p] = graph.count[p];
@@ -73,8 +73,8 @@ static void line_by_ranges(uint16_t *line, uint32_t set)
     }
 }
 
-static uint8_t marked[MOST_PROCESSES * (MOST_STATES + 1)];
-static uint32_t stack[MOST_PROCESSES * (MOST_STATES + 1)];
+static uint8_t marked[KEEPER_MOST_PROCESSES * (KEEPER_MOST_CHECKPOINTS + 1)];
+static uint32_t stack[KEEPER_MOST_PROCESSES * (KEEPER_MOST_CHECKPOINTS + 1)];
 
 /* Marks what is strictly reachable from a checkpoint of process p. */
 static void mark_from(uint32_t root, unsigned p)
@@ -130,7 +130,7 @@ static void line_by_marks(uint16_t *line, uint32_t set)
         if (refusal != 0) \
             return refusal; \
         struct parts t = parts_of(table); \
-        uint16_t line[MOST_PROCESSES]; \
+        uint16_t line[KEEPER_MOST_PROCESSES]; \
         build(t); \
         LINE_OF(line, 0xFFFFFFFFu); \
         return put_line(line, t.n, answer, room, written); \
@@ -141,7 +141,7 @@ static void line_by_marks(uint16_t *line, uint32_t set)
         if (refusal != 0) \
             return refusal; \
         struct parts t = parts_of(table); \
-        uint16_t line[MOST_PROCESSES]; \
+        uint16_t line[KEEPER_MOST_PROCESSES]; \
         build(t); \
         LINE_OF(line, 0xFFFFFFFFu); \
         return put_fall_back(t, line, answer, room, written); \
@@ -153,7 +153,7 @@ static void line_by_marks(uint16_t *line, uint32_t set)
             return refusal; \
         struct parts t = parts_of(table); \
         if (numbers < t.n * t.n) \
-            return 15; \
+            return KEEPER_SCRATCH_TOO_SHORT; \
         build(t); \
         for (size_t p = 0; p < t.n; p++) \
             LINE_OF(scratch + t.n * p, 1u << p); \

@@ -25,7 +25,7 @@ static unsigned number_at(const uint8_t *bytes, size_t at)
     return bytes[at] + 256u * bytes[at + 1];
 }
 
-/* "In checking order", 1 to 9: a check covers the whole table before the next begins. */
+/* "In checking order", the table's checks: each covers the whole table before the next begins. */
 static uint32_t read_run(const uint8_t *table, size_t length, struct run *run)
 {
     if (length < 4)

@@ -1,10 +1,10 @@
 /* The keeper's calls, written a third time from the format's document: plain C that the fuzzer can
-   instrument. The names have a prefix of their own, so that the archive links beside them. */
+   instrument. The names have a prefix of their own, so that the archive links beside them; what they take is
+   what keeper.h says of the archive's. */
 #ifndef MODEL_H
 #define MODEL_H
 
-#include <stddef.h>
-#include <stdint.h>
+#include "keeper.h"
 
 #ifndef PREFIX
 #define PREFIX model_
@@ -13,16 +13,12 @@
 #define JOIN(prefix, name) JOIN_NAMES(prefix, name)
 #define MODEL(name) JOIN(PREFIX, name)
 
-uint32_t MODEL(check_table)(const uint8_t *table, size_t length);
-uint32_t MODEL(recovery_line)(const uint8_t *table, size_t length, uint8_t *answer, size_t room, size_t *written);
-uint32_t MODEL(line_of_set)(const uint8_t *table, size_t length, uint32_t set, uint8_t *answer, size_t room,
-                            size_t *written);
-uint32_t MODEL(send)(const uint8_t *table, size_t length, uint16_t from, uint16_t to, uint8_t *answer, size_t room,
-                     size_t *written);
-uint32_t MODEL(save)(const uint8_t *table, size_t length, uint16_t process, const uint16_t *list, size_t entries,
-                     uint8_t *answer, size_t room, size_t *written);
-uint32_t MODEL(fall_back)(const uint8_t *table, size_t length, uint8_t *answer, size_t room, size_t *written);
-uint32_t MODEL(keep_sheet)(const uint8_t *table, size_t length, uint16_t *scratch, size_t numbers, uint8_t *answer,
-                           size_t room, size_t *written);
+__typeof__(keeper_check_table) MODEL(check_table);
+__typeof__(keeper_recovery_line) MODEL(recovery_line);
+__typeof__(keeper_line_of_set) MODEL(line_of_set);
+__typeof__(keeper_send) MODEL(send);
+__typeof__(keeper_save) MODEL(save);
+__typeof__(keeper_fall_back) MODEL(fall_back);
+__typeof__(keeper_keep_sheet) MODEL(keep_sheet);
 
 #endif

@@ -11,6 +11,7 @@
 
    A call is a byte for which call, a byte for the lengths of the answer buffer and the scratch, and its
    arguments. Bit 7 of the first byte: the answer of a step becomes the table. */
+#include "keeper.h"
 #include "model.h"
 
 #include <stdbool.h>
@@ -18,28 +19,15 @@
 #include <stdlib.h>
 #include <string.h>
 
-uint32_t keeper_check_table(const uint8_t *table, size_t length);
-uint32_t keeper_recovery_line(const uint8_t *table, size_t length, uint8_t *answer, size_t room, size_t *written);
-uint32_t keeper_line_of_set(const uint8_t *table, size_t length, uint32_t set, uint8_t *answer, size_t room,
-                            size_t *written);
-uint32_t keeper_send(const uint8_t *table, size_t length, uint16_t from, uint16_t to, uint8_t *answer, size_t room,
-                     size_t *written);
-uint32_t keeper_save(const uint8_t *table, size_t length, uint16_t process, const uint16_t *list, size_t entries,
-                     uint8_t *answer, size_t room, size_t *written);
-uint32_t keeper_fall_back(const uint8_t *table, size_t length, uint8_t *answer, size_t room, size_t *written);
-uint32_t keeper_keep_sheet(const uint8_t *table, size_t length, uint16_t *scratch, size_t numbers, uint8_t *answer,
-                           size_t room, size_t *written);
-
 int LLVMFuzzerTestOneInput(const uint8_t *data, size_t size);
 
 /* The calls compared so far. */
 unsigned long calls_compared;
 
 enum {
-    LARGEST_TABLE = 32836,
     LARGEST_RAW = 40000,
-    LARGEST_ROOM = LARGEST_TABLE + 8 + 64,
-    LARGEST_SCRATCH = 1024 + 64,
+    LARGEST_ROOM = KEEPER_LARGEST_TABLE + 8 + 64,
+    LARGEST_SCRATCH = KEEPER_SCRATCH_NUMBERS + 64,
     LARGEST_LIST = 300,
     MOST_WORK = 60000,
     GUARDS = 32

@@ -10,9 +10,10 @@
    stand at any address; lists, scratches and `written` at one that suits their type. A call touches
    nothing but what it is lent, and only reads tables and lists.
 
-   The number. A call returns KEEPER_OK, or the number of the first of its checks that catches. Checks
-   are in the order of their numbers, and each covers the whole table, or the whole list, before the
-   next begins. A table is accepted where none of 1 to 9 catches.
+   The number. A call returns KEEPER_OK, or the number of the first of its checks that catches. It makes
+   them in the checking order, in which enum keeper_refusal lists them, and each covers the whole table,
+   or the whole list, before the next begins. That order is a list of its own: a smaller number does not
+   say that its check comes first. A table is accepted where none of the table's checks catches.
 
    Success. The answer stands at the front of the answer buffer and its length in bytes in `*written`;
    what lies beyond the answer in the buffer is unchanged. The numbers of an answer have 16 bits, low
@@ -35,14 +36,15 @@
 extern "C" {
 #endif
 
-/* What a call returns. */
+/* What a call returns, in checking order. Later versions may return further numbers, whose checks stand
+   anywhere in that order. */
 enum keeper_refusal {
     KEEPER_OK = 0,
-    /* Of the table, in every call: */
+    /* Of the table, in every call that checks it; these are the table's checks: */
     KEEPER_TABLE_TOO_SHORT = 1,            /* the table has fewer than 4 bytes */
     KEEPER_PROCESSES_OUT_OF_RANGE = 2,     /* N is 0 or above 32 */
     KEEPER_TOO_MANY_MESSAGES = 3,          /* M is above 4,096 */
-    KEEPER_WRONG_LENGTH = 4,               /* the length is not 4 + 2N + 8M */
+    KEEPER_WRONG_LENGTH = 4,               /* the length differs from 4 + 2N + 8M */
     KEEPER_COUNT_OUT_OF_RANGE = 5,         /* a count is 0 or above 4,096 */
     KEEPER_UNKNOWN_PROCESS_IN_MESSAGE = 6, /* a sender or receiver is N or above */
     KEEPER_MESSAGE_TO_ITS_SENDER = 7,      /* a message has the same sender and receiver */
@@ -52,11 +54,11 @@ enum keeper_refusal {
     KEEPER_UNKNOWN_PROCESS = 10,           /* a process named in a send or save is N or above */
     KEEPER_SEND_TO_ITSELF = 11,            /* a send names one process twice */
     KEEPER_UNKNOWN_PROCESS_IN_SET = 12,    /* a set has a bit at N or above */
-    KEEPER_BAD_LIST = 13,                  /* a save's list has a position of M or above, or one that is
-                                              not above the one before it, or one of a message that does
-                                              not wait for the process */
+    KEEPER_BAD_LIST = 13,                  /* a save's list has a position of M or above, or not above
+                                              the one before it, or of a message not waiting for that
+                                              process */
     KEEPER_TABLE_FULL = 14,                /* a send meets M = 4,096, or a save meets a count of 4,096 */
-    KEEPER_SCRATCH_TOO_SHORT = 15,         /* the scratch has fewer than N * N numbers */
+    KEEPER_SCRATCH_TOO_SHORT = 15,         /* the scratch is shorter than N * N numbers */
     KEEPER_ANSWER_TOO_SHORT = 16           /* the answer buffer is shorter than the answer */
 };
 
@@ -78,7 +80,7 @@ enum keeper_refusal {
 #define KEEPER_SCRATCH_SIZE(n) ((size_t)(n) * (size_t)(n))
 #define KEEPER_SHEET_SIZE(k, q) (4 + 4 * (size_t)(k) + 2 * (size_t)(q))
 
-/* The refusal of a table. Checks 1 to 9. Nothing is written. */
+/* The refusal of a table. Checks: the table's. Nothing is written. */
 uint32_t keeper_check_table(const uint8_t *table, size_t length);
 
 /* Lines. A line is one number for each process: that of one of its checkpoints, or its count, which
@@ -88,14 +90,14 @@ uint32_t keeper_check_table(const uint8_t *table, size_t length);
    consistent. Of the consistent lines under a ceiling one is the latest, at every process. */
 
 /* The recovery line of the run: the latest consistent line at whose every process stands a checkpoint
-   that the table has. Checks 1 to 9, 16. The answer is N numbers by process, 2N bytes. */
+   that the table has. Checks: the table's, 16. The answer is N numbers by process, 2N bytes. */
 uint32_t keeper_recovery_line(const uint8_t *table, size_t length, uint8_t *answer, size_t room,
                               size_t *written);
 
 /* The line of a set of processes that hold (take no checkpoint now), process p being bit p of `set`:
    the latest consistent line with no holding process above its last checkpoint; the others may stand at
    their counts. For the set of all N it is the recovery line, for the empty one it is the counts.
-   Checks 1 to 9, 12, 16. The answer is N numbers by process, 2N bytes. */
+   Checks: the table's, 12, 16. The answer is N numbers by process, 2N bytes. */
 uint32_t keeper_line_of_set(const uint8_t *table, size_t length, uint32_t set, uint8_t *answer,
                             size_t room, size_t *written);
 
@@ -103,22 +105,22 @@ uint32_t keeper_line_of_set(const uint8_t *table, size_t length, uint32_t set, u
    is read from. */
 
 /* The table after a send: one message more, at position M, sent by `from` at its latest checkpoint (its
-   count less one) and waiting for `to`. Checks 1 to 9, 10, 11, 14, 16. The answer has 8 bytes more than
-   the table. */
+   count less one) and waiting for `to`. Checks: the table's, 10, 11, 14, 16. The answer has 8 bytes more
+   than the table. */
 uint32_t keeper_send(const uint8_t *table, size_t length, uint16_t from, uint16_t to, uint8_t *answer,
                      size_t room, size_t *written);
 
 /* The table after a save: `process` takes a checkpoint, having received the messages at the listed
    positions. Their receipt number becomes its old count, and its count grows by one. The list has
    `list_length` positions, strictly rising, each of a message that waits for the process; it may be
-   empty, and then NULL. Checks 1 to 9, 10, 13, 14, 16. The answer is as long as the table. */
+   empty, and then NULL. Checks: the table's, 10, 13, 14, 16. The answer is as long as the table. */
 uint32_t keeper_save(const uint8_t *table, size_t length, uint16_t process, const uint16_t *list,
                      size_t list_length, uint8_t *answer, size_t room, size_t *written);
 
 /* The table after the run has fallen back to its recovery line L: each count becomes L + 1; a message
    stays where its send number is below L at its sender, and if its receipt number is above L at its
-   receiver it waits again. Those that stay keep their order and move up. Checks 1 to 9, 16. The answer
-   is as long as the table or shorter, by 8 bytes for each message that goes. */
+   receiver it waits again. Those that stay keep their order and move up. Checks: the table's, 16. The
+   answer is as long as the table or shorter, by 8 bytes for each message that goes. */
 uint32_t keeper_fall_back(const uint8_t *table, size_t length, uint8_t *answer, size_t room,
                           size_t *written);
 
@@ -131,7 +133,7 @@ uint32_t keeper_fall_back(const uint8_t *table, size_t length, uint8_t *answer, 
    number is below one of these lines at its sender and its receipt number above that line at its
    receiver.
 
-   Checks 1 to 9, 15, 16. The answer has 4 + 4K + 2Q bytes:
+   Checks: the table's, 15, 16. The answer has 4 + 4K + 2Q bytes:
 
        bytes from      what
        0               K, the number of kept checkpoints

@@ -22,11 +22,11 @@ extern "C" {
        message K               for each kept message, by position
        share S                 100 * K divided by the sum of the counts, rounded down; K as on the sheet
 
-   Where the table is refused, by a number of 1 to 9, there is one row, `refused` and the number, and the
-   call returns KEEPER_OK: such bytes have a listing too.
+   Where the table is refused, by one of the table's checks, there is one row, `refused` and the number,
+   and the call returns KEEPER_OK: such bytes have a listing too.
 
-   Check 16 alone: KEEPER_ANSWER_TOO_SHORT where the text is longer than `room`, and then nothing is
-   changed. On KEEPER_OK the text stands at the front of `text` and its length in `*written`; the bytes
+   Checks: 16. It returns KEEPER_ANSWER_TOO_SHORT where the text is longer than `room`, and then nothing
+   is changed. On KEEPER_OK the text stands at the front of `text` and its length in `*written`; the bytes
    beyond it are unchanged. The rules at the head of keeper.h hold: `table` may be NULL where `length` is
    0 and `text` where `room` is 0, `written` never; none of the three may overlap another; `table` is only
    read. */

@@ -37,13 +37,15 @@ extern "C" {
 #define RUN_TABLE_LARGEST 32836
 #define RUN_TABLE_SIZE(n, m) (4 + 2 * (size_t)(n) + 8 * (size_t)(m))
 
-/* The checks of a table, in their order; the keeper's calls answer the same numbers. */
+/* What run_table_check returns, in checking order, which is a list of its own: a smaller number does not
+   say that its check comes first. Later versions may return further numbers, whose checks stand anywhere
+   in that order. The keeper's calls return the same numbers. */
 enum run_table_refusal {
     RUN_TABLE_OK = 0,
     RUN_TABLE_TOO_SHORT = 1,                  /* the table has fewer than 4 bytes */
     RUN_TABLE_PROCESSES_OUT_OF_RANGE = 2,     /* N is 0 or above 32 */
     RUN_TABLE_TOO_MANY_MESSAGES = 3,          /* M is above 4,096 */
-    RUN_TABLE_WRONG_LENGTH = 4,               /* the length is not 4 + 2N + 8M */
+    RUN_TABLE_WRONG_LENGTH = 4,               /* the length differs from 4 + 2N + 8M */
     RUN_TABLE_COUNT_OUT_OF_RANGE = 5,         /* a count is 0 or above 4,096 */
     RUN_TABLE_UNKNOWN_PROCESS_IN_MESSAGE = 6, /* a sender or receiver is N or above */
     RUN_TABLE_MESSAGE_TO_ITS_SENDER = 7,      /* a message has the same sender and receiver */
@@ -51,8 +53,8 @@ enum run_table_refusal {
     RUN_TABLE_RECEIPT_NUMBER_TOO_HIGH = 9     /* a receipt number is not below the receiver's count */
 };
 
-/* The number of the first check that catches, 1 to 9, or RUN_TABLE_OK where none does: the table is
-   accepted. A check covers the whole table before the next begins. */
+/* The number of the first check that catches, or RUN_TABLE_OK where none does: the table is accepted. A
+   check covers the whole table before the next begins. */
 uint32_t run_table_check(const uint8_t *table, size_t length);
 
 /* The lookups answer for a refused table too: each byte beyond the end is read as 0, N and M are what

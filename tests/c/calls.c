@@ -495,20 +495,9 @@ static void full_counts(void)
     of_numbers("count 1", q, after_1, 8);
 }
 
-/* ---- names and sizes */
+/* ---- sizes */
 static void sizes(void)
 {
-    static const uint32_t refusals[] = {
-        KEEPER_OK, KEEPER_TABLE_TOO_SHORT, KEEPER_PROCESSES_OUT_OF_RANGE, KEEPER_TOO_MANY_MESSAGES,
-        KEEPER_WRONG_LENGTH, KEEPER_COUNT_OUT_OF_RANGE, KEEPER_UNKNOWN_PROCESS_IN_MESSAGE,
-        KEEPER_MESSAGE_TO_ITS_SENDER, KEEPER_SEND_NUMBER_TOO_HIGH, KEEPER_RECEIPT_NUMBER_TOO_HIGH,
-        KEEPER_UNKNOWN_PROCESS, KEEPER_SEND_TO_ITSELF, KEEPER_UNKNOWN_PROCESS_IN_SET, KEEPER_BAD_LIST,
-        KEEPER_TABLE_FULL, KEEPER_SCRATCH_TOO_SHORT, KEEPER_ANSWER_TOO_SHORT,
-    };
-    size_t i;
-    same("refusals", sizeof refusals / sizeof refusals[0], 17);
-    for (i = 0; i < 17; i++)
-        same("refusal", refusals[i], (unsigned long)i);
     same("KEEPER_MOST_PROCESSES", KEEPER_MOST_PROCESSES, 32);
     same("KEEPER_MOST_MESSAGES", KEEPER_MOST_MESSAGES, 4096);
     same("KEEPER_MOST_CHECKPOINTS", KEEPER_MOST_CHECKPOINTS, 4096);

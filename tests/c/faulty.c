@@ -7,17 +7,14 @@
 #include <stdlib.h>
 #include <string.h>
 
-uint32_t faulty_check_table(const uint8_t *table, size_t length);
-uint32_t faulty_recovery_line(const uint8_t *table, size_t length, uint8_t *answer, size_t room, size_t *written);
-uint32_t faulty_line_of_set(const uint8_t *table, size_t length, uint32_t set, uint8_t *answer, size_t room, size_t *written);
-uint32_t faulty_send(const uint8_t *table, size_t length, uint16_t from, uint16_t to, uint8_t *answer, size_t room,
-                     size_t *written);
-uint32_t faulty_save(const uint8_t *table, size_t length, uint16_t process, const uint16_t *list, size_t list_length,
-                     uint8_t *answer, size_t room, size_t *written);
-uint32_t faulty_fall_back(const uint8_t *table, size_t length, uint8_t *answer, size_t room, size_t *written);
-uint32_t faulty_keep_sheet(const uint8_t *table, size_t length, uint16_t *scratch, size_t numbers, uint8_t *answer, size_t room,
-                           size_t *written);
-uint32_t faulty_listing(const uint8_t *table, size_t length, uint8_t *text, size_t room, size_t *written);
+__typeof__(keeper_check_table) faulty_check_table;
+__typeof__(keeper_recovery_line) faulty_recovery_line;
+__typeof__(keeper_line_of_set) faulty_line_of_set;
+__typeof__(keeper_send) faulty_send;
+__typeof__(keeper_save) faulty_save;
+__typeof__(keeper_fall_back) faulty_fall_back;
+__typeof__(keeper_keep_sheet) faulty_keep_sheet;
+__typeof__(keeper_listing) faulty_listing;
 
 /* Whether this fault is the one asked for. */
 static int fault(int number)

@@ -6,6 +6,7 @@
 #   - the functions that the header declares are those that the archive defines, both ways;
 #   - each declaration is that of the source: result, types, names and order of the parameters;
 #   - the manual (docs/MANUAL.md) and the page of section 3 give the same functions with the same parameters;
+#   - the Rust binding (bindings/rust/src/archive.rs) declares the same functions with the same parameters;
 #   - the archive needs nothing of others but the C library's memory functions, and has no data of its own
 #     that could change, which is what the headers say.
 # Stops at the first header that is not so, with the difference.
@@ -56,10 +57,10 @@ declared() {
     }' "$1" | sort
 }
 
-# The declarations that the exported functions of a source have in C. A slice is a pointer and a length,
-# whose name follows from the slice's name.
-exported() {
-    cat "$1"/src/*.rt | awk "$layout"'
+# The declarations in C of the functions that follow some words in a source of Rattle or Rust. A slice is a
+# pointer and a length, whose name follows from the slice's name.
+in_c() {
+    awk -v words="$1" "$layout"'
     function c_type(type) {
         if (type == "u8" || type == "u16" || type == "u32" || type == "u64") return "uint" substr(type, 2) "_t"
         if (type == "usize") return "size_t"
@@ -76,11 +77,13 @@ exported() {
         if (type ~ /^&\[/) return "const " c_type(substr(type, 3, length(type) - 3)) " *" name ", size_t " c_length(name)
         if (type ~ /^&mut \[/) return c_type(substr(type, 7, length(type) - 7)) " *" name ", size_t " c_length(name)
         if (type ~ /^&mut /) return c_type(substr(type, 6)) " *" name
+        if (type ~ /^\*const /) return "const " c_type(substr(type, 8)) " *" name
+        if (type ~ /^\*mut /) return c_type(substr(type, 6)) " *" name
         return c_type(type) " " name
     }
     { sub(/\/\/.*/, ""); text = text $0 " " }
     END {
-        n = split(text, part, /pub extern "C" fn /)
+        n = split(text, part, words)
         for (i = 2; i <= n; i++) {
             close_at = index(part[i], ")")
             head = substr(part[i], 1, close_at - 1)
@@ -151,7 +154,7 @@ $(cat "$work/diff")"
     nm -u --format=posix "$archive" | awk 'NF > 1 && $1 !~ /^mem(cpy|set|move|cmp)$/ { print $1 }' >"$work/needed"
     [ ! -s "$work/needed" ] || fail "lib$crate.a needs: $(cat "$work/needed")"
 
-    exported "$root/crates/$crate" >"$work/exported"
+    cat "$root/crates/$crate"/src/*.rt | in_c 'pub extern "C" fn ' >"$work/exported"
     diff "$work/declared" "$work/exported" >"$work/diff" || fail "$crate.h (<) and the source of $crate (>):
 $(cat "$work/diff")"
 
@@ -168,8 +171,13 @@ $(cat "$work/diff")"
 $(cat "$work/diff")"
 done
 
-# Nothing stands in the manual or on a page that no header declares.
+# The binding declares what the headers declare, all three.
 for crate in run_table keeper listing_text; do declared "$root/include/$crate.h"; done | sort >"$work/declared"
+in_c 'pub fn ' <"$root/bindings/rust/src/archive.rs" >"$work/binding"
+diff "$work/declared" "$work/binding" >"$work/diff" || fail "the headers (<) and bindings/rust/src/archive.rs (>):
+$(cat "$work/diff")"
+
+# Nothing stands in the manual or on a page that no header declares.
 names_of "$work/declared" >"$work/names"
 {
     sed -n 's/^| `[a-z0-9_]* \([a-z0-9_]*\)(.*/\1/p' "$root/docs/MANUAL.md"
@@ -179,4 +187,4 @@ diff "$work/names" "$work/told" >"$work/diff" || fail "the headers (<), the manu
 $(cat "$work/diff")"
 
 command -v g++ >/dev/null 2>&1 || echo "headers: g++ is missing, so that they were not compiled as C++"
-echo "headers: $(wc -l <"$work/names" | tr -d ' ') functions declared as the archives define them, as the sources, the manual and the man pages have them"
+echo "headers: $(wc -l <"$work/names" | tr -d ' ') functions declared as the archives define them, as the sources, the manual, the man pages and the Rust binding have them"

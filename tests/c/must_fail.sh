@@ -12,11 +12,9 @@ archives=$(cd "$1" && pwd)
 work=$(cd "$2" && pwd)
 here=$(cd "$(dirname "$0")" && pwd)
 root=$here/../..
-
-fail() {
-    echo "must_fail: $*"
-    exit 1
-}
+copy=$work/must_fail
+prefix=headers
+. "$root/tests/changes.sh"
 
 # ---- calls with a fault
 renamed=
@@ -28,7 +26,6 @@ gcc -std=c11 -Wall -Wextra -O1 -I"$root/include" -o "$work/calls_faulty" "$work/
     "$archives/libkeeper.a" "$archives/liblisting_text.a" || exit 1
 FAULT=0 "$work/calls_faulty" >"$work/must_fail.out" || { cat "$work/must_fail.out"; fail "calls.c fails without a fault"; }
 faults=$(grep -o 'fault([0-9]*)' "$here/faulty.c" | tr -dc '0-9\n' | sort -nu)
-found=0
 for number in $faults; do
     FAULT=$number "$work/calls_faulty" >"$work/must_fail.out" 2>&1
     [ $? -eq 1 ] || fail "fault $number of faulty.c is not found"
@@ -36,36 +33,23 @@ for number in $faults; do
 done
 echo "must_fail: $found faulty calls found by calls.c"
 
-# ---- headers, sources, manual, pages or archives that have changed
-copy=$work/must_fail
-found=0
+# ---- headers, sources, manual, pages, binding or archives that have changed
 fresh() {
     rm -rf "$copy"
-    mkdir -p "$copy/docs" "$copy/tests/c" "$copy/archives" || exit 1
+    mkdir -p "$copy/docs" "$copy/tests/c" "$copy/archives" "$copy/bindings/rust" || exit 1
     cp -r "$root/include" "$root/man" "$copy" && cp "$root/docs/MANUAL.md" "$copy/docs" && cp "$here/headers.sh" "$copy/tests/c" &&
-        cp "$archives"/*.a "$copy/archives" || exit 1
+        cp -r "$root/bindings/rust/src" "$copy/bindings/rust" && cp "$archives"/*.a "$copy/archives" || exit 1
     for crate in run_table keeper listing_text; do
         mkdir -p "$copy/crates/$crate" && cp -r "$root/crates/$crate/src" "$copy/crates/$crate" || exit 1
     done
 }
 
-finds() {
-    sh "$copy/tests/c/headers.sh" "$copy/archives" >"$work/must_fail.out" 2>&1 && fail "headers.sh does not find: $*"
-    grep -q '^headers: ' "$work/must_fail.out" || { cat "$work/must_fail.out"; fail "headers.sh broke down over: $*"; }
-    found=$((found + 1))
+tested() {
+    sh "$copy/tests/c/headers.sh" "$copy/archives"
 }
 
-# A file of the copy, and the edit that it gets by sed.
-changed() {
-    fresh
-    sed "$2" "$copy/$1" >"$work/must_fail.edited"
-    cmp -s "$work/must_fail.edited" "$copy/$1" && fail "the edit changes nothing: $1, $2"
-    cp "$work/must_fail.edited" "$copy/$1"
-    finds "$1, $2"
-}
-
-fresh
-sh "$copy/tests/c/headers.sh" "$copy/archives" >"$work/must_fail.out" 2>&1 || { cat "$work/must_fail.out"; fail "headers.sh fails over what is as it should be"; }
+found=0
+finds_nothing
 changed include/keeper.h 's/keeper_fall_back(/keeper_rollback(/'
 changed include/keeper.h '/^uint32_t keeper_check_table/d'
 changed include/keeper.h 's/^uint32_t keeper_check_table.*/&\nuint32_t keeper_more(void);/'
@@ -90,6 +74,11 @@ changed docs/MANUAL.md 's/^\(| `uint16_t run_table_\)sent\(.*\)/&\n\1lost\2/'
 changed man/keeper.3 's/^\.Fa "uint16_t to"/.Fa "uint32_t to"/'
 changed man/keeper.3 's/^\.Fo keeper_listing/.Fo keeper_text/'
 changed man/run_table.3 '/^\.Fa "size_t p"/d'
+changed bindings/rust/src/archive.rs 's/set: u32/set: u64/'
+changed bindings/rust/src/archive.rs 's/list: \*const u16/list: *mut u16/'
+changed bindings/rust/src/archive.rs 's/        to: u16,/        target: u16,/'
+changed bindings/rust/src/archive.rs '/pub fn run_table_sent/d'
+changed bindings/rust/src/archive.rs 's/run_table_processes(table: \*const u8, length: usize) -> u16/run_table_processes(table: *const u8, length: usize) -> u32/'
 fresh
 cp "$copy/archives/libkeeper.a" "$copy/archives/librun_table.a"
 finds "the archive of another crate"

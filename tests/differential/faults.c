@@ -1,20 +1,17 @@
 /* The calls of an archive in the library's place: those of one of several faulty models, which the environment
    variable FAULT names by number; 0 is the model as it is. "faults.inc" has a line FAULT(k) for each. */
-#include <stddef.h>
-#include <stdint.h>
+#include "keeper.h"
+
 #include <stdlib.h>
 
-#define TABLE const uint8_t *table, size_t length
-#define ANSWER uint8_t *answer, size_t room, size_t *written
-
-#define FAULT(k)                                                                                             \
-    uint32_t fault##k##_check_table(TABLE);                                                                  \
-    uint32_t fault##k##_recovery_line(TABLE, ANSWER);                                                        \
-    uint32_t fault##k##_line_of_set(TABLE, uint32_t set, ANSWER);                                            \
-    uint32_t fault##k##_send(TABLE, uint16_t from, uint16_t to, ANSWER);                                     \
-    uint32_t fault##k##_save(TABLE, uint16_t process, const uint16_t *list, size_t entries, ANSWER);         \
-    uint32_t fault##k##_fall_back(TABLE, ANSWER);                                                            \
-    uint32_t fault##k##_keep_sheet(TABLE, uint16_t *scratch, size_t numbers, ANSWER);
+#define FAULT(k)                                                \
+    __typeof__(keeper_check_table) fault##k##_check_table;      \
+    __typeof__(keeper_recovery_line) fault##k##_recovery_line;  \
+    __typeof__(keeper_line_of_set) fault##k##_line_of_set;      \
+    __typeof__(keeper_send) fault##k##_send;                    \
+    __typeof__(keeper_save) fault##k##_save;                    \
+    __typeof__(keeper_fall_back) fault##k##_fall_back;          \
+    __typeof__(keeper_keep_sheet) fault##k##_keep_sheet;
 #include "faults.inc"
 #undef FAULT
 
@@ -22,13 +19,13 @@
     {fault##k##_check_table, fault##k##_recovery_line, fault##k##_line_of_set, fault##k##_send,              \
      fault##k##_save, fault##k##_fall_back, fault##k##_keep_sheet},
 static const struct {
-    uint32_t (*check_table)(TABLE);
-    uint32_t (*recovery_line)(TABLE, ANSWER);
-    uint32_t (*line_of_set)(TABLE, uint32_t set, ANSWER);
-    uint32_t (*send)(TABLE, uint16_t from, uint16_t to, ANSWER);
-    uint32_t (*save)(TABLE, uint16_t process, const uint16_t *list, size_t entries, ANSWER);
-    uint32_t (*fall_back)(TABLE, ANSWER);
-    uint32_t (*keep_sheet)(TABLE, uint16_t *scratch, size_t numbers, ANSWER);
+    __typeof__(keeper_check_table) *check_table;
+    __typeof__(keeper_recovery_line) *recovery_line;
+    __typeof__(keeper_line_of_set) *line_of_set;
+    __typeof__(keeper_send) *send;
+    __typeof__(keeper_save) *save;
+    __typeof__(keeper_fall_back) *fall_back;
+    __typeof__(keeper_keep_sheet) *keep_sheet;
 } faults[] = {
 #include "faults.inc"
 };
@@ -44,6 +41,9 @@ static size_t chosen(void)
     }
     return number;
 }
+
+#define TABLE const uint8_t *table, size_t length
+#define ANSWER uint8_t *answer, size_t room, size_t *written
 
 uint32_t keeper_check_table(TABLE)
 {
@@ -65,9 +65,9 @@ uint32_t keeper_send(TABLE, uint16_t from, uint16_t to, ANSWER)
     return faults[chosen()].send(table, length, from, to, answer, room, written);
 }
 
-uint32_t keeper_save(TABLE, uint16_t process, const uint16_t *list, size_t entries, ANSWER)
+uint32_t keeper_save(TABLE, uint16_t process, const uint16_t *list, size_t list_length, ANSWER)
 {
-    return faults[chosen()].save(table, length, process, list, entries, answer, room, written);
+    return faults[chosen()].save(table, length, process, list, list_length, answer, room, written);
 }
 
 uint32_t keeper_fall_back(TABLE, ANSWER)

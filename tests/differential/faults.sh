@@ -17,7 +17,7 @@ cp target/staticlib/librun_table.a "$work/"
 
 # add NUMBER: the model in $work/model.c with the names of that fault.
 add() {
-    gcc -std=c11 -w -O2 -DPREFIX=fault$1_ -Ifuzz -c -o "$work/fault$1.o" "$work/model.c" || exit 1
+    gcc -std=c11 -w -O2 -DPREFIX=fault$1_ -Ifuzz -Iinclude -c -o "$work/fault$1.o" "$work/model.c" || exit 1
     echo "FAULT($1)" >>"$work/faults.inc"
 }
 
@@ -34,10 +34,10 @@ while IFS='|' read -r name edit; do
     fi
     add $number
 done <"$work/faults.txt"
-gcc -std=c11 -Wall -Wextra -O2 -I"$work" -c -o "$work/faults.o" tests/differential/faults.c &&
+gcc -std=c11 -Wall -Wextra -Werror -O2 -Iinclude -I"$work" -c -o "$work/faults.o" tests/differential/faults.c &&
 ar rcs "$work/libkeeper.a" "$work"/*.o &&
 (cd tests/differential && KEEPER_LIB_DIR=$work cargo --quiet build --release --target-dir "$work/cargo") &&
-gcc -std=c11 -O2 -o "$work/replay" fuzz/replay.c fuzz/target.c fuzz/model.c "$work/libkeeper.a" || exit 1
+gcc -std=c11 -O2 -Iinclude -o "$work/replay" fuzz/replay.c fuzz/target.c fuzz/model.c "$work/libkeeper.a" || exit 1
 
 # verdict COMMAND: a fault may make a call that never ends; that is found too.
 verdict() {

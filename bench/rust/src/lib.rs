@@ -66,8 +66,31 @@ impl<'a> Parts<'a> {
     }
 }
 
-/// Checks 1 to 9: of the checks 6 to 9 the smallest number that catches a message
-/// is that of the first.
+/// The checks of messages, in checking order, which is the order of this
+/// enum's `<`; after them, that none catches.
+#[derive(Clone, Copy, PartialEq, Eq, PartialOrd, Ord)]
+enum Fault {
+    UnknownProcess,
+    ToItsSender,
+    SendTooHigh,
+    ReceiptTooHigh,
+    None,
+}
+
+impl Fault {
+    fn refusal(self) -> u32 {
+        match self {
+            Fault::UnknownProcess => 6,
+            Fault::ToItsSender => 7,
+            Fault::SendTooHigh => 8,
+            Fault::ReceiptTooHigh => 9,
+            Fault::None => 0,
+        }
+    }
+}
+
+/// The table's checks. Of the faults of all messages the first in checking
+/// order counts.
 fn check(table: &[u8]) -> u32 {
     if table.len() < 4 {
         return 1;
@@ -93,25 +116,25 @@ fn check(table: &[u8]) -> u32 {
     }
     let fault = |((j, sent), (i, received)): ((usize, u16), (usize, u16))| {
         if j >= n || i >= n {
-            6
+            Fault::UnknownProcess
         } else if j == i {
-            7
+            Fault::ToItsSender
         } else if sent >= counts[j] {
-            8
+            Fault::SendTooHigh
         } else if received >= counts[i] {
-            9
+            Fault::ReceiptTooHigh
         } else {
-            0
+            Fault::None
         }
     };
-    let mut first = 0;
+    let mut first = Fault::None;
     for message in parts.messages() {
         let caught = fault(message);
-        if caught != 0 && (first == 0 || caught < first) {
+        if caught != Fault::None && caught < first {
             first = caught;
         }
     }
-    first
+    first.refusal()
 }
 
 fn ceiling_of_set(parts: &Parts, set: u32) -> Line {
@@ -248,8 +271,8 @@ fn fall_back(table: &[u8], answer: &mut [u8], written: &mut usize) -> u32 {
     }
     put_u16(answer, 0, parts.n as u16);
     put_u16(answer, 2, left as u16);
-    for p in 0..parts.n {
-        put_u16(answer, 4 + 2 * p, line[p] + 1);
+    for (p, number) in line[..parts.n].iter().enumerate() {
+        put_u16(answer, 4 + 2 * p, number + 1);
     }
     let (sends, receipts) = answer[4 + 2 * parts.n..size].split_at_mut(4 * left);
     let places = sends.chunks_exact_mut(4).zip(receipts.chunks_exact_mut(4));

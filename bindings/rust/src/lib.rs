@@ -1,5 +1,6 @@
 //! The keeper's calls in safe Rust, over the proved static library
-//! `libkeeper.a`.
+//! `libkeeper.a`. The feature `run_table` adds the table reader of
+//! `librun_table.a`, and `listing_text` the listing of `liblisting_text.a`.
 //!
 //! A run table is bytes; an answer is written to the front of a buffer that
 //! the caller lends, and a call answers `Ok` with the length written or `Err`
@@ -9,7 +10,7 @@
 //! never changed. No call allocates, keeps what it was lent, or panics.
 //!
 //! What is lent to one call may not overlap. Rust's borrow rules see to that
-//! here, so no call is unsafe.
+//! here, so no call is unsafe. [`mod@archive`] has the unsafe ones below them.
 //!
 //! The doc tests below use example A: two processes with three checkpoints
 //! each and five messages.
@@ -28,8 +29,18 @@
 //! assert_eq!(keeper::check_table(&example_a), Ok(()));
 //! ```
 
-use std::error::Error;
-use std::fmt;
+pub mod archive;
+#[cfg(feature = "listing_text")]
+mod listing_text;
+mod refusal;
+#[cfg(feature = "run_table")]
+pub mod run_table;
+
+#[cfg(feature = "listing_text")]
+pub use listing_text::{listing, LISTING_ROOM};
+pub use refusal::Refusal;
+
+use refusal::outcome;
 
 /// N is at most this.
 pub const MOST_PROCESSES: usize = 32;
@@ -66,192 +77,15 @@ pub const SHEET_ROOM: usize = 4 + 4 * SCRATCH_NUMBERS + 2 * MOST_MESSAGES;
 pub const LARGEST_SHEET: usize =
     4 + 4 * (MOST_PROCESSES * (MOST_PROCESSES + 1) / 2) + 2 * MOST_MESSAGES;
 
-/// Why a call wrote no answer: the first check that caught, in the order of
-/// the numbers. A check covers the whole table, or the whole list, before the
-/// next begins.
-#[derive(Clone, Copy, Debug, PartialEq, Eq, Hash, PartialOrd, Ord)]
-pub enum Refusal {
-    /// 1: the table has fewer than 4 bytes.
-    TableTooShort,
-    /// 2: N is 0 or above 32.
-    ProcessesOutOfRange,
-    /// 3: M is above 4,096.
-    TooManyMessages,
-    /// 4: the length of the table differs from 4 + 2N + 8M.
-    WrongLength,
-    /// 5: a count is 0 or above 4,096.
-    CountOutOfRange,
-    /// 6: a sender or receiver is N or above.
-    UnknownProcessInMessage,
-    /// 7: a message has the same sender and receiver.
-    MessageToItsSender,
-    /// 8: a send number is not below the sender's count.
-    SendNumberTooHigh,
-    /// 9: a receipt number is not below the receiver's count.
-    ReceiptNumberTooHigh,
-    /// 10: a process named in a send or save is N or above.
-    UnknownProcess,
-    /// 11: a send names one process twice.
-    SendToItself,
-    /// 12: a set has a bit at N or above.
-    UnknownProcessInSet,
-    /// 13: a save's list has a position of M or above, or one not above the
-    /// one before it, or one of a message not waiting for that process.
-    BadList,
-    /// 14: a send meets M = 4,096, or a save meets a count of 4,096.
-    TableFull,
-    /// 15: the scratch is shorter than N × N numbers.
-    ScratchTooShort,
-    /// 16: the answer buffer is shorter than the answer.
-    AnswerTooShort,
-}
-
-impl Refusal {
-    /// All refusals, in checking order.
-    pub const ALL: [Refusal; 16] = [
-        Refusal::TableTooShort,
-        Refusal::ProcessesOutOfRange,
-        Refusal::TooManyMessages,
-        Refusal::WrongLength,
-        Refusal::CountOutOfRange,
-        Refusal::UnknownProcessInMessage,
-        Refusal::MessageToItsSender,
-        Refusal::SendNumberTooHigh,
-        Refusal::ReceiptNumberTooHigh,
-        Refusal::UnknownProcess,
-        Refusal::SendToItself,
-        Refusal::UnknownProcessInSet,
-        Refusal::BadList,
-        Refusal::TableFull,
-        Refusal::ScratchTooShort,
-        Refusal::AnswerTooShort,
-    ];
-
-    /// The number of the refusal, 1 to 16.
-    ///
-    /// ```
-    /// assert_eq!(keeper::Refusal::TableTooShort.number(), 1);
-    /// assert_eq!(keeper::Refusal::AnswerTooShort.number(), 16);
-    /// ```
-    pub fn number(self) -> u32 {
-        self as u32 + 1
-    }
-
-    /// The refusal of a number, where there is one.
-    ///
-    /// ```
-    /// use keeper::Refusal;
-    /// assert_eq!(Refusal::from_number(4), Some(Refusal::WrongLength));
-    /// assert_eq!(Refusal::from_number(0), None);
-    /// assert_eq!(Refusal::from_number(17), None);
-    /// ```
-    pub fn from_number(number: u32) -> Option<Refusal> {
-        let place = usize::try_from(number).ok()?.checked_sub(1)?;
-        Refusal::ALL.get(place).copied()
-    }
-}
-
-impl fmt::Display for Refusal {
-    fn fmt(&self, to: &mut fmt::Formatter<'_>) -> fmt::Result {
-        let check = match self {
-            Refusal::TableTooShort => "the table has fewer than 4 bytes",
-            Refusal::ProcessesOutOfRange => "N is 0 or above 32",
-            Refusal::TooManyMessages => "M is above 4,096",
-            Refusal::WrongLength => "the length differs from 4 + 2N + 8M",
-            Refusal::CountOutOfRange => "a count is 0 or above 4,096",
-            Refusal::UnknownProcessInMessage => "a sender or receiver is N or above",
-            Refusal::MessageToItsSender => "a message has the same sender and receiver",
-            Refusal::SendNumberTooHigh => "a send number is not below the sender's count",
-            Refusal::ReceiptNumberTooHigh => "a receipt number is not below the receiver's count",
-            Refusal::UnknownProcess => "a process named in a send or save is N or above",
-            Refusal::SendToItself => "a send names one process twice",
-            Refusal::UnknownProcessInSet => "a set has a bit at N or above",
-            Refusal::BadList => {
-                "a save's list has a position of M or above, or not above the one before it, \
-                 or of a message not waiting for that process"
-            }
-            Refusal::TableFull => "a send meets M = 4,096, or a save meets a count of 4,096",
-            Refusal::ScratchTooShort => "the scratch is shorter than N × N numbers",
-            Refusal::AnswerTooShort => "the answer buffer is shorter than the answer",
-        };
-        write!(to, "refused {}: {check}", self.number())
-    }
-}
-
-impl Error for Refusal {}
-
-/// The calls as the archive has them: a slice is a pointer and a length.
-mod archive {
-    extern "C" {
-        pub fn keeper_check_table(table: *const u8, length: usize) -> u32;
-        pub fn keeper_recovery_line(
-            table: *const u8,
-            length: usize,
-            answer: *mut u8,
-            room: usize,
-            written: *mut usize,
-        ) -> u32;
-        pub fn keeper_line_of_set(
-            table: *const u8,
-            length: usize,
-            set: u32,
-            answer: *mut u8,
-            room: usize,
-            written: *mut usize,
-        ) -> u32;
-        pub fn keeper_send(
-            table: *const u8,
-            length: usize,
-            from: u16,
-            to: u16,
-            answer: *mut u8,
-            room: usize,
-            written: *mut usize,
-        ) -> u32;
-        pub fn keeper_save(
-            table: *const u8,
-            length: usize,
-            process: u16,
-            list: *const u16,
-            entries: usize,
-            answer: *mut u8,
-            room: usize,
-            written: *mut usize,
-        ) -> u32;
-        pub fn keeper_fall_back(
-            table: *const u8,
-            length: usize,
-            answer: *mut u8,
-            room: usize,
-            written: *mut usize,
-        ) -> u32;
-        pub fn keeper_keep_sheet(
-            table: *const u8,
-            length: usize,
-            scratch: *mut u16,
-            numbers: usize,
-            answer: *mut u8,
-            room: usize,
-            written: *mut usize,
-        ) -> u32;
-    }
-}
-
-/// What a returned number and a length written say.
-fn outcome(number: u32, written: usize) -> Result<usize, Refusal> {
-    match Refusal::from_number(number) {
-        None if number == 0 => Ok(written),
-        None => unreachable!("the library answers 0 to 16, and it answered {number}"),
-        Some(refusal) => Err(refusal),
-    }
-}
-
 // Each call below is sound for one reason: the archive's functions are proved
 // to read and write nothing but what they are lent, for slices of any length
 // and any contents, as long as no two of them overlap. A shared and a mutable
 // borrow, or two mutable ones, never overlap.
 
-/// Checks 1 to 9 over the table: `Ok` when all calls accept it.
+/// Whether the table is accepted: `Ok` where no call refuses it by one of the
+/// table's checks.
+///
+/// Checks: the table's.
 ///
 /// ```
 /// # let example_a: Vec<u8> = [2u16, 5, 3, 3, 0, 0, 1, 0, 1, 1, 0, 2, 1, 2, 1, 2, 0, 1, 0, 2, 1, 2, 0, 0]
@@ -271,7 +105,7 @@ pub fn check_table(table: &[u8]) -> Result<(), Refusal> {
 /// process stands at a checkpoint that it has. The answer is N numbers of 16
 /// bits by process, low byte first: 2N bytes, [`LARGEST_LINE`] at most.
 ///
-/// Refusals 1 to 9 and 16.
+/// Checks: the table's, 16.
 ///
 /// ```
 /// # let example_a: Vec<u8> = [2u16, 5, 3, 3, 0, 0, 1, 0, 1, 1, 0, 2, 1, 2, 1, 2, 0, 1, 0, 2, 1, 2, 0, 0]
@@ -301,7 +135,7 @@ pub fn recovery_line(table: &[u8], answer: &mut [u8]) -> Result<usize, Refusal> 
 /// checkpoints, and any other may also stand at its new state, numbered as its
 /// count. The answer has the form of [`recovery_line`]'s.
 ///
-/// Refusals 1 to 9, 12 and 16.
+/// Checks: the table's, 12, 16.
 ///
 /// ```
 /// # let example_a: Vec<u8> = [2u16, 5, 3, 3, 0, 0, 1, 0, 1, 1, 0, 2, 1, 2, 1, 2, 0, 1, 0, 2, 1, 2, 0, 0]
@@ -338,7 +172,7 @@ pub fn line_of_set(table: &[u8], set: u32, answer: &mut [u8]) -> Result<usize, R
 /// waiting for `to`, is added at the end. The answer is a table, 8 bytes
 /// longer than the one given.
 ///
-/// Refusals 1 to 9, 10, 11, 14 and 16.
+/// Checks: the table's, 10, 11, 14, 16.
 ///
 /// ```
 /// # let example_a: Vec<u8> = [2u16, 5, 3, 3, 0, 0, 1, 0, 1, 1, 0, 2, 1, 2, 1, 2, 0, 1, 0, 2, 1, 2, 0, 0]
@@ -374,7 +208,7 @@ pub fn send(table: &[u8], from: u16, to: u16, answer: &mut [u8]) -> Result<usize
 /// empty. Their receipt number becomes the old count of the process, and the
 /// count grows by one. The answer is a table as long as the one given.
 ///
-/// Refusals 1 to 9, 10, 13, 14 and 16.
+/// Checks: the table's, 10, 13, 14, 16.
 ///
 /// ```
 /// # let example_a: Vec<u8> = [2u16, 5, 3, 3, 0, 0, 1, 0, 1, 1, 0, 2, 1, 2, 1, 2, 0, 1, 0, 2, 1, 2, 0, 0]
@@ -410,7 +244,7 @@ pub fn save(table: &[u8], process: u16, list: &[u16], answer: &mut [u8]) -> Resu
 /// the others one received after the line waits again. Order is kept. The
 /// answer is a table, no longer than the one given.
 ///
-/// Refusals 1 to 9 and 16; a buffer shorter than the table is enough where the
+/// Checks: the table's, 16. A buffer shorter than the table is enough where the
 /// answer is.
 ///
 /// ```
@@ -448,7 +282,7 @@ pub fn fall_back(table: &[u8], answer: &mut [u8]) -> Result<usize, Refusal> {
 /// [`SCRATCH_NUMBERS`] are always enough. Under
 /// [`Refusal::AnswerTooShort`] the scratch holds the lines too.
 ///
-/// Refusals 1 to 9, 15 and 16.
+/// Checks: the table's, 15, 16.
 ///
 /// ```
 /// # let example_a: Vec<u8> = [2u16, 5, 3, 3, 0, 0, 1, 0, 1, 1, 0, 2, 1, 2, 1, 2, 0, 1, 0, 2, 1, 2, 0, 0]
@@ -487,17 +321,6 @@ pub fn keep_sheet(table: &[u8], scratch: &mut [u16], answer: &mut [u8]) -> Resul
 #[cfg(test)]
 mod tests {
     use super::*;
-
-    #[test]
-    fn numbers_of_the_refusals() {
-        for (place, refusal) in Refusal::ALL.into_iter().enumerate() {
-            assert_eq!(refusal.number(), place as u32 + 1);
-            assert_eq!(Refusal::from_number(refusal.number()), Some(refusal));
-            assert!(refusal
-                .to_string()
-                .starts_with(&format!("refused {}: ", place + 1)));
-        }
-    }
 
     #[test]
     fn sizes() {

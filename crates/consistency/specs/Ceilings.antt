@@ -1,4 +1,4 @@
--- The ceiling of processes that do not checkpoint (01: a holding set), their line, and the recovery line. Assumes nothing.
+-- The ceiling of processes that do not checkpoint (that hold), their line, and the recovery line. Assumes nothing.
 use mathlib.Core.Bool.{Bool, cond, true}
 use mathlib.Core.List.{List}
 use Prim.Native.Nat.{ℕ, _-_}

@@ -1,10 +1,10 @@
--- Orphans and consistent lines (document 01, "Lines"). Assumes nothing.
+-- Orphans and consistent lines (docs/MANUAL.md, "Lines"). Assumes nothing.
 use mathlib.Core.List.{List}
 use Prim.Native.Nat.{ℕ, _≤_, _<_}
 use lib.ListN.{getD}
 use Rattle.run_table.specs.Table.{Message, noMessage}
 
--- A line gives each process a number: a checkpoint, or its count for the virtual checkpoint (01: new state), which stands for
+-- A line gives each process a number: a checkpoint, or its count for the virtual checkpoint, which stands for
 -- what the process has become since its last one. It is 0 beyond the last process.
 abbrev pub Line : Type 0
 Line = ℕ → ℕ

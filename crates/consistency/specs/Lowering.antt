@@ -1,4 +1,4 @@
--- The computed line (document 01, "Lowering rule"): rollback propagation. Assumes nothing.
+-- The computed line (docs/MANUAL.md, "Lines"): rollback propagation. Assumes nothing.
 use mathlib.Core.Bool.{Bool, cond, _&&_}
 use mathlib.Core.List.{List, [], _∷_}
 use Prim.Native.Nat.{ℕ, zero, suc, _-_}

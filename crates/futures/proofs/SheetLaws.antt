@@ -229,14 +229,14 @@ module _ (t : Table) where
         on-line k = eqb (at (holderLine t k) i) c
 
   module _ (m : Message) where
-    crosses-is : (l : List ℕ) → (crosses l m ≡ true) ↔ Across m (at l)
+    crosses-is : (l : Line) → (crosses l m ≡ true) ↔ Across m l
     unfolding crosses
     crosses-is l = (
       λ e. (
-        ltb-true (m .sent) (at l (m .sender)) (and-left (ltb (m .sent) (at l (m .sender))) (ltb (at l (m .receiver)) (m .received)) e),
-        ltb-true (at l (m .receiver)) (m .received) (and-right (ltb (m .sent) (at l (m .sender))) (ltb (at l (m .receiver)) (m .received)) e),
+        ltb-true (m .sent) (l (m .sender)) (and-left (ltb (m .sent) (l (m .sender))) (ltb (l (m .receiver)) (m .received)) e),
+        ltb-true (l (m .receiver)) (m .received) (and-right (ltb (m .sent) (l (m .sender))) (ltb (l (m .receiver)) (m .received)) e),
       ),
-      λ h. rw (lt-ltb (m .sent) (at l (m .sender)) (h .0), lt-ltb (at l (m .receiver)) (m .received) (h .1)),
+      λ h. rw (lt-ltb (m .sent) (l (m .sender)) (h .0), lt-ltb (l (m .receiver)) (m .received) (h .1)),
     )
 
     pub keeps-message : (keepsMessage t m ≡ true) ↔ ((m .received ≡ 0) ⊎ HolderWith t (λ l. Across m (at l)))
@@ -244,18 +244,18 @@ module _ (t : Table) where
     keeps-message = (there (eqb (m .received) 0) refl, back)
       where
         across : ℕ → Bool
-        across k = crosses (holderLine t k) m
+        across k = crosses (at (holderLine t k)) m
 
         there : (b : Bool) → eqb (m .received) 0 ≡ b → (b || anyBelow (processCount t) across) ≡ true → (m .received ≡ 0) ⊎ HolderWith t (λ l. Across m (at l))
         there true waits e = inl (eqb-true (m .received) 0 waits)
         there false waits e =
             let found = found-below across (processCount t) e in
-            inr (found .0, found .1, crosses-is (holderLine t (found .0)) .0 (found .2))
+            inr (found .0, found .1, crosses-is (at (holderLine t (found .0))) .0 (found .2))
 
         back : (m .received ≡ 0) ⊎ HolderWith t (λ l. Across m (at l)) → (eqb (m .received) 0 || anyBelow (processCount t) across) ≡ true
         back (inl e) = rw (eq-eqb (m .received) 0 e)
         back (inr h) =
-            rw (anyBelow-found across (processCount t) (h .0) (h .1) (crosses-is (holderLine t (h .0)) .1 (h .2)))
+            rw (anyBelow-found across (processCount t) (h .0) (h .1) (crosses-is (at (holderLine t (h .0))) .1 (h .2)))
             (or-true (eqb (m .received) 0))
 
 -- ---- the lists of the sheet

@@ -1,4 +1,4 @@
--- Demand 3 (document 01, "The keep sheet"): what any future needs is on the sheet, and what is on the sheet some future needs.
+-- Demand 3 (docs/MANUAL.md, "The keep sheet"): what any future needs is on the sheet, and what is on the sheet some future needs.
 -- Assumes nothing.
 use mathlib.Core.List.{List}
 use mathlib.Core.Logic.{_↔_}

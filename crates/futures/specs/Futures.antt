@@ -1,4 +1,4 @@
--- Futures and what they need (document 01, "The keep sheet"). A future is a finite list of steps; each takes what the one before it
+-- Futures and what they need (docs/MANUAL.md, "The keep sheet"). A future is a finite list of steps; each takes what the one before it
 -- left, and nobody else changes the table in between. It is told of the recovery line and of the steps, and of nothing else.
 -- Assumes nothing.
 use mathlib.Core.Bool.{cond}

@@ -1,4 +1,4 @@
--- How a run goes on, and what it may call for, in the order of document 01, "Steps" and "The keep sheet".
+-- How a run goes on, and what it may call for, in the order of docs/MANUAL.md, "Steps" and "The keep sheet".
 --     Steps      send, checkpoint and rollback on tables
 --     Futures    lists of steps; what is still there at their end, and what they need
 --     Sheet      the checkpoints and messages that are kept, and the bytes of the sheet

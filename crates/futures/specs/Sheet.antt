@@ -1,4 +1,4 @@
--- The keep sheet (document 01, "The keep sheet"): retained checkpoints and message logs, from the lines of single holders.
+-- The keep sheet (docs/MANUAL.md, "The keep sheet"): retained checkpoints and message logs, from the lines of single holders.
 -- Assumes nothing.
 use mathlib.Core.Bool.{Bool, _&&_, _||_}
 use mathlib.Core.List.{List, _∷_, _++_, map}
@@ -6,7 +6,7 @@ use Prim.Native.Nat.{ℕ}
 use lib.Dec.{eqb, ltb}
 use lib.ListN.{length}
 use Rattle.consistency.specs.Ceilings.{lineOf, single}
-use Rattle.consistency.specs.Lines.{at}
+use Rattle.consistency.specs.Lines.{Line, at}
 use Rattle.run_table.specs.Lists.{anyBelow, rows, select}
 use Rattle.run_table.specs.Numbers.{u16s}
 use Rattle.run_table.specs.Table.{Message, Table, countOf, messageCount, messageOf, processCount}
@@ -24,12 +24,12 @@ unfoldable pub keepsCheckpoint : Table → ℕ → ℕ → Bool
 keepsCheckpoint t i c = ltb c (countOf t i) && anyBelow (processCount t) (λ k. eqb (at (holderLine t k) i) c)
 
 -- A message crosses a line: y < L of its sender, and L of its receiver < r.
-unfoldable pub crosses : List ℕ → Message → Bool
-crosses l m = ltb (m .sent) (at l (m .sender)) && ltb (at l (m .receiver)) (m .received)
+unfoldable pub crosses : Line → Message → Bool
+crosses l m = ltb (m .sent) (l (m .sender)) && ltb (l (m .receiver)) (m .received)
 
 -- A message is kept when it is undelivered, or when it crosses some single holder's line.
 unfoldable pub keepsMessage : Table → Message → Bool
-keepsMessage t m = eqb (m .received) 0 || anyBelow (processCount t) (λ k. crosses (holderLine t k) m)
+keepsMessage t m = eqb (m .received) 0 || anyBelow (processCount t) (λ k. crosses (at (holderLine t k)) m)
 
 -- A checkpoint of a process.
 pub record Kept : Type 0 where

@@ -1,4 +1,4 @@
--- Send, checkpoint (01: save) and rollback (01: fall back) on tables. The same steps serve the calls and the futures. They are
+-- Send, checkpoint (save) and rollback (fall back) on tables (docs/MANUAL.md, "Steps"). The same steps serve the calls and the futures. They are
 -- total: a step that is caught gives the table back. Numbers have no upper bound. Assumes nothing.
 use mathlib.Core.Bool.{Bool, cond, false, not, _&&_, _||_}
 use mathlib.Core.List.{List, [], _∷_, _++_, map}

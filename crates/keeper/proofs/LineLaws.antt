@@ -17,7 +17,7 @@ use Rattle.consistency.specs.Lines.{Latest, at}
 use Rattle.consistency.specs.Lowering.{lineUnder}
 use Rattle.keeper.proofs.AnswerLaws.{put-in-front}
 use Rattle.keeper.specs.Calls.{HoldsLatest}
-use Rattle.lines.proofs.ArrayLaws.{all-hold}
+use Rattle.lines.proofs.LineReads.{all-hold}
 use Rattle.process_set.specs.Sets.{member}
 use Rattle.run_table.proofs.AcceptLaws.{accepted}
 use Rattle.run_table.proofs.ListLaws.{getD-tabulate, length-tabulate}
@@ -71,5 +71,5 @@ set-holds table none holds buffer buffer′ put =
     (λ p l. omega (arith, set-below (decode table) holds p, accepted table none .limits .counts-limit p l)) put
 
 pub recovery-put : (table : List ℕ) → tableRefusal table ≡ 0 → (buffer buffer′ : List ℕ)
-    → buffer′ ≡ putAt buffer 0 (u16s (lineOf (decode table) (member 4294967295))) → buffer′ ≡ putAt buffer 0 (u16s (recoveryLine (decode table)))
+    → buffer′ ≡ putAt buffer 0 (u16s (lineOf (decode table) (member allProcesses))) → buffer′ ≡ putAt buffer 0 (u16s (recoveryLine (decode table)))
 recovery-put table none buffer buffer′ put = put ∙ ap (λ (l : List ℕ). putAt buffer 0 (u16s l)) (all-hold table none)

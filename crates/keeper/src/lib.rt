@@ -7,6 +7,7 @@
 pub mod refusals;
 pub mod sizes;
 
+use lines::recovery_line;
 use refusals::save_refusal;
 use refusals::send_refusal;
 use refusals::set_refusal;
@@ -17,7 +18,6 @@ use retention::fill_lines;
 use retention::put_sheet;
 use rollback::count_remaining;
 use rollback::put_rollback;
-use rollback::recovery_line;
 use run_table::checks::check;
 use sizes::line_size;
 use sizes::rollback_size;
@@ -63,7 +63,7 @@ pub extern "C" fn keeper_recovery_line(table: &[u8], answer: &mut [u8], written:
     if answer.len() < size {
         return 16;
     }
-    lines::put_line_of_set(table, 4294967295, answer);
+    lines::put_line_of_set(table, process_set::ALL, answer);
     *written = size;
     0
 }

@@ -1,3 +1,5 @@
--- The laws of the code that reads a scratch of lines.
---     ScratchLaws    lines in a scratch; what the loops over them find
+-- The laws of the code that finds what is kept.
+--     KeptLaws       what loops over n lines find
+--     ScratchLaws    lines in a scratch
+pub mod KeptLaws
 pub mod ScratchLaws

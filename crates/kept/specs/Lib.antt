@@ -1,3 +1,5 @@
--- What is kept, as a scratch of lines says it.
---     Scratch    what the code reads off a scratch that begins with n lines of n numbers each
+-- What is kept, as lines say it.
+--     Kept       what n lines say is kept
+--     Scratch    lines that stand in a scratch
+pub mod Kept
 pub mod Scratch

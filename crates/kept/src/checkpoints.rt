@@ -4,7 +4,8 @@ use run_table::numbers::u16_at;
 ghost use mathlib.Core.Path.{_≡_};
 ghost use Prim.Native.Nat.{_*_, _<_, _≤_};
 ghost use lib.ListN.{length};
-ghost use Rattle.kept.specs.Scratch.{First, checkpointsOf, shows, statesOf};
+ghost use Rattle.kept.specs.Kept.{First, checkpointsOf, shows, statesOf};
+ghost use Rattle.kept.specs.Scratch.{entryAt};
 
 // The smallest state from a start on, below a count, that some line has at process i; the count where
 // there is none.
@@ -12,7 +13,7 @@ pub fn next_kept(scratch: &[u16], n: usize, i: usize, from: u16, count: u16) -> 
     requires { ⌜ n * n ≤ length (now scratch) ⌝ }
     requires { ⌜ i < n ⌝ }
     requires { ⌜ from ≤ count ⌝ }
-    ensures { λ r. ⌜ First (shows (now (scratch .entry)) n i) from count r ⌝ }
+    ensures { λ r. ⌜ First (shows n (entryAt (now (scratch .entry)) n) i) from count r ⌝ }
 {
     let mut least = count;
     let mut k = 0;
@@ -34,7 +35,7 @@ pub fn next_kept(scratch: &[u16], n: usize, i: usize, from: u16, count: u16) -> 
 fn count_states(scratch: &[u16], n: usize, i: usize, count: u16) -> usize
     requires { ⌜ n * n ≤ length (now scratch) ⌝ }
     requires { ⌜ i < n ⌝ }
-    ensures { λ r. ⌜ r ≡ length (statesOf (now (scratch .entry)) n i count) ⌝ }
+    ensures { λ r. ⌜ r ≡ length (statesOf n (entryAt (now (scratch .entry)) n) i count) ⌝ }
 {
     let mut kept = 0;
     let mut state = next_kept(scratch, n, i, 0, count);
@@ -50,7 +51,7 @@ pub fn count_kept(scratch: &[u16], n: usize, counts: &[u8]) -> usize
     requires { ⌜ n * n ≤ length (now scratch) ⌝ }
     requires { ⌜ n ≤ 32 ⌝ }
     requires { ⌜ length (now counts) ≡ 2 * n ⌝ }
-    ensures { λ r. ⌜ r ≡ length (checkpointsOf (now (scratch .entry)) n (now (counts .entry))) ⌝ }
+    ensures { λ r. ⌜ r ≡ length (checkpointsOf n (entryAt (now (scratch .entry)) n) (now (counts .entry))) ⌝ }
 {
     let mut total = 0;
     let mut i = 0;

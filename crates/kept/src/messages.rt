@@ -5,14 +5,15 @@ use run_table::numbers::u16_at;
 ghost use mathlib.Core.Path.{_≡_};
 ghost use Prim.Native.Nat.{ℕ, _+_, _*_, _<_, _≤_};
 ghost use lib.ListN.{length};
-ghost use Rattle.kept.specs.Scratch.{crossesLine, isKept, lowestAt, lowestLine, positionsOf};
+ghost use Rattle.kept.specs.Kept.{crossesLine, isKept, lowestAt, lowestLine, positionsOf};
+ghost use Rattle.kept.specs.Scratch.{entryAt};
 ghost use Rattle.run_table.specs.Format.{messageAt, processAt};
 
 // The lowest line: at each process the least number that any of n lines has there.
 pub fn lowest_line(scratch: &[u16], n: usize) -> [u16; 32]
     requires { ⌜ n * n ≤ length (now scratch) ⌝ }
     requires { ⌜ n ≤ 32 ⌝ }
-    ensures { λ r. ⌜ r ≡ lowestLine (now (scratch .entry)) n ⌝ }
+    ensures { λ r. ⌜ r ≡ lowestLine n (entryAt (now (scratch .entry)) n) ⌝ }
 {
     let mut lowest = [0u16; 32];
     let mut i = 0;
@@ -36,7 +37,7 @@ fn crosses_line(
     requires { ⌜ n * n ≤ length (now scratch) ⌝ }
     requires { ⌜ sender < n ⌝ }
     requires { ⌜ receiver < n ⌝ }
-    ensures { λ r. ⌜ r ≡ crossesLine (now (scratch .entry)) n sender sent receiver received ⌝ }
+    ensures { λ r. ⌜ r ≡ crossesLine n (entryAt (now (scratch .entry)) n) (record { sender = sender; sent = sent; receiver = receiver; received = received }) ⌝ }
 {
     let mut k = 0;
     while k < n {
@@ -65,13 +66,13 @@ pub fn is_kept(
     receipts: &[u8],
     k: usize,
 ) -> bool
-    requires { ⌜ lowest ≡ lowestAt (now scratch) n (processAt (now receipts) k) ⌝ }
+    requires { ⌜ lowest ≡ lowestAt n (entryAt (now scratch) n) (processAt (now receipts) k) ⌝ }
     requires { ⌜ n * n ≤ length (now scratch) ⌝ }
     requires { ⌜ 4 * k + 3 < length (now sends) ⌝ }
     requires { ⌜ 4 * k + 3 < length (now receipts) ⌝ }
     requires { ⌜ processAt (now sends) k < n ⌝ }
     requires { ⌜ processAt (now receipts) k < n ⌝ }
-    ensures { λ r. ⌜ r ≡ isKept (now (scratch .entry)) n (messageAt (now (sends .entry)) (now (receipts .entry)) k) ⌝ }
+    ensures { λ r. ⌜ r ≡ isKept n (entryAt (now (scratch .entry)) n) (messageAt (now (sends .entry)) (now (receipts .entry)) k) ⌝ }
 {
     let receiver = u16_at(receipts, 4 * k) as usize;
     let received = u16_at(receipts, 4 * k + 2);
@@ -94,7 +95,7 @@ pub fn count_kept(scratch: &[u16], n: usize, sends: &[u8], receipts: &[u8], m: u
     requires { ⌜ length (now receipts) ≡ 4 * m ⌝ }
     requires { ⌜ ((k : ℕ) → k < m → processAt (now sends) k < n) ⌝ }
     requires { ⌜ ((k : ℕ) → k < m → processAt (now receipts) k < n) ⌝ }
-    ensures { λ r. ⌜ r ≡ length (positionsOf (now (scratch .entry)) n (now (sends .entry)) (now (receipts .entry)) m) ⌝ }
+    ensures { λ r. ⌜ r ≡ length (positionsOf n (entryAt (now (scratch .entry)) n) (now (sends .entry)) (now (receipts .entry)) m) ⌝ }
 {
     let lowest = lowest_line(scratch, n);
     let mut kept = 0;

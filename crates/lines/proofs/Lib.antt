@@ -1,9 +1,7 @@
 -- The laws of the code of lines.
---     ArrayLaws          a line as an array of 32 numbers
---     FillLaws           an array that a loop fills from the front
+--     LineReads          the lines that the code finds, as arrays of 32 numbers
 --     PassLaws           what a pass over the messages keeps and finds
 --     PropagationLaws    the processes from which a rollback propagates
-pub mod ArrayLaws
-mod FillLaws
+pub mod LineReads
 mod PassLaws
 mod PropagationLaws

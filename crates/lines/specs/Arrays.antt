@@ -1,17 +1,12 @@
--- A line as the code holds it, and the messages that it reads. Assumes nothing.
+-- Of the code: how high a process may stand, and the messages, as they are read off a table's parts. Assumes nothing.
 use mathlib.Core.List.{List}
 use mathlib.Core.Bool.{cond}
 use Prim.Native.Nat.{ℕ, _-_}
 use lib.Dec.{ltb}
-use lib.ListN.{getD}
 use Rattle.process_set.specs.Sets.{member}
 use Rattle.run_table.specs.Format.{countAt, messageAt}
 use Rattle.run_table.specs.Lists.{tabulate}
 use Rattle.run_table.specs.Table.{Message}
-
--- A line as an array of 32 numbers: what stands at N and beyond is 0.
-unfoldable pub arrayOf : List ℕ → List ℕ
-arrayOf l = tabulate 32 (λ p. getD l p 0)
 
 -- How high a process may stand for a set, from a part of n counts: at its last checkpoint where it holds, and else at its
 -- virtual one. It is 0 from n on.

@@ -24,8 +24,6 @@ use Rattle.keeper.proofs.SheetBytes.{read-kept, read-logged, read-position, rea
 use Rattle.keeper.proofs.SheetLaws.{long-scratch, scratch-filled}
 use Rattle.keeper.specs.Answers.{Yields, answer, bufferAfter, lengthAfter, numberOf, unless}
 use Rattle.keeper.specs.Calls.{keepSheetAnswer, keepSheetChecks, scratchAfter}
-use Rattle.lines.proofs.ArrayLaws.{array-length, array-numbers}
-use Rattle.lines.specs.Arrays.{arrayOf}
 use Rattle.listing_text.proofs.RowLaws.{line-in}
 use Rattle.listing_text.proofs.TextLaws.{Parts, each-rows, overlay-front}
 use Rattle.listing_text.specs.Listing.{checkpointRow, holdRow, lineRow, listing, listingAnswer, listingOf, listingUnless, messageRow, refusedRow, share, shareRow}
@@ -34,9 +32,11 @@ use Rattle.listing_text.specs.Text.{Laid, each, overlay}
 use Rattle.retention.proofs.SheetLaws.{entry-is, holder-length, kept-few, lines-length, lines-stand, sheet-length}
 use Rattle.kept.specs.Scratch.{entryAt}
 use Rattle.run_table.proofs.AcceptLaws.{accepted}
+use Rattle.run_table.proofs.ArrayLaws.{array-front, array-length}
 use Rattle.run_table.proofs.CheckLaws.{areRefusals, clear, passed, stopped}
 use Rattle.run_table.proofs.ListLaws.{rows-ext, tabulate-ext, tabulate-getD}
 use Rattle.run_table.proofs.ReadLaws.{processes-few}
+use Rattle.run_table.specs.Arrays.{arrayOf}
 use Rattle.run_table.specs.Checks.{firstCaught, tableRefusal}
 use Rattle.run_table.specs.Format.{decode}
 use Rattle.run_table.specs.Lists.{rows, sum, tabulate}
@@ -126,7 +126,7 @@ module _ (table : List ℕ) (none : tableRefusal table ≡ 0) where
       let few : processCount t₂ ≤ 32 = processes-few table none in
       let size : length (recoveryLine t₂) ≡ processCount t₂ = set-length t₂ (λ p. true) in
       let fits : n ≤ length line = omega (arith, ap length is, array-length (recoveryLine t₂)) in
-      (fits, take-tabulate n line fits ∙ array-numbers (recoveryLine t₂) line n is (omega arith) (omega arith))
+      (fits, array-front (recoveryLine t₂) line n is (omega arith) (omega arith))
 
   module _ (scratch bytes : List ℕ) (h : Answered t₂ scratch bytes) where
     -- the lines of single holders

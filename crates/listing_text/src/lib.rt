@@ -3,7 +3,7 @@ pub mod rows;
 pub mod text;
 
 use keeper::keeper_keep_sheet;
-use rollback::recovery_line;
+use lines::recovery_line;
 use run_table::lookups;
 use run_table::numbers::u16_at;
 use run_table::parts;

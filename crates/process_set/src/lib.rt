@@ -1,8 +1,11 @@
-// Sets of processes: a set is a number of 32 bits, and process p is in it where bit p is set (document
-// 01: processes that hold).
+// Sets of processes: a set is a number of 32 bits, and process p is in it where bit p is set
+// (docs/MANUAL.md, "Lines": processes that hold).
 ghost use mathlib.Core.Path.{_≡_};
 ghost use Prim.Native.Nat.{_<_, _^_};
 ghost use Rattle.process_set.specs.Sets.{member, highBit};
+
+// The set of all 32 processes.
+pub const ALL: u32 = 4294967295;
 
 // The value of each bit. Only `bit` reads this table.
 const BITS: [u32; 32] = [

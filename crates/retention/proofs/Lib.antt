@@ -1,13 +1,13 @@
 -- The laws of the code of retention.
 --     FewLaws        the sheet is short
 --     Loans          a lent slice that is lent on for a call
---     Writers        the sheet's writer in a walk by hand
---     WriterCalls    the calls that make, use and end a writer, as steps of a walk
+--     Walking        what the two walks by hand share
 --     WritingLaws    numbers put into a buffer
 --     SheetLaws      what the code finds is the keep sheet of the table
+--     PartLaws       the parts of the sheet, put one after another
 pub mod FewLaws
 mod Loans
+mod PartLaws
 pub mod SheetLaws
-mod WriterCalls
-mod Writers
+mod Walking
 mod WritingLaws

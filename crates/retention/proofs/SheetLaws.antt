@@ -1,14 +1,15 @@
 -- What the code finds is the keep sheet of the table.
 --     lines-length, lines-stand                   the lines of single holders; where `fill_lines` leaves them
---     holder-numbers                              the line of one holder, as the code finds it
---     checkpoints-are, columns-are, positions-are what the code finds in a scratch that has the lines
---     .. -needs, .. -found                        the same, from what the code read
---     sheet-length, sheet-is                      the sheet's length and its numbers
+--     holder-front                                the line of one holder, as the code finds it
+--     checkpoints-are, positions-are              what lines of single holders say is kept
+--     entry-is                                    lines in the scratch are the lines of single holders
+--     .. -needs, .. -found                        what the code finds, from what it read
+--     sheet-length                                the sheet's length
 --     kept-few                                    the sheet of an accepted table is not long
 -- Assumes nothing.
-use mathlib.Core.Bool.{Bool, cond, true, false, _&&_, _||_}
-use mathlib.Core.List.{List, [], _∷_, _++_, append-assoc, map, map-map}
-use mathlib.Core.Path.{_≡_, sym, ap, ap₂, _∙_}
+use mathlib.Core.Bool.{Bool, cond, _&&_, _||_}
+use mathlib.Core.List.{List, _∷_, _++_, map, map-map}
+use mathlib.Core.Path.{_≡_, refl, sym, ap, ap₂, _∙_}
 use Prim.Native.Nat.{ℕ, _+_, _-_, _*_, _^_, _<_, _≤_}
 use native.Mathlib.Nat.{mul-le-mul}
 use native.Mathlib.Omega.{arith}
@@ -18,25 +19,25 @@ use lib.ListN.{length, getD, take, drop, length-append, length-map, length-take}
 use lib.Seq.{getD-take, take-at}
 use Rattle.consistency.proofs.CeilingLaws.{set-length}
 use Rattle.consistency.specs.Ceilings.{ceilingOf, lineOf, single}
-use Rattle.consistency.specs.Lines.{at}
+use Rattle.consistency.specs.Lines.{Line, at}
 use Rattle.consistency.specs.Lowering.{lineUnder}
 use Rattle.futures.specs.Sheet.{Kept, crosses, holderLine, holderLines, keepsCheckpoint, keepsMessage, keptCheckpoints, keptMessages, sheet}
-use Rattle.lines.proofs.ArrayLaws.{line-numbers}
-use Rattle.lines.specs.Arrays.{arrayOf}
+use Rattle.lines.proofs.LineReads.{set-front}
 use Rattle.process_set.proofs.SetLaws.{member-one}
 use Rattle.process_set.specs.Sets.{member}
 use Rattle.retention.proofs.FewLaws.{checkpoints-few}
 use Rattle.kept.proofs.ScratchLaws.{cell-below}
-use Rattle.retention.proofs.WritingLaws.{room-checkpoints, room-positions, sheet-put}
-use Rattle.kept.specs.Scratch.{checkpointsAt, checkpointsOf, columnAt, columnOf, crossesLine, entryAt, isKept, positionsOf, shows, statesOf}
-use Rattle.retention.specs.Writing.{Put}
+use Rattle.kept.specs.Kept.{checkpointsAt, checkpointsOf, columnAt, columnOf, crossesLine, isKept, positionsOf, shows, statesOf}
+use Rattle.kept.specs.Scratch.{entryAt}
 use Rattle.run_table.proofs.ListLaws.{anyBelow-ext, map-rows, rows-at, rows-ext, rows-length, select-ext, select-small, tabulate-ext}
 use Rattle.run_table.proofs.NumberLaws.{length-u16s}
-use Rattle.run_table.proofs.ReadLaws.{count-is, counts-size, message-good, message-is, messages-few, processes-few, receipts-size, receivers-known, senders-known, sends-size}
-use Rattle.run_table.specs.Checks.{tableRefusal}
-use Rattle.run_table.specs.Format.{countAt, countsPart, decode, processAt, receiptsPart, sendsPart}
+use Rattle.run_table.proofs.ReadLaws.{count-is, counts-size, message-good, message-is, messages-few, processes-few}
+use Rattle.run_table.proofs.ReadLaws.{receipts-size, receivers-known, senders-known, sends-size}
+use Rattle.run_table.specs.Arrays.{arrayOf}
+use Rattle.run_table.specs.Checks.{GoodMessage, tableRefusal}
+use Rattle.run_table.specs.Format.{countAt, countsPart, decode, messageAt, processAt, receiptsPart, sendsPart}
 use Rattle.run_table.specs.Lists.{rows, select, tabulate}
-use Rattle.run_table.specs.Numbers.{putAt, u16s}
+use Rattle.run_table.specs.Numbers.{putAt}
 use Rattle.run_table.specs.Table.{Message, Table, countOf, messageCount, messageOf, processCount}
 
 -- ---- the lines of single holders
@@ -52,9 +53,8 @@ module _ (t : Table) where
   unfolding holderLines
   lines-length = rows-length (holderLine t) N holder-length N
 
-  pub lines-fit : (n : ℕ) (s : List ℕ) → n ≡ N → N * N ≤ length s → length (rows (holderLine t) n) ≤ length s
-  unfolding holderLines
-  lines-fit n s same room = rw same (omega (arith, lines-length))
+  pub lines-fit : (n : ℕ) (s : List ℕ) → n ≡ N → N * N ≤ length s → 0 + n * n ≤ length s
+  lines-fit n s same room = rw same (omega arith)
 
   -- where the lines stand once they are written to the front of a scratch
   pub lines-stand : (before after : List ℕ) → N * N ≤ length before → after ≡ putAt before 0 (holderLines t) → take (N * N) after ≡ holderLines t
@@ -82,6 +82,31 @@ module _ (t : Table) where
         length-map ks (λ (k : Kept). k .state),
       )
 
+  -- what lines say is kept that are those of single holders
+  module _ (line : ℕ → Line) (are : (k i : ℕ) → k < N → i < N → line k i ≡ at (holderLine t k) i) where
+    states-are : (i : ℕ) → i < N → statesOf N line i (countOf t i) ≡ select (keepsCheckpoint t i) (countOf t i)
+    unfolding statesOf shows keepsCheckpoint
+    states-are i l =
+        select-ext _ _ (countOf t i) (λ c b. rw (lt-ltb c (countOf t i) b) (anyBelow-ext _ _ N (λ k d. ap (λ (x : ℕ). eqb x c) (are k i d l))))
+
+    checkpoints-are : (counts : List ℕ) → ((i : ℕ) → i < N → countAt counts i ≡ countOf t i) → checkpointsOf N line counts ≡ keptCheckpoints t
+    unfolding checkpointsOf checkpointsAt keptCheckpoints
+    checkpoints-are counts read =
+        rows-ext _ _ N (λ i l. ap (map (λ c. record { process = i; state = c })) (ap (statesOf N line i) (read i l) ∙ states-are i l))
+
+    kept-is : (m : Message) → GoodMessage t m → isKept N line m ≡ keepsMessage t m
+    unfolding isKept keepsMessage crossesLine crosses
+    kept-is m good =
+        ap (λ (r : Bool). eqb (m .received) 0 || r)
+        (anyBelow-ext _ _ N (λ k l.
+        ap₂ (λ (x y : ℕ). ltb (m .sent) x && ltb y (m .received)) (are k (m .sender) l (good .sender-known)) (are k (m .receiver) l (good .receiver-known))))
+
+    positions-are : (sends receipts : List ℕ) → ((k : ℕ) → k < messageCount t → messageAt sends receipts k ≡ messageOf t k)
+        → ((k : ℕ) → k < messageCount t → GoodMessage t (messageOf t k)) → positionsOf N line sends receipts (messageCount t) ≡ keptMessages t
+    unfolding positionsOf keptMessages
+    positions-are sends receipts read good =
+        select-ext _ _ (messageCount t) (λ k l. ap (isKept N line) (read k l) ∙ kept-is (messageOf t k) (good k l))
+
 -- at most N × N checkpoints, and M messages
 pub kept-few : (bytes : List ℕ) → tableRefusal bytes ≡ 0 → (length (keptCheckpoints (decode bytes)) ≤ 1024) × (length (keptMessages (decode bytes)) ≤ 4096)
 unfolding keptMessages
@@ -93,15 +118,10 @@ kept-few bytes none =
     )
 
 -- the line of holder k, as the code finds it
-pub holder-numbers : (bytes : List ℕ) (none : tableRefusal bytes ≡ 0) (n k set : ℕ) (line : List ℕ) → n ≡ processCount (decode bytes) → set ≡ 2 ^ k
-    → line ≡ arrayOf (lineOf (decode bytes) (member set)) → tabulate n (λ p. getD line p 0) ≡ holderLine (decode bytes) k
-holder-numbers bytes none n k set line read-n one e = line-numbers bytes none set n line read-n e ∙ holder-line (decode bytes) k set one
-
--- the numbers of the sheet
-sheet-is : (t : Table) (k q : ℕ) (cs qs : List ℕ) → k ≡ length (keptCheckpoints t) → q ≡ length (keptMessages t)
-    → cs ≡ map (λ x. x .process) (keptCheckpoints t) ++ map (λ x. x .state) (keptCheckpoints t) → qs ≡ keptMessages t → u16s (k ∷ q ∷ (cs ++ qs)) ≡ sheet t
-unfolding sheet
-sheet-is t k q cs qs a b c d = rw (a, b, c, d, append-assoc)
+pub holder-front : (bytes : List ℕ) (none : tableRefusal bytes ≡ 0) (n k : ℕ) (line : List ℕ) → n ≡ processCount (decode bytes)
+    → line ≡ arrayOf (lineOf (decode bytes) (member (2 ^ k))) → take n line ≡ holderLine (decode bytes) k
+holder-front bytes none n k line read-n e =
+    ap (λ (x : ℕ). take x line) read-n ∙ set-front bytes none (2 ^ k) line e ∙ holder-line (decode bytes) k (2 ^ k) refl
 
 -- ---- what the code finds in a scratch that has the lines of an accepted table
 module _ (bytes : List ℕ) (none : tableRefusal bytes ≡ 0) (s : List ℕ)
@@ -118,72 +138,21 @@ module _ (bytes : List ℕ) (none : tableRefusal bytes ≡ 0) (s : List ℕ)
       sym (getD-take (N t * N t) s (N t * k + i) 0 (cell-below (N t) k i l b)) ∙ ap (λ (x : List ℕ). getD x (N t * k + i) 0) stand
       ∙ rows-at (holderLine t) (N t) (holder-length t) (N t) k i 0 l b
 
-  -- checkpoints
-  keeps-is : (i c : ℕ) → i < N t → c < countOf t i → shows s (N t) i c ≡ keepsCheckpoint t i c
-  unfolding shows keepsCheckpoint
-  keeps-is i c l b =
-      rw (lt-ltb c (countOf t i) b)
-      (anyBelow-ext (λ k. eqb (entryAt s (N t) k i) c) (λ k. eqb (at (holderLine t k) i) c) (N t)
-      (λ k d. ap (λ (x : ℕ). eqb x c) (entry-is k i d l)))
-
-  states-are : (i : ℕ) → i < N t → statesOf s (N t) i (countAt (countsPart bytes) i) ≡ select (keepsCheckpoint t i) (countOf t i)
-  unfolding statesOf
-  states-are i l =
-      ap (select (shows s (N t) i)) (count-is bytes none i l) ∙ select-ext (shows s (N t) i) (keepsCheckpoint t i) (countOf t i) (λ c b. keeps-is i c l b)
-
-  checkpoints-are : checkpointsOf s (N t) (countsPart bytes) ≡ keptCheckpoints t
-  unfolding checkpointsOf checkpointsAt keptCheckpoints
-  checkpoints-are = rows-ext _ _ (N t) (λ i l. ap (map (λ c. record { process = i; state = c })) (states-are i l))
-
-  -- messages
-  kept-is : (m : Message) → m .sender < N t → m .receiver < N t → isKept s (N t) m ≡ keepsMessage t m
-  unfolding isKept keepsMessage crossesLine crosses
-  kept-is m a b =
-      ap (λ (r : Bool). eqb (m .received) 0 || r)
-      (anyBelow-ext _ _ (N t) (λ k l. ap₂ (λ (x y : ℕ). ltb (m .sent) x && ltb y (m .received)) (entry-is k (m .sender) l a) (entry-is k (m .receiver) l b)))
-
-  positions-are : positionsOf s (N t) (sendsPart bytes) (receiptsPart bytes) (messageCount t) ≡ keptMessages t
-  unfolding positionsOf keptMessages
-  positions-are =
-      select-ext _ _ (messageCount t)
-      (λ k l.
-      let good = message-good bytes none k l in
-      ap (isKept s (N t)) (message-is bytes none k l) ∙ kept-is (messageOf t k) (good .sender-known) (good .receiver-known))
-
   -- from what the code read
   module _ (n : ℕ) (counts : List ℕ) (read-n : n ≡ N t) (read-c : counts ≡ countsPart bytes) where
     pub checkpoints-needs : (n * n ≤ length s) × ((n ≤ 32) × (length counts ≡ 2 * n))
     checkpoints-needs = rw (read-n, read-c) (scratch-room, (processes-few bytes none, counts-size bytes none))
 
-    pub checkpoints-found : checkpointsOf s n counts ≡ keptCheckpoints t
-    checkpoints-found = rw (read-n, read-c) checkpoints-are
+    pub checkpoints-found : checkpointsOf n (entryAt s n) counts ≡ keptCheckpoints t
+    checkpoints-found = rw (read-n, read-c) (checkpoints-are t (entryAt s (N t)) entry-is (countsPart bytes) (count-is bytes none))
 
-    processes-found : columnOf false s n counts ≡ map (λ k. k .process) (keptCheckpoints t)
+    -- one array of the sheet: the states of the kept checkpoints, or else their processes
+    pub column-found : (states : Bool) → columnOf states n (entryAt s n) counts ≡ map (λ k. cond states (k .state) (k .process)) (keptCheckpoints t)
     unfolding columnOf columnAt checkpointsOf checkpointsAt
-    processes-found =
-        rows-ext _ _ n (λ i _. sym (map-map (λ (k : Kept). k .process) (λ c. record { process = i; state = c }) (statesOf s n i (countAt counts i))))
-        ∙ sym (map-rows (λ (k : Kept). k .process) _ n) ∙ ap (map (λ (k : Kept). k .process)) checkpoints-found
-
-    states-found : columnOf true s n counts ≡ map (λ k. k .state) (keptCheckpoints t)
-    unfolding columnOf columnAt checkpointsOf checkpointsAt
-    states-found =
-        rows-ext _ _ n (λ i _. sym (map-map (λ (k : Kept). k .state) (λ c. record { process = i; state = c }) (statesOf s n i (countAt counts i))))
-        ∙ sym (map-rows (λ (k : Kept). k .state) _ n) ∙ ap (map (λ (k : Kept). k .state)) checkpoints-found
-
-    columns-found : columnOf false s n counts ++ columnOf true s n counts ≡ map (λ k. k .process) (keptCheckpoints t) ++ map (λ k. k .state) (keptCheckpoints t)
-    columns-found = ap₂ (λ (x y : List ℕ). x ++ y) processes-found states-found
-
-    columns-size : (k : ℕ) → k ≡ length (keptCheckpoints t) → length (columnOf false s n counts ++ columnOf true s n counts) ≡ 2 * k
-    columns-size k e =
-        let ps = map (λ (x : Kept). x .process) (keptCheckpoints t) in
-        let ss = map (λ (x : Kept). x .state) (keptCheckpoints t) in
-        omega (
-          arith,
-          ap length columns-found,
-          length-append ps ss,
-          length-map (keptCheckpoints t) (λ (x : Kept). x .process),
-          length-map (keptCheckpoints t) (λ (x : Kept). x .state),
-        )
+    column-found states =
+        let number : Kept → ℕ = λ k. cond states (k .state) (k .process) in
+        rows-ext _ _ n (λ i _. sym (map-map number (λ c. record { process = i; state = c }) (statesOf n (entryAt s n) i (countAt counts i))))
+        ∙ sym (map-rows number _ n) ∙ ap (map number) checkpoints-found
 
   module _ (n m : ℕ) (sends receipts : List ℕ) (read-n : n ≡ N t) (read-m : m ≡ messageCount t) (read-s : sends ≡ sendsPart bytes)
       (read-r : receipts ≡ receiptsPart bytes) where
@@ -199,63 +168,7 @@ module _ (bytes : List ℕ) (none : tableRefusal bytes ≡ 0) (s : List ℕ)
           ),
         )
 
-    pub positions-found : positionsOf s n sends receipts m ≡ keptMessages t
-    positions-found = rw (read-n, read-m, read-s, read-r) positions-are
-
-    positions-size : (q : ℕ) → q ≡ length (keptMessages t) → length (positionsOf s n sends receipts m) ≡ q
-    positions-size q e = ap length positions-found ∙ sym e
-
-  -- the sheet, as the code puts it: K and Q, then the two arrays of checkpoints, then the positions
-  module _ (n : ℕ) (counts : List ℕ) (read-n : n ≡ N t) (read-c : counts ≡ countsPart bytes) (k q : ℕ) (kept : k ≡ length (keptCheckpoints t))
-      (logged : q ≡ length (keptMessages t)) (before a : List ℕ) (at : ℕ) (sizes : Put before a 0 (k ∷ q ∷ []) at)
-      (room : 4 + 4 * length (keptCheckpoints t) + 2 * length (keptMessages t) ≤ length before) where
-    columns : List ℕ
-    columns = columnOf false s n counts ++ columnOf true s n counts
-
-    columns-length : length columns ≡ 2 * k
-    unfolding columns
-    columns-length = columns-size n counts read-n read-c k kept
-
-    fits : 4 + 4 * k + 2 * q ≤ length before
-    fits = omega arith
-
-    pub columns-needs : (n * n ≤ length s)
-        × ((n ≤ 32) × ((length counts ≡ 2 * n) × (at + 2 * length (columnOf false s n counts ++ columnOf true s n counts) ≤ length a)))
-    unfolding columns
-    columns-needs =
-        let needed = checkpoints-needs n counts read-n read-c in
-        (needed .0, (needed .1 .0, (needed .1 .1, room-checkpoints before k q columns (keptMessages t) columns-length (sym logged) fits a at sizes)))
-
-    module _ (m : ℕ) (sends receipts : List ℕ) (read-m : m ≡ messageCount t) (read-s : sends ≡ sendsPart bytes) (read-r : receipts ≡ receiptsPart bytes)
-        (a₂ : List ℕ) (at₂ : ℕ) (put : Put a a₂ at (columnOf false s n counts ++ columnOf true s n counts) at₂) where
-      positions : List ℕ
-      positions = positionsOf s n sends receipts m
-
-      positions-length : length positions ≡ q
-      unfolding positions
-      positions-length = positions-size n m sends receipts read-n read-m read-s read-r q logged
-
-      pub positions-needs : (n * n ≤ length s)
-          × ((n ≤ 32)
-          × ((m ≤ 4096)
-          × ((length sends ≡ 4 * m)
-          × ((length receipts ≡ 4 * m)
-          × (((k : ℕ) → k < m → processAt sends k < n)
-          × (((k : ℕ) → k < m → processAt receipts k < n) × (at₂ + 2 * length (positionsOf s n sends receipts m) ≤ length a₂)))))))
-      unfolding columns positions
-      positions-needs =
-          let needed = messages-needs n m sends receipts read-n read-m read-s read-r in
-          let last = room-positions before k q columns positions columns-length positions-length fits a at sizes a₂ at₂ put in (
-            needed .0,
-            (
-              needed .1 .0,
-              (omega (arith, messages-few bytes none), (needed .1 .1 .0, (needed .1 .1 .1 .0, (needed .1 .1 .1 .1 .0, (needed .1 .1 .1 .1 .1, last))))),
-            ),
-          )
-
-      pub sheet-written : (a₃ : List ℕ) (at₃ : ℕ) → Put a₂ a₃ at₂ (positionsOf s n sends receipts m) at₃ → a₃ ≡ putAt before 0 (sheet t)
-      unfolding columns positions
-      sheet-written a₃ at₃ last =
-          sheet-put before k q columns positions columns-length positions-length fits a at sizes a₂ at₂ put a₃ at₃ last
-          ∙ ap (putAt before 0)
-          (sheet-is t k q columns positions kept logged (columns-found n counts read-n read-c) (positions-found n m sends receipts read-n read-m read-s read-r))
+    pub positions-found : positionsOf n (entryAt s n) sends receipts m ≡ keptMessages t
+    positions-found =
+        rw (read-n, read-m, read-s, read-r)
+        (positions-are t (entryAt s (N t)) entry-is (sendsPart bytes) (receiptsPart bytes) (message-is bytes none) (message-good bytes none))

@@ -1,11 +1,10 @@
 -- Numbers put into a buffer, one after another.
 --     put-none, put-written             nothing; what a writer has put
 --     put-length                        the buffer's length
---     put-room, put-then                more after what was put
+--     put-room, put-then                more after what was put; written-room, written-then: the same of a writer
 --     Putting, putting-..               a loop that puts one after another
 --     column-length, column-more        the numbers of one array of the sheet
 --     laying-.., passing-.., row-..     the loops over states, messages and processes
---     room-checkpoints .. sheet-put     the whole sheet, part by part
 --     put-low                           numbers put by their low 16 bits
 -- Assumes nothing.
 use mathlib.Core.Bool.{Bool, cond, true, false}
@@ -16,8 +15,9 @@ use native.Mathlib.Nat.{le-antisymm, mul-add-div, mul-add-mod-self-left}
 use native.Mathlib.Omega.{arith}
 use lib.Dec.{lit<}
 use lib.ListN.{length, length-append, length-map}
-use Rattle.kept.proofs.ScratchLaws.{Standing, select-first, select-next, stands}
-use Rattle.kept.specs.Scratch.{First, columnAt, statesOf}
+use Rattle.consistency.specs.Lines.{Line}
+use Rattle.kept.proofs.KeptLaws.{Standing, select-first, select-next, stands}
+use Rattle.kept.specs.Kept.{First, columnAt, statesOf}
 use Rattle.retention.specs.Writing.{Put}
 use Rattle.retention.specs.Written.{written}
 use Rattle.retention.specs.declared.writer.SheetWriter.{SheetWriter}
@@ -53,6 +53,15 @@ module _ (before after : List ℕ) (at : ℕ) (xs : List ℕ) (next : ℕ) (p : 
           ∙ putAt-more before at (u16s xs) (u16s ys) (omega (arith, both, length-u16s xs, length-u16s ys)) ∙ ap (putAt before at) (sym (u16s-append xs ys));
       place = omega (arith, both, p .place, q .place);
     }
+
+-- a writer that has put numbers puts more
+module _ (w : SheetWriter) (xs ys : List ℕ) (room : w .at + 2 * length (xs ++ ys) ≤ length (w .buffer .now)) where
+  pub written-room : written w xs .at + 2 * length ys ≤ length (written w xs .buffer .now)
+  written-room = put-room _ _ _ _ _ (put-written w xs) ys room
+
+  pub written-then : (later : List ℕ) (end : ℕ) → Put (written w xs .buffer .now) later (written w xs .at) ys end
+      → Put (w .buffer .now) later (w .at) (xs ++ ys) end
+  written-then = put-then _ _ _ _ _ (put-written w xs) ys room
 
 -- A loop that puts the numbers of f n has put those of f k, where f k goes up to f n.
 pub record Putting (f : ℕ → List ℕ) (n : ℕ) (before : List ℕ) (at : ℕ) (after : List ℕ) (next k : ℕ) : Type 0 where
@@ -165,33 +174,10 @@ module _ (f : ℕ → List ℕ) (n : ℕ) (before : List ℕ) (at : ℕ) (after 
       putting-more (rows f) n before at after next k h later (f k) end (k + 1) (rw is at put) (omega arith) (rows-more f k) (rows-room f k n l)
 
 -- what the code puts of process i, once it has read the count
-pub column-read : (states : Bool) (s : List ℕ) (n : ℕ) (counts : List ℕ) (i count : ℕ) → count ≡ u16At counts (2 * i)
-    → columnAt states i (statesOf s n i count) ≡ columnAt states i (statesOf s n i (countAt counts i))
+pub column-read : (states : Bool) (n : ℕ) (line : ℕ → Line) (counts : List ℕ) (i count : ℕ) → count ≡ u16At counts (2 * i)
+    → columnAt states i (statesOf n line i count) ≡ columnAt states i (statesOf n line i (countAt counts i))
 unfolding countAt
-column-read states s n counts i count read = ap (λ (x : ℕ). columnAt states i (statesOf s n i x)) read
-
--- ---- the whole sheet: K and Q, the two arrays of checkpoints, and the positions
-module _ (before : List ℕ) (k q : ℕ) (cs qs : List ℕ) (size-c : length cs ≡ 2 * k) (size-q : length qs ≡ q) (room : 4 + 4 * k + 2 * q ≤ length before)
-    (a : List ℕ) (at : ℕ) (sizes : Put before a 0 (k ∷ q ∷ []) at) where
-  rest : length (cs ++ qs) ≡ 2 * k + q
-  rest = omega (arith, length-append cs qs)
-
-  fits-all : 0 + 2 * length (k ∷ q ∷ (cs ++ qs)) ≤ length before
-  fits-all = omega (arith, rest)
-
-  fits-rest : at + 2 * length (cs ++ qs) ≤ length a
-  fits-rest = put-room before a 0 (k ∷ q ∷ []) at sizes (cs ++ qs) fits-all
-
-  pub room-checkpoints : at + 2 * length cs ≤ length a
-  room-checkpoints = omega (arith, fits-rest, length-append cs qs)
-
-  module _ (a₂ : List ℕ) (at₂ : ℕ) (checkpoints : Put a a₂ at cs at₂) where
-    pub room-positions : at₂ + 2 * length qs ≤ length a₂
-    room-positions = put-room a a₂ at cs at₂ checkpoints qs fits-rest
-
-    pub sheet-put : (a₃ : List ℕ) (at₃ : ℕ) → Put a₂ a₃ at₂ qs at₃ → a₃ ≡ putAt before 0 (u16s (k ∷ q ∷ (cs ++ qs)))
-    sheet-put a₃ at₃ positions =
-        put-then before a 0 (k ∷ q ∷ []) at sizes (cs ++ qs) fits-all a₃ at₃ (put-then a a₂ at cs at₂ checkpoints qs fits-rest a₃ at₃ positions) .contents
+column-read states n line counts i count read = ap (λ (x : ℕ). columnAt states i (statesOf n line i x)) read
 
 -- the two bytes of a number are those of its low 16 bits
 low-bits : (n : ℕ) → u16Bytes (n % 65536) ≡ u16Bytes n

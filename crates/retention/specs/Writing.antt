@@ -1,5 +1,4 @@
--- Numbers that are put into a buffer.
--- Assumes nothing.
+-- Of the code: numbers that are put into a buffer. Assumes nothing.
 use mathlib.Core.List.{List}
 use mathlib.Core.Path.{_≡_}
 use Prim.Native.Nat.{ℕ, _+_, _*_}

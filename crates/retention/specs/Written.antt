@@ -1,5 +1,4 @@
--- Writers of a keep sheet.
--- Assumes nothing.
+-- Of the code: writers of a keep sheet. Assumes nothing.
 use mathlib.Core.List.{List}
 use Prim.Native.Nat.{ℕ, _+_, _*_}
 use lib.ListN.{length}

@@ -3,12 +3,14 @@
 pub mod writer;
 pub mod writing;
 
+use crate::writer::SheetWriter;
+use crate::writing::Part;
 use kept::checkpoints;
 use kept::messages;
-use kept::scratch;
 use lines::line_of_holder;
 use lines::propagation::propagating;
 use run_table::parts;
+use run_table::writing::store_numbers;
 ghost use mathlib.Core.Path.{_≡_};
 ghost use Prim.Native.Nat.{_+_, _*_, _≤_};
 ghost use lib.ListN.{length, take};
@@ -29,7 +31,8 @@ pub fn fill_lines(table: &[u8], scratch: &mut [u16])
     let mut at = 0;
     let mut k = 0;
     while k < n {
-        scratch::copy_line(line_of_holder(table, k, propagates[k]), n, scratch, at);
+        let line = line_of_holder(table, k, propagates[k]);
+        store_numbers(scratch, at, &line[..n]);
         at += n;
         k += 1;
     }
@@ -65,23 +68,12 @@ pub fn put_sheet(table: &[u8], scratch: &[u16], kept: usize, logged: usize, answ
     requires { ⌜ 4 + 4 * length (keptCheckpoints (decode (now table))) + 2 * length (keptMessages (decode (now table))) ≤ length (now answer) ⌝ }
     ensures { λ _. ⌜ now (answer .exit) ≡ putAt (now (answer .entry)) 0 (sheet (decode (now (table .entry)))) ⌝ }
 {
-    let n = parts::process_count(table);
-    let m = parts::message_count(table);
-    let after_sizes = writing::put_sizes(answer, kept, logged);
-    let after_checkpoints = writing::put_checkpoints(
-        answer,
-        after_sizes,
-        scratch,
-        n,
-        parts::counts(table),
-    );
-    writing::put_positions(
-        answer,
-        after_checkpoints,
-        scratch,
-        n,
-        parts::sends(table),
-        parts::receipts(table),
-        m,
-    );
+    SheetWriter {
+        buffer: answer,
+        at: 0,
+    }
+        .put(Part::Sizes(kept, logged), table, scratch)
+        .put(Part::Processes, table, scratch)
+        .put(Part::States, table, scratch)
+        .put(Part::Positions, table, scratch);
 }

@@ -1,45 +1,47 @@
-// The numbers of a keep sheet, put into a buffer one after another. Each function answers the next
-// place. A number goes in by a writer, which `put_number` and `put_pair` make and end: the functions
-// above them have a buffer and a place.
-use crate::writer::place;
-use crate::writer::put;
-use crate::writer::writer_at;
+// The numbers of a keep sheet, put into a buffer one after another, part by part. Each function answers
+// the next place.
 use kept::checkpoints::next_kept;
 use kept::messages::is_kept;
 use kept::messages::lowest_line;
+use run_table::numbers::put_u16;
 use run_table::numbers::u16_at;
-ghost use mathlib.Core.Bool.{cond, false, true};
-ghost use mathlib.Core.List.{_∷_, [], _++_};
+use run_table::parts;
+ghost use mathlib.Core.Bool.{cond};
+ghost use mathlib.Core.List.{_∷_, []};
 ghost use mathlib.Core.Path.{_≡_};
 ghost use Prim.Native.Nat.{ℕ, _+_, _*_, _<_, _≤_};
 ghost use lib.ListN.{length};
-ghost use Rattle.kept.specs.Scratch.{columnAt, columnOf, positionsOf, statesOf};
+ghost use Rattle.kept.specs.Kept.{columnAt, columnOf, positionsOf, statesOf};
+ghost use Rattle.kept.specs.Scratch.{entryAt};
+ghost use Rattle.retention.specs.Parts.{CanPut, numbersOf};
 ghost use Rattle.retention.specs.Writing.{Put};
-ghost use Rattle.run_table.specs.Format.{processAt};
+ghost use Rattle.run_table.specs.Format.{decode, processAt};
+ghost use Rattle.run_table.specs.Table.{mostMessages};
+
+// The parts of a keep sheet: K and Q, the two arrays of the kept checkpoints, and the positions.
+pub enum Part {
+    Sizes(usize, usize),
+    Processes,
+    States,
+    Positions,
+}
 
 // Puts one number at a place that has room for it.
-pub fn put_number(buffer: &mut [u8], at: usize, value: u16) -> usize
+fn put_number(buffer: &mut [u8], at: usize, value: u16) -> usize
     requires { ⌜ at + 1 < length (now buffer) ⌝ }
     ensures { λ r. ⌜ Put (now (buffer .entry)) (now (buffer .exit)) at (value ∷ []) r ⌝ }
 {
-    place(put(writer_at(buffer, at), value))
+    put_u16(buffer, at, value);
+    at + 2
 }
 
-// Puts two numbers, by one writer.
-fn put_pair(buffer: &mut [u8], at: usize, first: u16, second: u16) -> usize
-    requires { ⌜ at + 3 < length (now buffer) ⌝ }
-    ensures { λ r. ⌜ Put (now (buffer .entry)) (now (buffer .exit)) at (first ∷ second ∷ []) r ⌝ }
+// Puts K and Q, each by its low 16 bits.
+fn put_sizes(buffer: &mut [u8], at: usize, kept: usize, logged: usize) -> usize
+    requires { ⌜ at + 4 ≤ length (now buffer) ⌝ }
+    ensures { λ r. ⌜ Put (now (buffer .entry)) (now (buffer .exit)) at (kept ∷ logged ∷ []) r ⌝ }
 {
-    let writer = put(writer_at(buffer, at), first);
-    place(put(writer, second))
-}
-
-// Puts K and Q to the front of a buffer, each by its low 16 bits.
-pub fn put_sizes(buffer: &mut [u8], kept: usize, logged: usize) -> usize
-    requires { ⌜ 4 ≤ length (now buffer) ⌝ }
-    ensures { λ r. ⌜ Put (now (buffer .entry)) (now (buffer .exit)) 0 (kept ∷ logged ∷ []) r ⌝ }
-{
-    put_pair(buffer, 0, (kept % 65536) as u16, (logged % 65536) as u16)
+    let next = put_number(buffer, at, (kept % 65536) as u16);
+    put_number(buffer, next, (logged % 65536) as u16)
 }
 
 // The number of a checkpoint in one array of the sheet: its state, or else its process.
@@ -65,8 +67,8 @@ fn put_process(
     requires { ⌜ n * n ≤ length (now scratch) ⌝ }
     requires { ⌜ n ≤ 32 ⌝ }
     requires { ⌜ i < n ⌝ }
-    requires { ⌜ at + 2 * length (columnAt states i (statesOf (now scratch) n i count)) ≤ length (now buffer) ⌝ }
-    ensures { λ r. ⌜ Put (now (buffer .entry)) (now (buffer .exit)) at (columnAt states i (statesOf (now (scratch .entry)) n i count)) r ⌝ }
+    requires { ⌜ at + 2 * length (columnAt states i (statesOf n (entryAt (now scratch) n) i count)) ≤ length (now buffer) ⌝ }
+    ensures { λ r. ⌜ Put (now (buffer .entry)) (now (buffer .exit)) at (columnAt states i (statesOf n (entryAt (now (scratch .entry)) n) i count)) r ⌝ }
 {
     let mut next = at;
     let mut state = next_kept(scratch, n, i, 0, count);
@@ -90,8 +92,8 @@ fn put_column(
     requires { ⌜ n * n ≤ length (now scratch) ⌝ }
     requires { ⌜ n ≤ 32 ⌝ }
     requires { ⌜ length (now counts) ≡ 2 * n ⌝ }
-    requires { ⌜ at + 2 * length (columnOf states (now scratch) n (now counts)) ≤ length (now buffer) ⌝ }
-    ensures { λ r. ⌜ Put (now (buffer .entry)) (now (buffer .exit)) at (columnOf states (now (scratch .entry)) n (now (counts .entry))) r ⌝ }
+    requires { ⌜ at + 2 * length (columnOf states n (entryAt (now scratch) n) (now counts)) ≤ length (now buffer) ⌝ }
+    ensures { λ r. ⌜ Put (now (buffer .entry)) (now (buffer .exit)) at (columnOf states n (entryAt (now (scratch .entry)) n) (now (counts .entry))) r ⌝ }
 {
     let mut next = at;
     let mut i = 0;
@@ -102,26 +104,8 @@ fn put_column(
     next
 }
 
-// Puts the two arrays of the kept checkpoints: first the processes, then the states.
-pub fn put_checkpoints(
-    buffer: &mut [u8],
-    at: usize,
-    scratch: &[u16],
-    n: usize,
-    counts: &[u8],
-) -> usize
-    requires { ⌜ n * n ≤ length (now scratch) ⌝ }
-    requires { ⌜ n ≤ 32 ⌝ }
-    requires { ⌜ length (now counts) ≡ 2 * n ⌝ }
-    requires { ⌜ at + 2 * length (columnOf false (now scratch) n (now counts) ++ columnOf true (now scratch) n (now counts)) ≤ length (now buffer) ⌝ }
-    ensures { λ r. ⌜ Put (now (buffer .entry)) (now (buffer .exit)) at (columnOf false (now (scratch .entry)) n (now (counts .entry)) ++ columnOf true (now (scratch .entry)) n (now (counts .entry))) r ⌝ }
-{
-    let next = put_column(buffer, at, false, scratch, n, counts);
-    put_column(buffer, next, true, scratch, n, counts)
-}
-
 // Puts the positions of the kept messages.
-pub fn put_positions(
+fn put_positions(
     buffer: &mut [u8],
     at: usize,
     scratch: &[u16],
@@ -132,13 +116,13 @@ pub fn put_positions(
 ) -> usize
     requires { ⌜ n * n ≤ length (now scratch) ⌝ }
     requires { ⌜ n ≤ 32 ⌝ }
-    requires { ⌜ m ≤ 4096 ⌝ }
+    requires { ⌜ m ≤ mostMessages ⌝ }
     requires { ⌜ length (now sends) ≡ 4 * m ⌝ }
     requires { ⌜ length (now receipts) ≡ 4 * m ⌝ }
     requires { ⌜ ((k : ℕ) → k < m → processAt (now sends) k < n) ⌝ }
     requires { ⌜ ((k : ℕ) → k < m → processAt (now receipts) k < n) ⌝ }
-    requires { ⌜ at + 2 * length (positionsOf (now scratch) n (now sends) (now receipts) m) ≤ length (now buffer) ⌝ }
-    ensures { λ r. ⌜ Put (now (buffer .entry)) (now (buffer .exit)) at (positionsOf (now (scratch .entry)) n (now (sends .entry)) (now (receipts .entry)) m) r ⌝ }
+    requires { ⌜ at + 2 * length (positionsOf n (entryAt (now scratch) n) (now sends) (now receipts) m) ≤ length (now buffer) ⌝ }
+    ensures { λ r. ⌜ Put (now (buffer .entry)) (now (buffer .exit)) at (positionsOf n (entryAt (now (scratch .entry)) n) (now (sends .entry)) (now (receipts .entry)) m) r ⌝ }
 {
     let lowest = lowest_line(scratch, n);
     let mut next = at;
@@ -154,4 +138,26 @@ pub fn put_positions(
         next = put_number(buffer, next, position as u16);
     }
     next
+}
+
+// Puts a part of the sheet of an accepted table, given a scratch with the lines of its single holders.
+pub fn put_part(buffer: &mut [u8], at: usize, part: Part, table: &[u8], scratch: &[u16]) -> usize
+    requires { ⌜ CanPut part (now table) (now scratch) at (now buffer) ⌝ }
+    ensures { λ r. ⌜ Put (now (buffer .entry)) (now (buffer .exit)) at (numbersOf part (decode (now (table .entry)))) r ⌝ }
+{
+    let n = parts::process_count(table);
+    match part {
+        Part::Sizes(kept, logged) => put_sizes(buffer, at, kept, logged),
+        Part::Processes => put_column(buffer, at, false, scratch, n, parts::counts(table)),
+        Part::States => put_column(buffer, at, true, scratch, n, parts::counts(table)),
+        Part::Positions => put_positions(
+            buffer,
+            at,
+            scratch,
+            n,
+            parts::sends(table),
+            parts::receipts(table),
+            parts::message_count(table),
+        ),
+    }
 }

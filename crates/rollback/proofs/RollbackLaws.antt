@@ -4,7 +4,7 @@
 --     Gathered, gathered-none .. gathered-adds    a loop that writes their entries
 --     send-within, sender-small .. receiver-small     the entries that the code reads
 --     sender-left .. received-left            the numbers that it writes of a message
---     line-small, counts-left                 the counts that it writes
+--     line-small, count-left, counts-front    the counts that it writes
 --     found-staying, found-going              what its test says of a message
 --     receipt-undone, receipt-kept            a receipt beside the line
 -- Assumes nothing.
@@ -23,20 +23,18 @@ use Rattle.consistency.specs.Ceilings.{recoveryLine}
 use Rattle.consistency.specs.Lines.{at}
 use Rattle.futures.proofs.StepLaws.{putBack-receiver, putBack-sender, putBack-sent, recovery-latest, recovery-length, rollback-count, rollback-fewer, rollback-place, rollback-processes, withReceipt}
 use Rattle.futures.specs.Steps.{afterRollback, putBack, remaining, stays}
-use Rattle.lines.proofs.ArrayLaws.{array-at}
-use Rattle.lines.specs.Arrays.{arrayOf}
 use Rattle.run_table.proofs.AcceptLaws.{accepted}
+use Rattle.run_table.proofs.ArrayLaws.{array-at, array-front}
 use Rattle.run_table.proofs.CodingLaws.{entries-append}
 use Rattle.run_table.proofs.FormatLaws.{length-entries}
-use Rattle.run_table.proofs.ListLaws.{tabulate-ext, tabulate-getD}
 use Rattle.run_table.proofs.NumberLaws.{length-putAt, length-u16s, putAt-none, u16s-append}
+use Rattle.run_table.proofs.PlaceLaws.{both-more}
 use Rattle.run_table.proofs.ReadLaws.{message-good, processes-few, received-read, receiver-read, receipts-size, sender-read, sends-size, sent-read}
+use Rattle.run_table.specs.Arrays.{arrayOf}
 use Rattle.run_table.specs.Checks.{tableRefusal}
 use Rattle.run_table.specs.Format.{decode, entriesOf, receiptsOf, receiptsPart, sendsOf, sendsPart}
-use Rattle.run_table.specs.Lists.{tabulate}
 use Rattle.run_table.specs.Numbers.{putAt, u16At, u16s}
 use Rattle.run_table.specs.Table.{Message, Table, countOf, messageCount, messageOf, noMessage, processCount}
-use Rattle.steps.proofs.PlaceLaws.{both-more}
 use Rattle.rollback.specs.Rollback.{receiptLeft}
 
 -- ---- what remains of the first k messages
@@ -236,11 +234,10 @@ module _ (bytes : List ℕ) (none : tableRefusal bytes ≡ 0) where
     pub line-small : (n : ℕ) → n ≡ processCount t → (p : ℕ) → p < n → getD line p 0 < 65535
     line-small n e p l = omega (arith, line-at p, recovery-latest t .under p, accepted bytes none .limits .counts-limit p (omega arith))
 
-    pub counts-left : (n : ℕ) → n ≡ processCount t → tabulate n (λ p. getD line p 0 + 1) ≡ afterRollback t .counts
-    unfolding processCount countOf
-    counts-left n e =
-        tabulate-ext n _ (λ p. getD (afterRollback t .counts) p 0) (λ p l. ap (λ (x : ℕ). x + 1) (line-at p) ∙ sym (rollback-count t p (omega arith)))
-        ∙ ap (λ (k : ℕ). tabulate k (λ p. getD (afterRollback t .counts) p 0)) (e ∙ sym (rollback-processes t)) ∙ tabulate-getD (afterRollback t .counts) 0
+    -- the count that is left of a process
+    pub count-left : (p : ℕ) → p < processCount t → getD line p 0 + 1 ≡ getD (afterRollback t .counts) p 0
+    unfolding countOf
+    count-left p l = ap (λ (x : ℕ). x + 1) (line-at p) ∙ sym (rollback-count t p l)
 
     -- message k, by the two numbers that the code read of its entry
     module _ (part : List ℕ) (k : ℕ) (h : k < messageCount t) (p c : ℕ) (read-p : p ≡ u16At part (4 * k)) (read-c : c ≡ u16At part (4 * k + 2)) where
@@ -267,6 +264,12 @@ module _ (bytes : List ℕ) (none : tableRefusal bytes ≡ 0) where
           go : (b : Bool) → cond b 0 (here .received) ≡ cond b (withReceipt here 0) here .received
           go true = refl
           go false = refl
+
+  -- the counts that are left, as the front of an array
+  pub counts-front : (counts : List ℕ) (n : ℕ) → counts ≡ arrayOf (afterRollback t .counts) → n ≡ processCount t → take n counts ≡ afterRollback t .counts
+  unfolding processCount
+  counts-front counts n e same =
+      array-front (afterRollback t .counts) counts n e (same ∙ sym (rollback-processes t)) (omega (arith, rollback-processes t, processes-few bytes none))
 
 -- ---- a receipt number beside the line's
 module _ (height received : ℕ) where

@@ -1,29 +1,20 @@
 // A rollback of the run to its recovery line: how many messages stay, and the table that it leaves.
-use lines::line_of_set;
-use run_table::numbers::put_u16;
+use run_table::format::sends_at;
 use run_table::numbers::u16_at;
 use run_table::parts;
-use steps::copying::put_pair;
+use run_table::writing::put_entry;
+use run_table::writing::put_head;
 ghost use mathlib.Core.Path.{_≡_};
-ghost use Prim.Native.Nat.{ℕ, _+_, _*_, _≤_, _<_};
-ghost use lib.ListN.{getD, length};
+ghost use Prim.Native.Nat.{_+_, _*_, _≤_};
+ghost use lib.ListN.{length};
 ghost use Rattle.consistency.specs.Ceilings.{recoveryLine};
 ghost use Rattle.futures.specs.Steps.{afterRollback};
-ghost use Rattle.lines.specs.Arrays.{arrayOf};
+ghost use Rattle.run_table.specs.Arrays.{arrayOf};
 ghost use Rattle.run_table.specs.Checks.{tableRefusal};
-ghost use Rattle.run_table.specs.Format.{decode, encode, receiptsOf, sendsOf};
-ghost use Rattle.run_table.specs.Lists.{tabulate};
+ghost use Rattle.run_table.specs.Format.{decode, encode, receiptsOf, sendsOf, tableLength};
 ghost use Rattle.run_table.specs.Numbers.{putAt, u16s};
 ghost use Rattle.run_table.specs.Table.{messageCount, processCount};
 ghost use Rattle.rollback.specs.Rollback.{receiptLeft};
-
-// The recovery line of an accepted table: the line of all processes.
-pub fn recovery_line(table: &[u8]) -> [u16; 32]
-    requires { ⌜ tableRefusal (now table) ≡ 0 ⌝ }
-    ensures { λ r. ⌜ r ≡ arrayOf (recoveryLine (decode (now (table .entry)))) ⌝ }
-{
-    line_of_set(table, 4294967295)
-}
 
 // The receipt number that a message is left with, beside the line's number at its receiver: 0 where it
 // is after the line.
@@ -58,19 +49,20 @@ pub fn count_remaining(table: &[u8], line: [u16; 32]) -> usize
     remaining
 }
 
-// Writes the counts, L + 1 at each of n processes, at a place of a buffer that has room for them.
-fn put_counts(line: [u16; 32], n: usize, buffer: &mut [u8], at: usize)
-    requires { ⌜ n ≤ 32 ⌝ }
-    requires { ⌜ ((p : ℕ) → p < n → getD line p 0 < 65535) ⌝ }
-    requires { ⌜ at + 2 * n ≤ length (now buffer) ⌝ }
-    ensures { λ _. ⌜ now (buffer .exit) ≡ putAt (now (buffer .entry)) at (u16s (tabulate n (λ p. getD line p 0 + 1))) ⌝ }
+// The counts that a rollback leaves, given the recovery line of an accepted table: L + 1 at each process.
+fn counts_left(table: &[u8], line: [u16; 32]) -> [u16; 32]
+    requires { ⌜ tableRefusal (now table) ≡ 0 ⌝ }
+    requires { ⌜ line ≡ arrayOf (recoveryLine (decode (now table))) ⌝ }
+    ensures { λ r. ⌜ r ≡ arrayOf (afterRollback (decode (now (table .entry))) .counts) ⌝ }
 {
+    let n = parts::process_count(table);
+    let mut counts = [0u16; 32];
     let mut p = 0;
     while p < n {
-        let height = line[p];
-        put_u16(buffer, at + 2 * p, height + 1);
+        counts[p] = line[p] + 1;
         p += 1;
     }
+    counts
 }
 
 // Writes the sends of the m messages that stay, at a place of a buffer that has room for them, and
@@ -99,8 +91,8 @@ fn put_messages(table: &[u8], line: [u16; 32], m: usize, buffer: &mut [u8], at: 
         }
         let receiver = u16_at(receipts, 4 * here);
         let received = u16_at(receipts, 4 * here + 2);
-        put_pair(buffer, place, sender, sent);
-        put_pair(
+        put_entry(buffer, place, sender, sent);
+        put_entry(
             buffer,
             place + 4 * m,
             receiver,
@@ -116,11 +108,11 @@ pub fn put_rollback(table: &[u8], line: [u16; 32], m: usize, answer: &mut [u8])
     requires { ⌜ tableRefusal (now table) ≡ 0 ⌝ }
     requires { ⌜ line ≡ arrayOf (recoveryLine (decode (now table))) ⌝ }
     requires { ⌜ m ≡ messageCount (afterRollback (decode (now table))) ⌝ }
-    requires { ⌜ 4 + 2 * processCount (decode (now table)) + 8 * m ≤ length (now answer) ⌝ }
+    requires { ⌜ tableLength (processCount (decode (now table))) m ≤ length (now answer) ⌝ }
     ensures { λ _. ⌜ now (answer .exit) ≡ putAt (now (answer .entry)) 0 (encode (afterRollback (decode (now (table .entry))))) ⌝ }
 {
     let n = parts::process_count(table);
-    put_pair(answer, 0, n as u16, m as u16);
-    put_counts(line, n, answer, 4);
-    put_messages(table, line, m, answer, 4 + 2 * n);
+    let counts = counts_left(table, line);
+    put_head(answer, &counts[..n], m);
+    put_messages(table, line, m, answer, sends_at(n));
 }

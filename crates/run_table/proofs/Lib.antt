@@ -1,4 +1,5 @@
 -- The laws of this crate, for its own proofs and for the crates above.
+--     ArrayLaws     arrays of 32 numbers that begin with a list, and a loop that fills one
 --     ListLaws      lists given by their entries; searches in lists and among numbers
 --     NumberLaws    16-bit numbers in bytes
 --     FormatLaws    the parts of a table's bytes, and the entries of the decoded table
@@ -8,14 +9,17 @@
 --     AcceptLaws    an accepted table's facts
 --     ReadLaws      what the code knows of an accepted table once it has read N and M
 --     ScanLaws      what the loop of check 5 finds, and a message's entry
---     WriteLaws     numbers that a loop writes, one after another
+--     WriteLaws     numbers that a loop writes, one after another; the parts of a table
+--     PlaceLaws     bytes put at two places of one buffer
 pub mod AcceptLaws
+pub mod ArrayLaws
 pub mod CheckLaws
 pub mod CodingLaws
 mod FaultLaws
 pub mod FormatLaws
 pub mod ListLaws
 pub mod NumberLaws
+pub mod PlaceLaws
 pub mod ReadLaws
 mod ScanLaws
 pub mod WriteLaws

@@ -2,7 +2,7 @@
 --     u16At-beyond, u16At-last                 a number at the end of the bytes
 --     u16At-take, u16At-drop                   a number in a part of the bytes
 --     length-u16s, u16s-append, u16At-u16s     the bytes of numbers
---     length-putAt, putAt-none, putAt-number, putAt-more  bytes put into a buffer
+--     length-putAt, putAt-none, putAt-one, putAt-number, putAt-more  bytes put into a buffer
 -- Assumes nothing.
 use mathlib.Core.List.{List, [], _∷_, _++_, append-assoc}
 use mathlib.Core.Path.{_≡_, refl, sym, ap, _∙_}
@@ -62,6 +62,11 @@ module _ (buffer : List ℕ) (at : ℕ) where
   pub putAt-none : putAt buffer at [] ≡ buffer
   unfolding putAt
   putAt-none = rw add-zero (take-append-drop at buffer)
+
+  -- one entry, as a store
+  pub putAt-one : (v : ℕ) → at < length buffer → set buffer at v ≡ putAt buffer at (v ∷ [])
+  unfolding putAt
+  putAt-one v fits = sets-eq (v ∷ []) buffer at (omega arith) ∙ append-assoc (take at buffer) (v ∷ []) (drop (at + 1) buffer)
 
   -- one number, as two stores
   pub putAt-number : (n : ℕ) → at + 1 < length buffer → set (set buffer at (n % 256)) (at + 1) (n / 256 % 256) ≡ putAt buffer at (u16Bytes n)

@@ -1,19 +1,25 @@
--- Numbers written to the front of a buffer, one after another, by a loop.
+-- Numbers and bytes put into a buffer, one after another.
 --     Front, front-first, front-next  bytes put to the front of a buffer, and further ones after them
+--     pair-put, head-put, table-put   two numbers; the head of a table; a whole table, part by part
 --     numbers-size                    the length of numbers, as bytes
---     Written                         the loop's invariant
---     written-none, written-more, written-all    how it begins, goes on and ends
+--     Written                         pieces of one width, put from a place on by a loop: the invariant
+--     written-none, written-more, written-room, written-all    how it begins, goes on and ends
+--     numbers-put, numbers-stored     the pieces are numbers, each in two bytes; each as one entry
 -- Assumes nothing.
-use mathlib.Core.List.{List, [], _∷_, _++_}
+use mathlib.Core.List.{List, [], _∷_, _++_, append-assoc}
 use mathlib.Core.Path.{_≡_, refl, sym, ap, ap₂, _∙_, subst}
-use Prim.Native.Nat.{ℕ, _+_, _*_, _≤_, _<_, zero-le}
-use native.Mathlib.Nat.{le-antisymm, zero-add}
+use Prim.Native.Nat.{ℕ, zero, suc, _+_, _*_, _≤_, _<_, zero-le}
+use native.Mathlib.Nat.{le-antisymm, mul-le-mul-left, mul-suc, zero-add}
+use native.Mathlib.Numerals.{add-one}
 use native.Mathlib.Omega.{arith}
-use lib.ListN.{length, length-append}
-use Rattle.run_table.proofs.ListLaws.{length-tabulate, tabulate-more}
+use lib.ListN.{length, getD, length-append}
+use Rattle.run_table.proofs.FormatLaws.{length-entries}
+use Rattle.run_table.proofs.ListLaws.{length-tabulate, rows-length, rows-more, tabulate-getD, tabulate-more}
 use Rattle.run_table.proofs.NumberLaws.{length-putAt, length-u16s, putAt-more, putAt-none, u16s-append}
-use Rattle.run_table.specs.Lists.{tabulate}
+use Rattle.run_table.specs.Format.{encode, receiptsAt, receiptsOf, sendsAt, sendsOf, tableLength}
+use Rattle.run_table.specs.Lists.{rows, tabulate}
 use Rattle.run_table.specs.Numbers.{putAt, u16Bytes, u16s}
+use Rattle.run_table.specs.Table.{Table, messageCount, processCount}
 
 -- Bytes stand at the front of a buffer, up to a place, and the rest of it is as it was.
 pub record Front (before after bytes : List ℕ) (at : ℕ) : Type 0 where
@@ -36,36 +42,88 @@ front-next {before} {after} {bytes} {at} f later more next put size fits = recor
 pub numbers-size : (n : ℕ) (f : ℕ → ℕ) → length (u16s (tabulate n f)) ≡ 2 * n
 numbers-size n f = length-u16s (tabulate n f) ∙ ap (λ (x : ℕ). 2 * x) (length-tabulate n f)
 
--- The first k of n numbers of f stand from a place on, and the rest of the buffer is as it was.
-pub record Written (f : ℕ → ℕ) (n at : ℕ) (before after : List ℕ) (k : ℕ) : Type 0 where
+pub pair-put : (before after later : List ℕ) (at a b : ℕ) → after ≡ putAt before at (u16Bytes a) → later ≡ putAt after (at + 2) (u16Bytes b)
+    → at + 4 ≤ length before → later ≡ putAt before at (u16s (a ∷ b ∷ []))
+unfolding u16s u16Bytes
+pair-put before after later at a b first second fits =
+    second ∙ ap (λ (l : List ℕ). putAt l (at + 2) (u16Bytes b)) first ∙ putAt-more before at (u16Bytes a) (u16Bytes b) (omega arith)
+
+-- the head of a table: its sizes, and the counts behind them
+pub head-put : (counts : List ℕ) (m : ℕ) (b₀ b₁ b₂ : List ℕ) → sendsAt (length counts) ≤ length b₀ → b₁ ≡ putAt b₀ 0 (u16s (length counts ∷ m ∷ []))
+    → b₂ ≡ putAt b₁ 4 (u16s counts) → b₂ ≡ putAt b₀ 0 (u16s (length counts ∷ m ∷ counts))
+unfolding u16s u16Bytes
+head-put counts m b₀ b₁ b₂ fits first second =
+    second ∙ ap (λ (b : List ℕ). putAt b 4 (u16s counts)) first
+    ∙ putAt-more b₀ 0 (u16s (length counts ∷ m ∷ [])) (u16s counts) (omega (arith, length-u16s counts))
+
+-- the sizes and the counts of a table, its sends and its receipts, one after another
+module _ (t : Table) (n m : ℕ) (counts sends receipts : List ℕ) (read-n : n ≡ processCount t) (read-m : m ≡ messageCount t)
+    (is-c : counts ≡ t .counts) (is-s : sends ≡ sendsOf (t .messages)) (is-r : receipts ≡ receiptsOf (t .messages)) where
+  in-groups : (u16s (n ∷ m ∷ counts) ++ u16s sends) ++ u16s receipts ≡ encode t
+  unfolding encode processCount messageCount
+  in-groups =
+      ap (λ (l : List ℕ). l ++ u16s receipts) (sym (u16s-append (n ∷ m ∷ counts) sends)) ∙ sym (u16s-append ((n ∷ m ∷ counts) ++ sends) receipts)
+      ∙ ap u16s (append-assoc (n ∷ m ∷ counts) sends receipts) ∙ rw (read-n, read-m, is-c, is-s, is-r)
+
+  pub table-put : (b₀ b₁ b₂ b₃ : List ℕ) → tableLength n m ≤ length b₀ → b₁ ≡ putAt b₀ 0 (u16s (n ∷ m ∷ counts))
+      → b₂ ≡ putAt b₁ (sendsAt n) (u16s sends) → b₃ ≡ putAt b₂ (receiptsAt n m) (u16s receipts) → b₃ ≡ putAt b₀ 0 (encode t)
+  unfolding processCount messageCount
+  table-put b₀ b₁ b₂ b₃ fits w₁ w₂ w₃ =
+      let f₁ = front-first b₀ b₁ (u16s (n ∷ m ∷ counts)) (sendsAt n) w₁ (omega (arith, length-u16s (n ∷ m ∷ counts), ap length is-c)) in
+      let f₂ = front-next f₁ b₂ (u16s sends) (receiptsAt n m) w₂ (omega (arith, length-u16s sends, ap length is-s, length-entries (λ x. x .sender) (λ x. x .sent) (t .messages))) (omega arith) in
+      let f₃ = front-next f₂ b₃ (u16s receipts) (tableLength n m) w₃ (omega (arith, length-u16s receipts, ap length is-r, length-entries (λ x. x .receiver) (λ x. x .received) (t .messages))) (omega arith) in
+      f₃ .put ∙ ap (putAt b₀ 0) in-groups
+
+-- ---- a loop that puts one piece after another
+-- The first k of n pieces, each of w entries, stand from a place on, and the rest of the buffer is as it was.
+pub record Written (w : ℕ) (piece : ℕ → List ℕ) (n at : ℕ) (before after : List ℕ) (k : ℕ) : Type 0 where
   pub within : k ≤ n
-  pub room : at + 2 * n ≤ length before
+  pub room : at + w * n ≤ length before
   pub same-length : length after ≡ length before
-  pub contents : after ≡ putAt before at (u16s (tabulate k f))
+  pub contents : after ≡ putAt before at (rows piece k)
 
-pub written-none : (f : ℕ → ℕ) (n at : ℕ) (before : List ℕ) → at + 2 * n ≤ length before → Written f n at before before 0
-unfolding tabulate u16s
-written-none f n at before room = record { within = zero-le; room = room; same-length = refl; contents = sym (putAt-none before at) }
+module _ (w : ℕ) (piece : ℕ → List ℕ) (n at : ℕ) (before : List ℕ) where
+  pub written-none : at + w * n ≤ length before → Written w piece n at before before 0
+  unfolding rows
+  written-none room = record { within = zero-le; room = room; same-length = refl; contents = sym (putAt-none before at) }
 
-module _ (f : ℕ → ℕ) (n at : ℕ) (before after : List ℕ) (k : ℕ) (w : Written f n at before after k) where
-  one-more : (v : ℕ) → v ≡ f k → u16s (tabulate k f) ++ u16Bytes v ≡ u16s (tabulate (k + 1) f)
-  unfolding u16s u16Bytes
-  one-more v e = sym (ap u16s (tabulate-more k f) ∙ u16s-append (tabulate k f) (f k ∷ []) ∙ ap (λ (x : ℕ). u16s (tabulate k f) ++ u16Bytes x) (sym e))
+  module _ (each : (k : ℕ) → length (piece k) ≡ w) (after : List ℕ) (k : ℕ) (h : Written w piece n at before after k) where
+    -- there is room for it
+    pub written-room : k < n → at + w * k + w ≤ length after
+    written-room l = omega (arith, h .room, h .same-length, mul-suc w k, mul-le-mul-left w l)
 
-  next : k < n → (v : ℕ) → v ≡ f k → Written f n at before (putAt after (at + 2 * k) (u16Bytes v)) (k + 1)
-  unfolding u16Bytes
-  next l v e = record {
-    within = omega arith;
-    room = w .room;
-    same-length = length-putAt after (at + 2 * k) (u16Bytes v) (omega (arith, w .room, w .same-length)) ∙ w .same-length;
-    contents =
-        ap₂ (λ (b : List ℕ) (i : ℕ). putAt b (at + i) (u16Bytes v)) (w .contents) (sym (numbers-size k f))
-        ∙ putAt-more before at (u16s (tabulate k f)) (u16Bytes v) (omega (arith, w .room, numbers-size k f)) ∙ ap (putAt before at) (one-more v e);
-  }
+    -- piece k was put at its place
+    pub written-more : k < n → (i : ℕ) (later : List ℕ) → i ≡ at + w * k → later ≡ putAt after i (piece k) → Written w piece n at before later (k + 1)
+    written-more l i later place put =
+        let fits : at + w * k + w ≤ length before = omega (arith, written-room l, h .same-length) in
+        let so-far = rows-length piece w each k in
+        record {
+          within = omega arith;
+          room = h .room;
+          same-length = ap length put ∙ length-putAt after i (piece k) (omega (arith, h .same-length, each k)) ∙ h .same-length;
+          contents =
+              put ∙ ap₂ (λ (b : List ℕ) (j : ℕ). putAt b j (piece k)) (h .contents) (omega (arith, so-far))
+              ∙ putAt-more before at (rows piece k) (piece k) (omega (arith, so-far, each k)) ∙ ap (putAt before at) (sym (rows-more piece k));
+        }
 
-  -- number k was put at its place
-  pub written-more : k < n → (v i : ℕ) (later : List ℕ) → v ≡ f k → i ≡ at + 2 * k → later ≡ putAt after i (u16Bytes v) → Written f n at before later (k + 1)
-  written-more l v i later e place put = rw (put, place) (next l v e)
+    pub written-all : n ≤ k → after ≡ putAt before at (rows piece n)
+    written-all l = subst (λ (j : ℕ). after ≡ putAt before at (rows piece j)) (le-antisymm (h .within) l) (h .contents)
 
-  pub written-all : n ≤ k → after ≡ putAt before at (u16s (tabulate n f))
-  written-all l = subst (λ (j : ℕ). after ≡ putAt before at (u16s (tabulate j f))) (le-antisymm (w .within) l) (w .contents)
+-- numbers as such pieces: in two bytes each, or as they are
+module _ (f : ℕ → ℕ) where
+  pub numbers-put : (n : ℕ) → rows (λ k. u16Bytes (f k)) n ≡ u16s (tabulate n f)
+  unfolding rows tabulate u16s u16Bytes
+  numbers-put zero = refl
+  numbers-put (suc n) =
+      ap (λ (l : List ℕ). l ++ u16Bytes (f n)) (numbers-put n) ∙ sym (u16s-append (tabulate n f) (f n ∷ []))
+      ∙ ap u16s (sym (tabulate-more n f) ∙ ap (λ (j : ℕ). tabulate j f) (add-one n))
+
+  pub numbers-stored : (n : ℕ) → rows (λ k. f k ∷ []) n ≡ tabulate n f
+  unfolding rows tabulate
+  numbers-stored zero = refl
+  numbers-stored (suc n) =
+      ap (λ (l : List ℕ). l ++ (f n ∷ [])) (numbers-stored n) ∙ sym (tabulate-more n f) ∙ ap (λ (j : ℕ). tabulate j f) (add-one n)
+
+pub two-bytes : (n : ℕ) → length (u16Bytes n) ≡ 2
+unfolding u16Bytes
+two-bytes n = refl

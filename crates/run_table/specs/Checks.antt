@@ -1,5 +1,5 @@
--- Checks 1 to 9 (document 01, "In checking order"). Each is a test over the whole table, and the refusal is the number of the first
--- one, in the document's order, that catches; 0 says that none does. Assumes nothing.
+-- The checks of a table (docs/MANUAL.md, "Refusals"). Each is a test over the whole table, and the refusal is the number of the first
+-- one, in checking order, that catches; 0 says that none does. Assumes nothing.
 use mathlib.Core.Bool.{Bool, cond, not, _||_}
 use mathlib.Core.List.{List, [], _∷_}
 use mathlib.Core.Path.{_≡_}

@@ -1,4 +1,4 @@
--- The bytes of a run table (document 01, "The run table"): N, M, the counts, then two parallel arrays of M entries each, sends and
+-- The bytes of a run table (docs/MANUAL.md, "The run table"): N, M, the counts, then two parallel arrays of M entries each, sends and
 -- receipts. An entry is two numbers, a process and a checkpoint. Reading is total: what stands beyond the end is 0. Assumes nothing.
 use mathlib.Core.List.{List, [], _∷_, _++_}
 use Prim.Native.Nat.{ℕ, _+_, _*_}

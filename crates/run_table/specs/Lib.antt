@@ -1,11 +1,13 @@
--- What a run table's bytes say, in the order of document 01, "The run table" and "In checking order".
+-- What a run table's bytes say, in the order of docs/MANUAL.md, "The run table" and "Refusals".
 --     Lists      lists that are given by their entries, and searches
 --     Numbers    16-bit numbers in bytes
 --     Table      messages and tables, free of bytes
 --     Format     the bytes of a table, read (decode) and written (encode)
 --     Checks     checks 1 to 9, the refusal, and what an accepted table satisfies
 --     Fields     the numbers of a message, by name
+--     Arrays     numbers of processes, as an array of the code
 --     Parts      what the loops of the code read off a part of a table's bytes
+pub mod Arrays
 pub mod Checks
 pub mod Fields
 pub mod Format

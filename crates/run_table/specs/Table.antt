@@ -1,17 +1,17 @@
--- Messages and tables, free of bytes (document 01, "The run table"). The definitions hold for numbers of any size. Assumes nothing.
+-- Messages and tables, free of bytes (docs/MANUAL.md, "The run table"). The definitions hold for numbers of any size. Assumes nothing.
 use mathlib.Core.List.{List}
 use Prim.Native.Nat.{ℕ}
 use lib.ListN.{length, getD}
 
 -- A message: its sender and the latest checkpoint that the sender took before sending; its receiver and the first checkpoint that the
--- receiver took after receiving, where 0 says that the message is undelivered (01: waiting).
+-- receiver took after receiving, where 0 says that the message is undelivered (waiting).
 pub record Message : Type 0 where
   pub sender : ℕ
   pub sent : ℕ
   pub receiver : ℕ
   pub received : ℕ
 
--- A run: for each process its count of checkpoints (01: saved states), numbered from 0; and its messages, by position.
+-- A run: for each process its count of checkpoints, numbered from 0; and its messages, by position.
 pub record Table : Type 0 where
   pub counts : List ℕ
   pub messages : List Message

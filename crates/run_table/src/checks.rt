@@ -1,12 +1,12 @@
 // The checks of a run table, in checking order (docs/MANUAL.md, "Refusals"). Each covers the whole table
 // before the next begins.
-use crate::format::receipts_at;
-use crate::format::sends_at;
-use crate::format::table_length;
 use crate::format::COUNTS_AT;
 use crate::format::MOST_CHECKPOINTS;
 use crate::format::MOST_MESSAGES;
 use crate::format::MOST_PROCESSES;
+use crate::format::receipts_at;
+use crate::format::sends_at;
+use crate::format::table_length;
 use crate::numbers::u16_at;
 ghost use mathlib.Core.Path.{_≡_};
 ghost use mathlib.Core.Bool.{false};

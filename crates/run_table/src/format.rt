@@ -6,7 +6,9 @@ ghost use Rattle.run_table.specs.Format.{receiptsAt, sendsAt, tableLengt
 
 // The limits of N, of M, and of each count.
 pub const MOST_PROCESSES: usize = 32;
+
 pub const MOST_MESSAGES: usize = 4096;
+
 pub const MOST_CHECKPOINTS: u16 = 4096;
 
 // The byte at which the counts begin.

@@ -1,10 +1,11 @@
-// The run table: what its bytes say, checks 1 to 9, and its numbers by place (document 01, "The run
+// The run table: what its bytes say, its checks, and its numbers by place (docs/MANUAL.md, "The run
 // table"). It stands below the keeper and knows nothing of it: plotting tools link it alone.
 pub mod checks;
 pub mod format;
 pub mod lookups;
 pub mod numbers;
 pub mod parts;
+pub mod writing;
 
 use lookups::Field;
 ghost use mathlib.Core.Path.{_≡_};

@@ -1,7 +1,7 @@
 // Total lookups in the bytes of a table, accepted or not: what stands beyond is 0.
+use crate::format::COUNTS_AT;
 use crate::format::receipts_at;
 use crate::format::sends_at;
-use crate::format::COUNTS_AT;
 use crate::numbers::u16_or_zero;
 ghost use mathlib.Core.Path.{_≡_};
 ghost use Rattle.run_table.specs.Fields.{numberOf};

@@ -1,10 +1,11 @@
 // The sizes and the parts of an accepted table. Counts, sends and receipts are lent on as parts of the
 // table's slice that start in its middle.
+use crate::format::COUNTS_AT;
 use crate::format::receipts_at;
 use crate::format::sends_at;
-use crate::format::COUNTS_AT;
 use crate::numbers::u16_at;
 ghost use mathlib.Core.Path.{_≡_};
+ghost use Rattle.run_table.specs.Arrays.{arrayOf};
 ghost use Rattle.run_table.specs.Checks.{tableRefusal};
 ghost use Rattle.run_table.specs.Format.{countsPart, decode, receiptsPart, sendsPart};
 ghost use Rattle.run_table.specs.Table.{messageCount, processCount};
@@ -32,6 +33,22 @@ pub fn counts(table: &[u8]) -> &[u8]
 {
     let end = sends_at(process_count(table));
     &table[COUNTS_AT..end]
+}
+
+// The counts as an array, of which the first N are the table's.
+pub fn count_array(table: &[u8]) -> [u16; 32]
+    requires { ⌜ tableRefusal (now table) ≡ 0 ⌝ }
+    ensures { λ r. ⌜ r ≡ arrayOf (decode (now (table .entry)) .counts) ⌝ }
+{
+    let n = process_count(table);
+    let part = counts(table);
+    let mut counts = [0u16; 32];
+    let mut p = 0;
+    while p < n {
+        counts[p] = u16_at(part, 2 * p);
+        p += 1;
+    }
+    counts
 }
 
 // The sends.

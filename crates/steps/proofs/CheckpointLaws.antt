@@ -1,6 +1,6 @@
 -- The bytes of the table after a checkpoint.
 --     sends-kept, receipts-new                    its sends and receipts, as the code writes them
---     checkpoint-put                              the four writes
+--     checkpoint-put                              the three writes
 -- Assumes nothing.
 use mathlib.Core.Bool.{Bool, true, false, cond}
 use mathlib.Core.List.{List, [], _∷_, _++_}
@@ -10,19 +10,19 @@ use native.Mathlib.Nat.{le-refl}
 use native.Mathlib.Numerals.{add-one}
 use native.Mathlib.Omega.{arith}
 use lib.Dec.{eqb}
-use lib.ListN.{length, set}
+use lib.ListN.{length, getD, set, take}
 use Rattle.futures.proofs.StepLaws.{checkpoint-messages, checkpoint-processes, receivedAt-listed, receivedAt-receiver, receivedAt-sender, receivedAt-sent, receivedAt-unlisted}
 use Rattle.futures.specs.Steps.{afterCheckpoint, receivedAt}
 use Rattle.run_table.proofs.CodingLaws.{entries-append, entries-tabulate, even-number, odd-number}
 use Rattle.run_table.proofs.ListLaws.{tabulate-more}
 use Rattle.run_table.proofs.ReadLaws.{received-read, receiver-read, sender-read, sent-read}
+use Rattle.run_table.proofs.WriteLaws.{table-put}
 use Rattle.run_table.specs.Checks.{tableRefusal}
-use Rattle.run_table.specs.Format.{checkpointAt, decode, encode, entriesOf, processAt, receiptsOf, receiptsPart, sendsOf, sendsPart}
+use Rattle.run_table.specs.Format.{checkpointAt, decode, encode, entriesOf, processAt, receiptsAt, receiptsOf, receiptsPart, sendsAt, sendsOf, sendsPart, tableLength}
 use Rattle.run_table.specs.Lists.{any, tabulate}
-use Rattle.run_table.specs.Numbers.{putAt, u16At, u16Bytes, u16s}
+use Rattle.run_table.specs.Numbers.{putAt, u16At, u16s}
 use Rattle.run_table.specs.Table.{Message, Table, countOf, messageCount, processCount}
-use Rattle.steps.proofs.PlaceLaws.{number-within}
-use Rattle.steps.proofs.PutLaws.{table-put}
+use Rattle.steps.proofs.PutLaws.{Read, count-read, front-set}
 use Rattle.steps.specs.Saving.{newReceipt, receiptNumbers}
 
 module _ (bytes : List ℕ) (none : tableRefusal bytes ≡ 0) (i : ℕ) (list : List ℕ) where
@@ -72,25 +72,21 @@ module _ (bytes : List ℕ) (none : tableRefusal bytes ≡ 0) (i : ℕ) (list : 
   unfolding afterCheckpoint
   receipts-new m e = ap (λ (x : ℕ). receiptNumbers x (receiptsPart bytes) list (countOf t i)) e ∙ receipts-upto (messageCount t) (le-refl (messageCount t))
 
-  -- the four writes: sizes and counts, the count that grows, the sends, the receipts
-  module _ (n m number : ℕ) (sends receipts b₀ b₁ b₂ b₃ b₄ : List ℕ) (read-n : n ≡ processCount t) (read-m : m ≡ messageCount t)
-      (known : i < processCount t) (is-s : sends ≡ sendsPart bytes) (is-r : receipts ≡ receiptsPart bytes) (is-number : number ≡ countOf t i)
-      (room : 4 + 2 * n + 8 * m ≤ length b₀) where
-    abbrev array : List ℕ
-    array = tabulate (2 * m) (λ k. u16At sends (2 * k))
-
-    counts-put : b₁ ≡ putAt b₀ 0 (u16s (processCount t ∷ m ∷ t .counts)) → b₂ ≡ putAt b₁ (4 + 2 * i) (u16Bytes (number + 1))
-        → b₂ ≡ putAt b₀ 0 (u16s (n ∷ m ∷ after .counts))
-    unfolding afterCheckpoint processCount
-    counts-put w₁ w₂ =
-        let place : 4 + 2 * i ≡ 0 + 2 * suc (suc i) = omega arith in
-        w₂ ∙ ap₂ (λ (b : List ℕ) (j : ℕ). putAt b j (u16Bytes (number + 1))) w₁ place
-        ∙ number-within b₀ (processCount t ∷ m ∷ t .counts) 0 (suc (suc i)) (number + 1) (omega arith) (omega (arith, read-n))
-        ∙ ap₂ (λ (x c : ℕ). putAt b₀ 0 (u16s (x ∷ m ∷ set (t .counts) i (c + 1)))) (sym read-n) is-number
-
-    pub checkpoint-put : b₁ ≡ putAt b₀ 0 (u16s (processCount t ∷ m ∷ t .counts)) → b₂ ≡ putAt b₁ (4 + 2 * i) (u16Bytes (number + 1))
-        → b₃ ≡ putAt b₂ (4 + 2 * n) (u16s array) → b₄ ≡ putAt b₃ (4 + 2 * n + 4 * m) (u16s (receiptNumbers m receipts list number)) → b₄ ≡ putAt b₀ 0 (encode after)
-    checkpoint-put w₁ w₂ w₃ w₄ =
-        table-put after n m (after .counts) array _ (read-n ∙ sym (checkpoint-processes t i list)) (read-m ∙ sym (checkpoint-messages t i list)) refl
-        (ap (λ (p : List ℕ). tabulate (2 * m) (λ k. u16At p (2 * k))) is-s ∙ sends-kept m read-m)
-        (ap₂ (λ (p : List ℕ) (x : ℕ). receiptNumbers m p list x) is-r is-number ∙ receipts-new m read-m) b₀ b₂ b₃ b₄ room (counts-put w₁ w₂) w₃ w₄
+-- the three writes: the head, the sends, the receipts
+module _ {bytes : List ℕ} {n m : ℕ} {array : List ℕ} (r : Read bytes n m array) (i : ℕ) (known : i < processCount (decode bytes)) (list : List ℕ) where
+  pub checkpoint-put : (number a z : ℕ) (sends receipts b₀ b₁ b₂ b₃ : List ℕ) → sends ≡ sendsPart bytes → receipts ≡ receiptsPart bytes
+      → number ≡ getD array i 0 → a ≡ sendsAt n → z ≡ receiptsAt n m → tableLength n m ≤ length b₀
+      → (let counts = take n (set array i (number + 1)) in b₁ ≡ putAt b₀ 0 (u16s (length counts ∷ m ∷ counts)))
+      → b₂ ≡ putAt b₁ a (u16s (tabulate (2 * m) (λ k. u16At sends (2 * k))))
+      → b₃ ≡ putAt b₂ z (u16s (receiptNumbers m receipts list number)) → b₃ ≡ putAt b₀ 0 (encode (afterCheckpoint (decode bytes) i list))
+  unfolding processCount afterCheckpoint
+  checkpoint-put number a z sends receipts b₀ b₁ b₂ b₃ is-s is-r is-number at-s at-r room w₁ w₂ w₃ =
+      let t = decode bytes in
+      let size : n ≡ processCount (afterCheckpoint t i list) = r .read-n ∙ sym (checkpoint-processes t i list) in
+      table-put (afterCheckpoint t i list) n m (take n (set array i (number + 1))) _ _ size (r .read-m ∙ sym (checkpoint-messages t i list)) grown
+      (ap (λ (p : List ℕ). tabulate (2 * m) (λ k. u16At p (2 * k))) is-s ∙ sends-kept bytes (r .none) i list m (r .read-m))
+      (ap₂ (λ (p : List ℕ) (x : ℕ). receiptNumbers m p list x) is-r (is-number ∙ count-read r i) ∙ receipts-new bytes (r .none) i list m (r .read-m)) b₀ b₁ b₂ b₃ room
+      (w₁ ∙ ap (λ (x : ℕ). putAt b₀ 0 (u16s (x ∷ m ∷ take n (set array i (number + 1))))) (ap length grown ∙ sym size)) (rw at-s at w₂) (rw at-r at w₃)
+    where
+      grown : take n (set array i (number + 1)) ≡ afterCheckpoint (decode bytes) i list .counts
+      grown = front-set r i (number + 1) known ∙ ap (λ (c : ℕ). set (decode bytes .counts) i (c + 1)) (is-number ∙ count-read r i)

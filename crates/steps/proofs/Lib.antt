@@ -1,9 +1,7 @@
--- The laws of the code of send and save, and of tables that are put into a buffer.
---     PutLaws           numbers put one after another, and the bytes of a table and of the one after a send
---     PlaceLaws         bytes put at two places of one buffer
+-- The laws of the code of send and save.
+--     PutLaws           what a step has read of a table; the bytes of the table after a send
 --     CheckpointLaws    the bytes of the table after a checkpoint
 --     SavingLaws        the list of a checkpoint, and what it changes
 mod CheckpointLaws
-pub mod PlaceLaws
 pub mod PutLaws
 mod SavingLaws

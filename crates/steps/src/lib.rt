@@ -1,5 +1,4 @@
 // Send and save on tables: each writes the table that the step leaves to the front of a buffer. The fall
 // back is the crate `rollback`.
-pub mod copying;
 pub mod saving;
 pub mod sending;

@@ -1,16 +1,18 @@
-// Checkpoint (document 01: save): the listed messages are received, and the count of the process grows.
-use crate::copying::copy_numbers;
-use crate::copying::put_head;
+// Checkpoint (docs/MANUAL.md, "Steps": save): the listed messages are received, and the count of the process grows.
+use run_table::format::receipts_at;
+use run_table::format::sends_at;
 use run_table::numbers::put_u16;
 use run_table::numbers::u16_at;
 use run_table::parts;
+use run_table::writing::copy_numbers;
+use run_table::writing::put_head;
 ghost use mathlib.Core.Bool.{false};
 ghost use mathlib.Core.Path.{_≡_};
 ghost use Prim.Native.Nat.{ℕ, _+_, _*_, _<_, _≤_};
 ghost use lib.ListN.{getD, length};
 ghost use Rattle.futures.specs.Steps.{afterCheckpoint, badPosition, notRising};
 ghost use Rattle.run_table.specs.Checks.{tableRefusal};
-ghost use Rattle.run_table.specs.Format.{decode, encode};
+ghost use Rattle.run_table.specs.Format.{decode, encode, tableLength};
 ghost use Rattle.run_table.specs.Lists.{any};
 ghost use Rattle.run_table.specs.Numbers.{putAt, u16s};
 ghost use Rattle.run_table.specs.Table.{messageCount, processCount};
@@ -56,17 +58,17 @@ pub fn bad_position(table: &[u8], process: u16, list: &[u16]) -> bool
 
 // Writes the receipts of m messages, those at the listed positions with a new number, to a place of a
 // buffer that has room for them.
-fn put_receipts(receipts: &[u8], m: usize, list: &[u16], number: u16, answer: &mut [u8], at: usize)
+fn put_receipts(buffer: &mut [u8], at: usize, receipts: &[u8], m: usize, list: &[u16], number: u16)
     requires { ⌜ length (now receipts) ≡ 4 * m ⌝ }
     requires { ⌜ ((a : ℕ) → a < length (now list) → getD (now list) a 0 < m) ⌝ }
-    requires { ⌜ at + 4 * m ≤ length (now answer) ⌝ }
-    ensures { λ _. ⌜ now (answer .exit) ≡ putAt (now (answer .entry)) at (u16s (receiptNumbers m (now (receipts .entry)) (now (list .entry)) number)) ⌝ }
+    requires { ⌜ at + 4 * m ≤ length (now buffer) ⌝ }
+    ensures { λ _. ⌜ now (buffer .exit) ≡ putAt (now (buffer .entry)) at (u16s (receiptNumbers m (now (receipts .entry)) (now (list .entry)) number)) ⌝ }
 {
-    copy_numbers(receipts, 2 * m, answer, at);
+    copy_numbers(buffer, at, receipts, 2 * m);
     let mut a = 0;
     while a < list.len() {
         let k = list[a] as usize;
-        put_u16(answer, at + 4 * k + 2, number);
+        put_u16(buffer, at + 4 * k + 2, number);
         a += 1;
     }
 }
@@ -77,21 +79,22 @@ pub fn put_checkpoint(table: &[u8], process: u16, list: &[u16], answer: &mut [u8
     requires { ⌜ tableRefusal (now table) ≡ 0 ⌝ }
     requires { ⌜ process < processCount (decode (now table)) ⌝ }
     requires { ⌜ any (badPosition (decode (now table)) process) (now list) ≡ false ⌝ }
-    requires { ⌜ 4 + 2 * processCount (decode (now table)) + 8 * messageCount (decode (now table)) ≤ length (now answer) ⌝ }
+    requires { ⌜ tableLength (processCount (decode (now table))) (messageCount (decode (now table))) ≤ length (now answer) ⌝ }
     ensures { λ _. ⌜ now (answer .exit) ≡ putAt (now (answer .entry)) 0 (encode (afterCheckpoint (decode (now (table .entry))) process (now (list .entry)))) ⌝ }
 {
     let n = parts::process_count(table);
     let m = parts::message_count(table);
-    let number = u16_at(parts::counts(table), 2 * (process as usize));
-    put_head(table, m, answer);
-    put_u16(answer, 4 + 2 * (process as usize), number + 1);
-    copy_numbers(parts::sends(table), 2 * m, answer, 4 + 2 * n);
+    let mut counts = parts::count_array(table);
+    let number = counts[process as usize];
+    counts[process as usize] = number + 1;
+    put_head(answer, &counts[..n], m);
+    copy_numbers(answer, sends_at(n), parts::sends(table), 2 * m);
     put_receipts(
+        answer,
+        receipts_at(n, m),
         parts::receipts(table),
         m,
         list,
         number,
-        answer,
-        4 + 2 * n + 4 * m,
     );
 }

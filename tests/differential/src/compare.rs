@@ -6,10 +6,10 @@
 use std::collections::BTreeMap;
 use std::fmt;
 
+use keeper::{archive, run_table, Refusal};
 use reference::gen::Rng;
 use reference::Outcome;
 
-use crate::archive;
 use crate::lend::{Element, Lent};
 use crate::show;
 
@@ -55,16 +55,32 @@ pub const NAMES: [&str; 7] = [
     "keep_sheet",
 ];
 
-/// The checks of each call from 10 on; 1 to 9 are checks of every call.
-pub const LATER_CHECKS: [&[u32]; 7] = [
-    &[],
-    &[16],
-    &[12, 16],
-    &[10, 11, 14, 16],
-    &[10, 13, 14, 16],
-    &[16],
-    &[15, 16],
-];
+/// The refusals, and the checks of each call.
+const REFUSALS: &str = include_str!("../../../docs/refusals.txt");
+
+/// The numbers of the checks that a call makes, as docs/refusals.txt has them.
+pub fn checks_of(name: &str) -> Vec<u32> {
+    let mut of_table: Vec<u32> = Vec::new();
+    for line in REFUSALS.lines() {
+        let words: Vec<&str> = line.split_whitespace().collect();
+        let [first, rest @ ..] = words.as_slice() else {
+            continue;
+        };
+        // A refusal, and then the call.
+        match first.parse() {
+            Ok(number) if rest.first() == Some(&"table") => of_table.push(number),
+            _ => {}
+        }
+        if first.strip_prefix("keeper_") == Some(name) {
+            let of_word = |word: &&str| match *word {
+                "table" => of_table.clone(),
+                number => vec![number.parse().expect("`table` or the number of a check")],
+            };
+            return rest.iter().flat_map(of_word).collect();
+        }
+    }
+    panic!("docs/refusals.txt has no row for keeper_{name}");
+}
 
 impl Call {
     /// The place of the call in [`NAMES`].
@@ -141,7 +157,8 @@ impl Call {
         }
     }
 
-    /// What the archive answers; writes into what it is lent.
+    /// What the archive answers, called directly, because the binding keeps
+    /// `written` to itself; writes into what it is lent.
     fn by_archive(&self, lent: &mut Loan) -> u32 {
         let table = lent.table.slice();
         let (bytes, length) = (table.as_ptr(), table.len());
@@ -183,12 +200,7 @@ impl Call {
         let table = lent.table.slice();
         let answer = lent.answer.slice_mut();
         let result = match *self {
-            Call::CheckTable => {
-                return match keeper::check_table(table) {
-                    Ok(()) => 0,
-                    Err(refusal) => refusal.number(),
-                }
-            }
+            Call::CheckTable => return number(keeper::check_table(table)),
             Call::RecoveryLine { .. } => keeper::recovery_line(table, answer),
             Call::LineOfSet { set, .. } => keeper::line_of_set(table, set, answer),
             Call::Send { from, to, .. } => keeper::send(table, from, to, answer),
@@ -196,15 +208,29 @@ impl Call {
             Call::FallBack { .. } => keeper::fall_back(table, answer),
             Call::KeepSheet { .. } => keeper::keep_sheet(table, lent.scratch.slice_mut(), answer),
         };
-        match result {
-            Ok(length) => {
-                lent.written.put(&[length]);
-                0
-            }
-            Err(refusal) => refusal.number(),
+        if let Ok(length) = result {
+            lent.written.put(&[length]);
         }
+        number(result)
     }
 }
+
+/// The number that the archive answered, of the binding's result.
+pub fn number<T>(result: Result<T, Refusal>) -> u32 {
+    result.map_or_else(Refusal::number, |_| 0)
+}
+
+/// A lookup of the table reader by index.
+type Lookup = fn(&[u8], usize) -> u16;
+
+/// These lookups: the name, the library's, the second implementation's.
+const LOOKUPS: [(&str, Lookup, Lookup); 5] = [
+    ("count", run_table::count, reference::count),
+    ("sender", run_table::sender, reference::sender),
+    ("sent", run_table::sent, reference::sent),
+    ("receiver", run_table::receiver, reference::receiver),
+    ("received", run_table::received, reference::received),
+];
 
 /// All that a call is lent. A call that has no list, no scratch or no answer
 /// gets none of it; the slice is there all the same, and stays as it is.
@@ -404,7 +430,7 @@ impl Comparison {
     ) -> Result<(), Box<Difference>> {
         let lent = Lent::holding(rng, table);
         let before = lent.copy();
-        let (bytes, length) = (lent.slice().as_ptr(), lent.slice().len());
+        let here = lent.slice();
         let mut what = Vec::new();
         let mut same = |name: &str, got: u32, wanted: u32| {
             self.lookups += 1;
@@ -412,49 +438,16 @@ impl Comparison {
                 what.push(format!("run_table_{name}: got {got}, expected {wanted}"));
             }
         };
-        // SAFETY: the pointer and length are a slice of a buffer.
-        unsafe {
-            use archive::*;
-            same(
-                "check",
-                run_table_check(bytes, length),
-                reference::check_table(table),
-            );
-            let n = u32::from(run_table_processes(bytes, length));
-            same("processes", n, reference::processes(table).into());
-            let m = u32::from(run_table_messages(bytes, length));
-            same("messages", m, reference::messages(table).into());
+        let refusal = number(run_table::check(here));
+        same("check", refusal, reference::check_table(table));
+        let n = run_table::processes(here);
+        same("processes", n.into(), reference::processes(table).into());
+        let m = run_table::messages(here);
+        same("messages", m.into(), reference::messages(table).into());
+        for (name, ours, theirs) in LOOKUPS {
             for &at in indices {
-                let pairs = [
-                    (
-                        "count",
-                        run_table_count(bytes, length, at),
-                        reference::count(table, at),
-                    ),
-                    (
-                        "sender",
-                        run_table_sender(bytes, length, at),
-                        reference::sender(table, at),
-                    ),
-                    (
-                        "sent",
-                        run_table_sent(bytes, length, at),
-                        reference::sent(table, at),
-                    ),
-                    (
-                        "receiver",
-                        run_table_receiver(bytes, length, at),
-                        reference::receiver(table, at),
-                    ),
-                    (
-                        "received",
-                        run_table_received(bytes, length, at),
-                        reference::received(table, at),
-                    ),
-                ];
-                for (name, got, wanted) in pairs {
-                    same(&format!("{name} at {at}"), got.into(), wanted.into());
-                }
+                let (got, wanted) = (ours(here, at), theirs(table, at));
+                same(&format!("{name} at {at}"), got.into(), wanted.into());
             }
         }
         if lent.difference(&before).is_some() {
@@ -473,18 +466,34 @@ impl Comparison {
         }))
     }
 
-    /// The (call, refusal) pairs that the rules allow and no call met.
-    pub fn not_met(&self) -> Vec<String> {
-        let mut missing = Vec::new();
+    /// What the numbers of the calls made, and the checks of each call, have
+    /// without the other.
+    pub fn strays(&self) -> Vec<String> {
+        let mut strays = Vec::new();
         for (place, name) in NAMES.iter().enumerate() {
-            let later = LATER_CHECKS[place].iter().copied();
-            for number in (0..=9).chain(later) {
-                if !self.calls.contains_key(&(place, number)) {
-                    missing.push(format!("{name} with {number}"));
+            let mut expected = checks_of(name);
+            expected.push(0);
+            for number in &expected {
+                if !self.calls.contains_key(&(place, *number)) {
+                    strays.push(format!("no {name} answered {number}"));
+                }
+            }
+            for (number, _) in self.numbers(place) {
+                if !expected.contains(&number) {
+                    strays.push(format!(
+                        "{name} answered {number}, which is none of its checks"
+                    ));
                 }
             }
         }
-        missing
+        strays
+    }
+
+    /// The numbers in which calls of a name ended, and how many in each.
+    fn numbers(&self, place: usize) -> impl Iterator<Item = (u32, u64)> + '_ {
+        self.calls
+            .range((place, 0)..=(place, u32::MAX))
+            .map(|(&(_, number), &times)| (number, times))
     }
 
     /// The calls by name and number, a line for each name.
@@ -492,9 +501,8 @@ impl Comparison {
         let mut text = String::new();
         for (place, name) in NAMES.iter().enumerate() {
             let numbers: Vec<String> = self
-                .calls
-                .range((place, 0)..=(place, u32::MAX))
-                .map(|((_, number), times)| format!("{number}: {times}"))
+                .numbers(place)
+                .map(|(number, times)| format!("{number}: {times}"))
                 .collect();
             text += &format!("  {name:13} {}\n", numbers.join(", "));
         }

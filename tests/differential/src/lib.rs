@@ -1,6 +1,5 @@
 //! Compares the proved library with the second implementation.
 //!
-//! * `archive` - the calls as the archives have them, with no wrapper
 //! * `lend`    - buffers with guards on both sides, for what a call is lent
 //! * `compare` - one call made by the archive, by the binding and by the
 //!   second implementation, and everything that may differ
@@ -8,7 +7,6 @@
 //! * `scope`   - all tables up to a size
 //! * `show`    - tables and answers for a reader
 
-pub mod archive;
 pub mod compare;
 pub mod lend;
 pub mod make;

@@ -2,7 +2,7 @@
 
 use reference::gen::{self, Order, Rng};
 use reference::table::{MOST_MESSAGES, MOST_STATES};
-use reference::{Message, Table};
+use reference::{Message, Table, TABLE_CHECKS};
 
 use crate::compare::{Call, Comparison, Difference};
 
@@ -154,15 +154,16 @@ pub fn table(rng: &mut Rng) -> (&'static str, Vec<u8>) {
         }
         "damaged" => loop {
             let whole = some_accepted(rng).to_bytes();
-            let refusal = rng.between(1, 9) as u32;
+            let refusal = TABLE_CHECKS[rng.between(0, TABLE_CHECKS.len() - 1)];
             if let Some(bytes) = gen::damage(rng, &whole, refusal) {
                 break bytes;
             }
         },
         "damaged more than once" => loop {
             let whole = some_accepted(rng).to_bytes();
-            let mut refusals: Vec<u32> = (2..=9).collect();
-            refusals.retain(|_| rng.chance(2, 5));
+            // A table that is cut for 1 has nothing else to damage.
+            let mut refusals = TABLE_CHECKS.to_vec();
+            refusals.retain(|&refusal| refusal != 1 && rng.chance(2, 5));
             if let Some(bytes) = gen::damage_many(rng, &whole, &refusals) {
                 break bytes;
             }

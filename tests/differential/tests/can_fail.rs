@@ -1,10 +1,10 @@
 //! The comparison can fail: with an outcome to expect that is spoilt in one
 //! place, it reports a difference.
 
-use differential::compare::{Call, Comparison};
+use differential::compare::{checks_of, Call, Comparison, NAMES};
 use differential::lend::Lent;
 use reference::gen::{arbitrary, Rng};
-use reference::{Message, Outcome, Table};
+use reference::{Message, Outcome, Table, TABLE_CHECKS};
 
 fn example_a() -> Table {
     Table {
@@ -114,6 +114,33 @@ fn the_scratch_counts() {
         let mut more = expected;
         more.lines.as_mut().unwrap().push(0);
         assert!(fails(&table, &call, more));
+    }
+}
+
+/// The numbers answered are held against each call's list of checks: one that
+/// was never met counts, and so does one that is not on the list.
+#[test]
+fn the_lists_of_checks_count() {
+    assert_eq!(checks_of("check_table"), TABLE_CHECKS);
+    assert_eq!(checks_of("listing"), [16]);
+    let mut comparison = Comparison::default();
+    for (place, name) in NAMES.iter().enumerate() {
+        for number in checks_of(name).into_iter().chain([0]) {
+            comparison.calls.insert((place, number), 1);
+        }
+    }
+    assert_eq!(comparison.strays(), [""; 0]);
+    for (place, name) in NAMES.iter().enumerate() {
+        for number in checks_of(name).into_iter().chain([0]) {
+            comparison.calls.remove(&(place, number));
+            let stray = format!("no {name} answered {number}");
+            assert_eq!(comparison.strays(), [stray]);
+            comparison.calls.insert((place, number), 1);
+        }
+        comparison.calls.insert((place, 99), 1);
+        let stray = format!("{name} answered 99, which is none of its checks");
+        assert_eq!(comparison.strays(), [stray]);
+        comparison.calls.remove(&(place, 99));
     }
 }
 

@@ -4,7 +4,7 @@
 use crate::steps::{do_fall_back, do_save, do_send};
 use crate::table::{
     count, messages, processes, receiver, sender, Message, Table, MOST_MESSAGES, MOST_PROCESSES,
-    MOST_STATES,
+    MOST_STATES, TABLE_CHECKS,
 };
 
 // ---------------------------------------------------------------------------
@@ -463,7 +463,7 @@ pub fn break_receipt_number(rng: &mut Rng, bytes: &[u8]) -> Option<Vec<u8>> {
     Some(broken)
 }
 
-/// Damage for the refusal of the given number, 1 to 9.
+/// Damage for one of the table's checks, by its number.
 pub fn damage(rng: &mut Rng, bytes: &[u8], refusal: u32) -> Option<Vec<u8>> {
     match refusal {
         1 => cut_into_header(rng, bytes),
@@ -479,12 +479,12 @@ pub fn damage(rng: &mut Rng, bytes: &[u8], refusal: u32) -> Option<Vec<u8>> {
     }
 }
 
-/// Several damages in one table. The later checks are damaged first, so the
-/// smallest of the refusals is the one met: "A check covers the whole table or
-/// list before the next begins."
+/// Several damages in one table. The damage for the last check in checking
+/// order comes first, so the refusal met is that of the first: "A check covers
+/// the whole table or list before the next begins."
 pub fn damage_many(rng: &mut Rng, bytes: &[u8], refusals: &[u32]) -> Option<Vec<u8>> {
     let mut sorted = refusals.to_vec();
-    sorted.sort_unstable();
+    sorted.sort_unstable_by_key(|refusal| TABLE_CHECKS.iter().position(|check| check == refusal));
     let mut broken = bytes.to_vec();
     for &refusal in sorted.iter().rev() {
         broken = damage(rng, &broken, refusal)?;
@@ -643,8 +643,8 @@ pub const KINDS: [&str; 17] = [
 
 /// The bytes of a table of the named kind. `domino-...` has two processes
 /// whatever n is; `staircase` and `limit` do not look at m; `limit` takes one
-/// of its tables by the seed; `damage-1` to `damage-9` spoil an arbitrary
-/// table. `None` for an unknown kind or for a size that the kind cannot have.
+/// of its tables by the seed; `damage-K` spoils an arbitrary table for check
+/// K of a table. `None` for an unknown kind or for a size that the kind cannot have.
 pub fn by_name(kind: &str, seed: u64, n: usize, m: usize) -> Option<Vec<u8>> {
     if n == 0 || n > MOST_PROCESSES || m > MOST_MESSAGES {
         return None;

@@ -5,7 +5,7 @@
 //!
 //! Doc comments quote the sentence of the scope document that they follow.
 //!
-//! * `table`   - lookups in raw bytes, the checks 1 to 9, reading and writing
+//! * `table`   - lookups in raw bytes, the table's checks, reading and writing
 //! * `lines`   - orphans, consistency and latest consistent lines
 //! * `steps`   - send, save and fall back
 //! * `sheet`   - the keep sheet
@@ -28,6 +28,7 @@ pub use sheet::keep_sheet;
 pub use steps::{fall_back, save, send};
 pub use table::{
     check_table, count, messages, processes, received, receiver, sender, sent, Message, Table,
+    TABLE_CHECKS,
 };
 
 /// What a call yields: the returned number, the bytes of the answer, and the

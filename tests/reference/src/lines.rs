@@ -184,7 +184,9 @@ pub fn line_to_bytes(line: &[u32]) -> Vec<u8> {
 }
 
 /// The call for the recovery line: "The line of all processes is the recovery
-/// line of the run." Refusals 1 to 9 and 16.
+/// line of the run."
+///
+/// Checks: the table's, 16.
 pub fn recovery_line(bytes: &[u8], answer_len: usize) -> Outcome {
     match Table::read(bytes) {
         Err(number) => Outcome::refused(number),
@@ -193,13 +195,15 @@ pub fn recovery_line(bytes: &[u8], answer_len: usize) -> Outcome {
 }
 
 /// The call for the line of a set: "The line of the set is the latest
-/// consistent line under that ceiling." Refusals 1 to 9, 12 ("A set has a bit
-/// at N or above.") and 16.
+/// consistent line under that ceiling."
+///
+/// Checks: the table's, 12, 16.
 pub fn line_of_set(bytes: &[u8], set: u32, answer_len: usize) -> Outcome {
     let table = match Table::read(bytes) {
         Err(number) => return Outcome::refused(number),
         Ok(table) => table,
     };
+    // 12. A set has a bit at N or above.
     if (table.processes()..32).any(|p| holds(set, p)) {
         return Outcome::refused(12);
     }

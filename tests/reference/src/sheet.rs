@@ -73,14 +73,16 @@ pub fn kept(table: &Table) -> Sheet {
     kept_under(table, &hold_lines(table))
 }
 
-/// The call for the keep sheet. Refusals 1 to 9, 15 ("The scratch is shorter
-/// than N x N numbers.") and 16. "A refusal writes nothing, except that under
+/// The call for the keep sheet. "A refusal writes nothing, except that under
 /// 16 for a keep sheet the scratch holds the lines."
+///
+/// Checks: the table's, 15, 16.
 pub fn keep_sheet(bytes: &[u8], scratch_len: usize, answer_len: usize) -> Outcome {
     let table = match Table::read(bytes) {
         Err(number) => return Outcome::refused(number),
         Ok(table) => table,
     };
+    // 15. The scratch is shorter than N × N numbers.
     if scratch_len < table.processes() * table.processes() {
         return Outcome::refused(15);
     }

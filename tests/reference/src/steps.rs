@@ -70,7 +70,9 @@ pub fn list_is_bad(table: &Table, i: usize, list: &[u16]) -> bool {
         })
 }
 
-/// The call for a send: "Send from j to i". Refusals 1 to 9, 10, 11, 14, 16.
+/// The call for a send: "Send from j to i".
+///
+/// Checks: the table's, 10, 11, 14, 16.
 pub fn send(bytes: &[u8], from: u16, to: u16, answer_len: usize) -> Outcome {
     let mut table = match Table::read(bytes) {
         Err(number) => return Outcome::refused(number),
@@ -94,7 +96,9 @@ pub fn send(bytes: &[u8], from: u16, to: u16, answer_len: usize) -> Outcome {
 }
 
 /// The call for a save: "Save by i with a strictly rising list of positions of
-/// messages waiting for i". Refusals 1 to 9, 10, 13, 14, 16.
+/// messages waiting for i".
+///
+/// Checks: the table's, 10, 13, 14, 16.
 pub fn save(bytes: &[u8], process: u16, list: &[u16], answer_len: usize) -> Outcome {
     let mut table = match Table::read(bytes) {
         Err(number) => return Outcome::refused(number),
@@ -119,7 +123,9 @@ pub fn save(bytes: &[u8], process: u16, list: &[u16], answer_len: usize) -> Outc
 }
 
 /// The call for a fall back: "with L the recovery line, each count becomes
-/// L + 1." Refusals 1 to 9 and 16.
+/// L + 1."
+///
+/// Checks: the table's, 16.
 pub fn fall_back(bytes: &[u8], answer_len: usize) -> Outcome {
     let mut table = match Table::read(bytes) {
         Err(number) => return Outcome::refused(number),

@@ -1,4 +1,4 @@
-//! The run table: lookups in raw bytes, the checks 1 to 9, reading, writing.
+//! The run table: lookups in raw bytes, the table's checks, reading, writing.
 
 /// "N is 1 to 32".
 pub const MOST_PROCESSES: usize = 32;
@@ -85,8 +85,14 @@ pub fn received(bytes: &[u8], k: usize) -> u16 {
 // ---------------------------------------------------------------------------
 // The checks.
 
-/// The first of the checks 1 to 9 that catches the table, or 0. "A check
-/// covers the whole table or list before the next begins."
+/// The numbers of a table's checks, "In checking order". The order is that of
+/// this list and not that of the numbers.
+pub const TABLE_CHECKS: [u32; 9] = [1, 2, 3, 4, 5, 6, 7, 8, 9];
+
+/// The first of the table's checks that catches, or 0. "A check covers the
+/// whole table or list before the next begins."
+///
+/// Checks: the table's.
 pub fn check_table(bytes: &[u8]) -> u32 {
     // 1. The table has fewer than 4 bytes.
     if bytes.len() < 4 {
@@ -186,7 +192,7 @@ impl Table {
         }
     }
 
-    /// Reads a table that the checks 1 to 9 accept; otherwise the number of
+    /// Reads a table that the table's checks accept; otherwise the number of
     /// the refusal. "Sizes come first: N, the number of processes; M, the
     /// number of messages; then for each process its count of saved states."
     pub fn read(bytes: &[u8]) -> Result<Table, u32> {

@@ -1,6 +1,6 @@
 //! The generators make what they promise.
 
-use std::collections::HashSet;
+use std::collections::{BTreeMap, BTreeSet, HashSet};
 
 use reference::gen::*;
 use reference::lines::line_of_run;
@@ -74,7 +74,8 @@ fn chance_tables_are_not_trivial() {
 #[test]
 fn damage_meets_its_refusal() {
     let mut rng = Rng::new(13);
-    let mut met = [0; 10];
+    let mut met = BTreeMap::new();
+    let mut not_met = BTreeSet::new();
     for round in 0..3000 {
         let n = rng.between(1, 32);
         let m = rng.between(0, 20);
@@ -83,17 +84,22 @@ fn damage_meets_its_refusal() {
         } else {
             history(&mut rng, n, m).to_bytes()
         };
-        for refusal in 1..=9 {
+        for refusal in TABLE_CHECKS {
             match damage(&mut rng, &bytes, refusal) {
                 Some(broken) => {
                     assert_eq!(check_table(&broken), refusal);
-                    met[refusal as usize] += 1;
+                    *met.entry(refusal).or_insert(0) += 1;
                 }
-                None => assert!(refusal >= 6 && messages(&bytes) == 0),
+                None => {
+                    assert_eq!(messages(&bytes), 0);
+                    not_met.insert(refusal);
+                }
             }
         }
     }
-    assert!(met[1..].iter().all(|&times| times > 1000));
+    assert!(TABLE_CHECKS.iter().all(|refusal| met[refusal] > 1000));
+    // What takes a message to damage.
+    assert_eq!(not_met, BTreeSet::from([6, 7, 8, 9]));
 }
 
 #[test]
@@ -103,16 +109,20 @@ fn several_damages_meet_the_first_refusal() {
         let n = rng.between(2, 6);
         let m = rng.between(1, 12);
         let bytes = arbitrary(&mut rng, n, m, 6).to_bytes();
-        let refusals: Vec<u32> = (1..=9).filter(|_| rng.chance(1, 3)).collect();
+        // In checking order, so the first is the one to be met.
+        let mut refusals = TABLE_CHECKS.to_vec();
+        refusals.retain(|_| rng.chance(1, 3));
+        let first = refusals.first().copied().unwrap_or(0);
+        rng.shuffle(&mut refusals);
         let broken = damage_many(&mut rng, &bytes, &refusals).unwrap();
-        assert_eq!(check_table(&broken), refusals.first().copied().unwrap_or(0));
+        assert_eq!(check_table(&broken), first);
     }
 }
 
 #[test]
 fn any_bytes_can_be_looked_up_and_refused() {
     let mut rng = Rng::new(15);
-    let mut met = [0; 10];
+    let mut met = BTreeMap::new();
     for round in 0..4000 {
         let bytes = if round % 4 == 0 {
             random_bytes(&mut rng, 200)
@@ -122,7 +132,7 @@ fn any_bytes_can_be_looked_up_and_refused() {
             random_body(&mut rng, n, m)
         };
         let number = check_table(&bytes);
-        met[number as usize] += 1;
+        *met.entry(number).or_insert(0) += 1;
         for k in [0, 1, 2, 100, 65_534, 65_535, 65_536, usize::MAX] {
             let fields = [
                 sender(&bytes, k),
@@ -145,7 +155,7 @@ fn any_bytes_can_be_looked_up_and_refused() {
         );
     }
     for number in [0, 6, 7, 8, 9] {
-        assert!(met[number] > 20, "{met:?}");
+        assert!(met[&number] > 20, "{met:?}");
     }
 }
 

@@ -8,7 +8,7 @@ use std::process::ExitCode;
 use keeper::Refusal;
 
 use crate::run::Run;
-use crate::{draw, sys, text};
+use crate::{draw, text};
 
 const HELP: &str = "\
 keeper: run tables of checkpointed processes, their lines, steps, listings and diagrams
@@ -378,7 +378,7 @@ struct Input {
 impl Input {
     /// The failure of a call on the table.
     fn refused(&self, refusal: Refusal) -> Failure {
-        if refusal > Refusal::ReceiptNumberTooHigh {
+        if !refusal.is_of_table() {
             return Failure::Refused(None, refusal);
         }
         let line = self.text.as_ref().and_then(|text| text.line_of(refusal));
@@ -484,9 +484,9 @@ fn decode(arguments: &Arguments) -> Result<(), Failure> {
 
 fn list(arguments: &Arguments) -> Result<(), Failure> {
     let input = input(arguments)?;
-    let mut listing = vec![0; sys::LISTING_ROOM];
+    let mut listing = vec![0; keeper::LISTING_ROOM];
     let written =
-        sys::listing(&input.table, &mut listing).map_err(|refusal| input.refused(refusal))?;
+        keeper::listing(&input.table, &mut listing).map_err(|refusal| input.refused(refusal))?;
     put(&arguments.output, &listing[..written])?;
     input.check()
 }

@@ -6,5 +6,4 @@ pub mod command;
 pub mod draw;
 pub mod layout;
 pub mod run;
-pub mod sys;
 pub mod text;

@@ -1,10 +1,9 @@
 //! A run as a diagram needs it: the table's numbers by the reader's lookups,
 //! and what is kept and the lines by the keeper's calls.
 
-use keeper::Refusal;
+use keeper::{run_table, Refusal};
 
 use crate::command::numbers;
-use crate::sys;
 
 pub struct Message {
     pub from: usize,
@@ -38,8 +37,8 @@ impl Run {
     /// to 31), or refuses as the keeper does.
     pub fn read(table: &[u8], hold: Option<usize>) -> Result<Run, Refusal> {
         keeper::check_table(table)?;
-        let counts: Vec<usize> = (0..usize::from(sys::processes(table)))
-            .map(|p| sys::count(table, p).into())
+        let counts: Vec<usize> = (0..usize::from(run_table::processes(table)))
+            .map(|p| run_table::count(table, p).into())
             .collect();
         let mut answer = vec![0; keeper::SHEET_ROOM];
 
@@ -61,12 +60,12 @@ impl Run {
         for place in 0..checkpoints {
             kept[sheet[place]][sheet[checkpoints + place]] = true;
         }
-        let mut messages: Vec<Message> = (0..usize::from(sys::messages(table)))
+        let mut messages: Vec<Message> = (0..usize::from(run_table::messages(table)))
             .map(|k| Message {
-                from: sys::sender(table, k).into(),
-                sent: sys::sent(table, k).into(),
-                to: sys::receiver(table, k).into(),
-                received: sys::received(table, k).into(),
+                from: run_table::sender(table, k).into(),
+                sent: run_table::sent(table, k).into(),
+                to: run_table::receiver(table, k).into(),
+                received: run_table::received(table, k).into(),
                 kept: false,
             })
             .collect();

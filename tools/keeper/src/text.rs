@@ -13,9 +13,7 @@
 
 use std::fmt::{self, Write};
 
-use keeper::Refusal;
-
-use crate::sys;
+use keeper::{run_table, Refusal};
 
 /// Where a text leaves the form, and what the form has there.
 #[derive(Debug, PartialEq, Eq)]
@@ -57,7 +55,7 @@ impl Read {
             | Refusal::ReceiptNumberTooHigh => {
                 // The first message that the library refuses so where it
                 // stands alone.
-                let n = usize::from(sys::processes(&self.table));
+                let n = usize::from(run_table::processes(&self.table));
                 let head = &self.table[4..4 + 2 * n];
                 let (sends, receipts) =
                     self.table[4 + 2 * n..].split_at(4 * self.message_lines.len());
@@ -263,20 +261,20 @@ pub fn read(text: &[u8]) -> Result<Read, SyntaxError> {
 
 /// The text of an accepted table.
 pub fn write(table: &[u8]) -> String {
-    let n = sys::processes(table);
+    let n = run_table::processes(table);
     let mut text = format!("processes {n}\nstates");
     for process in 0..usize::from(n) {
-        let _ = write!(text, " {}", sys::count(table, process));
+        let _ = write!(text, " {}", run_table::count(table, process));
     }
     text.push('\n');
-    for k in 0..usize::from(sys::messages(table)) {
-        let (sender, sent) = (sys::sender(table, k), sys::sent(table, k));
+    for k in 0..usize::from(run_table::messages(table)) {
+        let (sender, sent) = (run_table::sender(table, k), run_table::sent(table, k));
         let _ = write!(
             text,
             "message {sender}.{sent} -> {}",
-            sys::receiver(table, k)
+            run_table::receiver(table, k)
         );
-        let _ = match sys::received(table, k) {
+        let _ = match run_table::received(table, k) {
             0 => writeln!(text, " waiting"),
             received => writeln!(text, ".{received}"),
         };

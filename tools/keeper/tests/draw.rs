@@ -401,7 +401,7 @@ fn draw_as_a_subcommand() {
     );
     for case in corpus() {
         if let Some(number) = refused(&case.listing) {
-            let refusal = keeper::Refusal::from_number(number).expect("1 to 16");
+            let refusal = keeper::Refusal::from_number(number).expect("a refusal's number");
             fails(
                 &["draw", &case.path],
                 b"",

@@ -22,7 +22,7 @@ fn lists_the_corpus() {
         match refused(&case.listing) {
             None => assert_eq!((ran.status, ran.errors.as_str()), (0, ""), "{}", case.name),
             Some(number) => {
-                let refusal = keeper::Refusal::from_number(number).expect("1 to 16");
+                let refusal = keeper::Refusal::from_number(number).expect("a refusal's number");
                 assert_eq!(ran.status, 1, "{}", case.name);
                 assert_eq!(ran.errors, format!("keeper: {}: {refusal}\n", case.path));
             }

@@ -104,7 +104,7 @@ fn refused_texts_and_their_lines() {
         ("processes 2\nstates 3 4\nmessage 0.0 -> 1.3\nmessage 0.2 -> 1.4\nmessage 0.2 -> 1.5\n", ":4", 9),
     ];
     for (text, place, number) in cases {
-        let refusal = keeper::Refusal::from_number(number).expect("1 to 16");
+        let refusal = keeper::Refusal::from_number(number).expect("a refusal's number");
         fails(
             &["encode"],
             text.as_bytes(),
@@ -127,7 +127,7 @@ fn decode_then_encode_over_the_corpus() {
     for case in corpus() {
         match refused(&case.listing) {
             Some(number) => {
-                let refusal = keeper::Refusal::from_number(number).expect("1 to 16");
+                let refusal = keeper::Refusal::from_number(number).expect("a refusal's number");
                 fails(
                     &["decode", &case.path],
                     b"",

@@ -2,15 +2,9 @@
 -- Assumes nothing.
 use borrow.Author.Needs.{needs}
 use mathlib.Core.Path.{_∙_}
-use Rattle.lines.proofs.ArrayLaws.{ceiling-needs, ceiling-read}
+use Rattle.lines.proofs.LineReads.{ceiling-needs, ceiling-read}
 use Rattle.lines.proofs.ceiling_of_set.Statement.{statement}
 use Rattle.lines.proofs.ceiling_of_set.Tie as tie
-
-process-count-requires : tie.Need-process-count-requires
-process-count-requires c κs = search needs
-
-counts-requires : tie.Need-counts-requires
-counts-requires c κs = search needs
 
 ceiling-requires : tie.Need-ceiling-requires
 ceiling-requires c κs = ceiling-needs _ (c .before .before .before .pre) _ _ (c .before .process-count .ensures) (c .counts .ensures)
@@ -20,4 +14,4 @@ returns c = c .ceiling .ensures ∙ ceiling-read _ (c .before .before .before .b
 
 pub ceiling-of-set-spec : {M : Type 1} → statement M
 ceiling-of-set-spec =
-    tie.close (tie.spec process-count-requires counts-requires ceiling-requires returns)
+    tie.close (tie.spec (λ c κs. search needs) (λ c κs. search needs) ceiling-requires returns)

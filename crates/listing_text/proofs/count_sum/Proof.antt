@@ -20,20 +20,8 @@ process-count-requires c κs = c .before .pre
 loop-holds : tie.Need-loop-holds Inv-loop μ-loop
 loop-holds c = summed-none _
 
-count-requires : tie.Need-count-requires Inv-loop μ-loop
-count-requires c κs = omega arith
-
-cast-total : tie.Need-cast-total Inv-loop μ-loop
-cast-total c = omega arith
-
 add-total : tie.Need-add-total Inv-loop μ-loop
 add-total c = omega (arith, c .before .before .loop .inv .small, c .before .before .before .process-count .ensures, processes-few _ (c .before .before .before .before .before .pre))
-
-add-p : tie.Need-add-p Inv-loop μ-loop
-add-p c = omega arith
-
-loop-less : tie.Need-loop-less Inv-loop μ-loop
-loop-less c = omega arith
 
 loop-again : tie.Need-loop-again Inv-loop μ-loop
 loop-again c = summed-more _ _ _ (c .before .before .loop .inv) (omega (arith, c .before .before .before .process-count .ensures, c .before .loop-test .taken)) _ (c .count .ensures) (omega arith)
@@ -49,10 +37,10 @@ count-sum-spec =
     μ-loop
     process-count-requires
     loop-holds
-    count-requires
-    cast-total
+    (λ c κs. omega arith)
+    (λ c. omega arith)
     add-total
-    add-p
-    loop-less
+    (λ c. omega arith)
+    (λ c. omega arith)
     loop-again
     returns)

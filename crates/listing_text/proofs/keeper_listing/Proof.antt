@@ -21,47 +21,14 @@ refusal-is c = sheet-number _ _ _ (lit≤ tt) (lit≤ tt) _ _ _ _ _ (c .keeper-k
 answers : (c : tie.After-keeper-keep-sheet) → tableRefusal (now (c .before .before .before .before .before .before .args .table)) ≡ 0 → Answered (decode (now (c .before .before .before .before .before .before .args .table))) (c .keeper-keep-sheet .last .1 .0) (c .keeper-keep-sheet .last .1 .1 .0)
 answers c = sheet-answered _ _ _ (lit≤ tt) (lit≤ tt) _ _ _ _ _ (c .keeper-keep-sheet .ensures .0) (c .keeper-keep-sheet .ensures .1 .0)
 
-slice-aggregate-keeper-keep-sheet : tie.Need-slice-aggregate-keeper-keep-sheet
-slice-aggregate-keeper-keep-sheet c = search needs
-
-slice-aggregate-keeper-keep-sheet-2 : tie.Need-slice-aggregate-keeper-keep-sheet-2
-slice-aggregate-keeper-keep-sheet-2 c = search needs
-
-keeper-keep-sheet-requires : tie.Need-keeper-keep-sheet-requires
-keeper-keep-sheet-requires c κs = search needs
-
-slice-relend-prefix-put-text : tie.Need-slice-relend-prefix-put-text
-slice-relend-prefix-put-text c = search needs
-
-slice-aggregate-put-text : tie.Need-slice-aggregate-put-text
-slice-aggregate-put-text c = search needs
-
-slice-aggregate-put-text-2 : tie.Need-slice-aggregate-put-text-2
-slice-aggregate-put-text-2 c = search needs
-
-slice-aggregate-put-text-3 : tie.Need-slice-aggregate-put-text-3
-slice-aggregate-put-text-3 c = search needs
-
 put-text-requires : tie.Need-put-text-requires
 put-text-requires c κs = (refusal-is (c .before .before .before .before .before), answers (c .before .before .before .before .before))
-
-same-length : tie.Need-same-length
-same-length c = search needs
 
 returns : tie.Need-returns
 returns c = (listing-refused _ _ _ _ _ (c .before .before .before .put-text .ensures) (c .if1 .taken), (λ room. absurd (omega (arith, room, listing-longer _ _ _ _ 0 (c .before .before .before .put-text .ensures) (c .if1 .taken), text-few (now (c .before .before .before .before .before .before .before .before .before .before .before .before .before .before .before .args .table)) (omega (arith, refusal-is (c .before .before .before .before .before .before .before .before .before)))))))
 
-slice-aggregate-put-text-4 : tie.Need-slice-aggregate-put-text-4
-slice-aggregate-put-text-4 c = search needs
-
-slice-aggregate-put-text-5 : tie.Need-slice-aggregate-put-text-5
-slice-aggregate-put-text-5 c = search needs
-
 put-text-requires-2 : tie.Need-put-text-requires-2
 put-text-requires-2 c κs = (refusal-is (c .before .before .before .before .before .before .before .before .before .before .before .before), answers (c .before .before .before .before .before .before .before .before .before .before .before .before))
-
-same-length-2 : tie.Need-same-length-2
-same-length-2 c = search needs
 
 returns-2 : tie.Need-returns-2
 returns-2 c = (listing-answered _ _ _ _ _ (c .before .before .before .before .before .before .before .before .before .put-text .ensures) (c .before .before .before .before .before .before .if1 .left) _ _ (c .before .before .put-text2 .ensures), (λ room. refl))
@@ -70,18 +37,18 @@ pub keeper-listing-spec : {M : Type 1} → statement M
 keeper-listing-spec =
     tie.close
     (tie.spec
-    slice-aggregate-keeper-keep-sheet
-    slice-aggregate-keeper-keep-sheet-2
-    keeper-keep-sheet-requires
-    slice-relend-prefix-put-text
-    slice-aggregate-put-text
-    slice-aggregate-put-text-2
-    slice-aggregate-put-text-3
+    (λ c. search needs)
+    (λ c. search needs)
+    (λ c κs. search needs)
+    (λ c. search needs)
+    (λ c. search needs)
+    (λ c. search needs)
+    (λ c. search needs)
     put-text-requires
-    same-length
+    (λ c. search needs)
     returns
-    slice-aggregate-put-text-4
-    slice-aggregate-put-text-5
+    (λ c. search needs)
+    (λ c. search needs)
     put-text-requires-2
-    same-length-2
+    (λ c. search needs)
     returns-2)

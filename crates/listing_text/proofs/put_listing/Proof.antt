@@ -30,23 +30,11 @@ reading c = record {
 room : (c : tie.After-recovery-line) → 0 + length (listing (decode (now (c .before .before .before .before .before .before .before .before .args .table)))) < 4294967296
 room c = omega (arith, listing-few _ (c .before .before .before .before .before .before .before .before .pre .0))
 
-process-count-requires : tie.Need-process-count-requires
-process-count-requires c κs = search needs
-
 u16-at-requires : tie.Need-u16-at-requires
 u16-at-requires c κs = omega (arith, sheet-long _ _ _ (c .before .before .before .before .before .pre .1))
 
-cast-kept : tie.Need-cast-kept
-cast-kept c = search needs
-
 u16-at-requires-2 : tie.Need-u16-at-requires-2
 u16-at-requires-2 c κs = omega (arith, sheet-long _ _ _ (c .before .before .before .before .before .before .pre .1))
-
-cast-logged : tie.Need-cast-logged
-cast-logged c = search needs
-
-recovery-line-requires : tie.Need-recovery-line-requires
-recovery-line-requires c κs = search needs
 
 array-share-prefix-line : tie.Need-array-share-prefix-line
 array-share-prefix-line c = line-room (reading (c .before))
@@ -66,18 +54,12 @@ put-checkpoints-requires c κs = (omega (arith, sheet-needs (reading (c .before 
 put-messages-requires : tie.Need-put-messages-requires
 put-messages-requires c κs = (sheet-needs (reading (c .before .before .before .before .before .before .before .before .before .before .before .before .before .before)), first-room (parts (messageRows _ _ _) _) _ _ (rest-room (parts _ _) (c .before .before .before .put-checkpoints .ensures) _ (rest-room (parts _ _) (c .before .before .before .before .before .before .before .put-holds .ensures) _ (rest-room (listing-parts (reading (c .before .before .before .before .before .before .before .before .before .before .before .before .before .before)) _ refl) (c .before .before .before .before .before .before .before .before .before .before .before .put-line .ensures) _ (room (c .before .before .before .before .before .before .before .before .before .before .before .before .before .before))))))
 
-slice-aggregate-put-row : tie.Need-slice-aggregate-put-row
-slice-aggregate-put-row c = search needs
-
 share-of-requires : tie.Need-share-of-requires
 share-of-requires c κs = (c .before .before .before .before .before .before .before .before .before .before .before .before .before .before .before .before .before .before .before .before .before .before .before .before .before .before .before .pre .0, kept-is (reading (c .before .before .before .before .before .before .before .before .before .before .before .before .before .before .before .before .before .before .before)))
 
 put-row-requires : tie.Need-put-row-requires
 unfolding shareRow
 put-row-requires c κs = rest-room (parts _ _) (c .before .before .before .before .before .put-messages .ensures) _ (rest-room (parts _ _) (c .before .before .before .before .before .before .before .before .before .put-checkpoints .ensures) _ (rest-room (parts _ _) (c .before .before .before .before .before .before .before .before .before .before .before .before .before .put-holds .ensures) _ (rest-room (listing-parts (reading (c .before .before .before .before .before .before .before .before .before .before .before .before .before .before .before .before .before .before .before .before)) _ (c .share-of .ensures)) (c .before .before .before .before .before .before .before .before .before .before .before .before .before .before .before .before .before .put-line .ensures) _ (room (c .before .before .before .before .before .before .before .before .before .before .before .before .before .before .before .before .before .before .before .before)))))
-
-same-length : tie.Need-same-length
-same-length c = search needs
 
 returns : tie.Need-returns
 unfolding shareRow
@@ -87,20 +69,20 @@ pub put-listing-spec : {M : Type 1} → statement M
 put-listing-spec =
     tie.close
     (tie.spec
-    process-count-requires
+    (λ c κs. search needs)
     u16-at-requires
-    cast-kept
+    (λ c. search needs)
     u16-at-requires-2
-    cast-logged
-    recovery-line-requires
+    (λ c. search needs)
+    (λ c κs. search needs)
     array-share-prefix-line
     slice-aggregate-put-line
     put-line-requires
     put-holds-requires
     put-checkpoints-requires
     put-messages-requires
-    slice-aggregate-put-row
+    (λ c. search needs)
     share-of-requires
     put-row-requires
-    same-length
+    (λ c. search needs)
     returns)

@@ -10,15 +10,9 @@ use borrow.Author.Needs.{needs}
 use Rattle.listing_text.proofs.put_text.Statement.{statement}
 use Rattle.listing_text.proofs.put_text.Tie as tie
 
-slice-aggregate-put-row : tie.Need-slice-aggregate-put-row
-slice-aggregate-put-row c = search needs
-
 put-row-requires : tie.Need-put-row-requires
 unfolding refusedRow
 put-row-requires c κs = omega (arith, refused-few (c .before .before .before .before .before .before .before .args .refusal) (omega arith))
-
-same-length : tie.Need-same-length
-same-length c = search needs
 
 returns : tie.Need-returns
 unfolding refusedRow
@@ -27,9 +21,6 @@ returns c = laid-same (refused-text _ _ (c .before .before .before .before .befo
 put-listing-requires : tie.Need-put-listing-requires
 put-listing-requires c κs = (sym (c .before .before .before .before .before .before .pre .0) ∙ c .before .if1 .left, c .before .before .before .before .before .before .pre .1 (sym (c .before .before .before .before .before .before .pre .0) ∙ c .before .if1 .left))
 
-same-length-2 : tie.Need-same-length-2
-same-length-2 c = search needs
-
 returns-2 : tie.Need-returns-2
 returns-2 c = laid-same (accepted-text _ (sym (c .before .before .before .before .before .before .before .before .before .pre .0) ∙ c .before .before .before .before .if1 .left)) (c .before .before .put-listing .ensures)
 
@@ -37,10 +28,10 @@ pub put-text-spec : {M : Type 1} → statement M
 put-text-spec =
     tie.close
     (tie.spec
-    slice-aggregate-put-row
+    (λ c. search needs)
     put-row-requires
-    same-length
+    (λ c. search needs)
     returns
     put-listing-requires
-    same-length-2
+    (λ c. search needs)
     returns-2)

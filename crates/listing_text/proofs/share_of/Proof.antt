@@ -13,9 +13,6 @@ use Rattle.listing_text.proofs.share_of.Tie as tie
 mul-result : tie.Need-mul-result
 mul-result c = omega (arith, c .before .pre .1, kept-few _ (c .before .pre .0) .0)
 
-count-sum-requires : tie.Need-count-sum-requires
-count-sum-requires c κs = search needs
-
 div-result : tie.Need-div-result
 div-result c = omega (arith, sum-positive _ (c .before .before .pre .0), c .count-sum .ensures)
 
@@ -27,4 +24,4 @@ unfolding share
 returns c = ap₂ (λ (k s : ℕ). 100 * k / s) (c .before .before .pre .1) (c .count-sum .ensures)
 
 pub share-of-spec : {M : Type 1} → statement M
-share-of-spec = tie.close (tie.spec mul-result count-sum-requires div-result cast-result returns)
+share-of-spec = tie.close (tie.spec mul-result (λ c κs. search needs) div-result cast-result returns)

@@ -16,16 +16,10 @@ use Rattle.process_set.proofs.bit.Tie as tie
 power-at : (table : List ℕ) → anyBelow 32 (λ p. not (eqb (getD table p 0) (2 ^ p))) ≡ false → (p : ℕ) → p < 32 → getD table p 0 ≡ 2 ^ p
 power-at table test p h = eqb-true (getD table p 0) (2 ^ p) (passes-below 32 (λ k. eqb (getD table k 0) (2 ^ k)) test p h)
 
-mul-result : tie.Need-mul-result
-mul-result c = search needs
-
-array-read-result : tie.Need-array-read-result
-array-read-result c = search needs
-
 -- the search finds the table in the goal, and computes its test
 returns : tie.Need-returns
 unfolding anyBelow
 returns c = search (needs, power-at)
 
 pub bit-spec : {M : Type 1} → statement M
-bit-spec = tie.close (tie.spec mul-result array-read-result returns)
+bit-spec = tie.close (tie.spec (λ c. search needs) (λ c. search needs) returns)

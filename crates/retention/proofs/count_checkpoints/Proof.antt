@@ -7,12 +7,6 @@ use Rattle.retention.proofs.SheetLaws.{checkpoints-needs, checkpoints-f
 use Rattle.retention.proofs.count_checkpoints.Statement.{statement}
 use Rattle.retention.proofs.count_checkpoints.Tie as tie
 
-process-count-requires : tie.Need-process-count-requires
-process-count-requires c κs = search needs
-
-counts-requires : tie.Need-counts-requires
-counts-requires c κs = search needs
-
 count-kept-requires : tie.Need-count-kept-requires
 count-kept-requires c κs = checkpoints-needs _ (c .before .before .before .before .pre .0) _ (c .before .before .before .before .pre .1) _ _ (c .before .process-count .ensures) (c .counts .ensures)
 
@@ -21,4 +15,4 @@ returns c = c .count-kept .ensures ∙ ap length (checkpoints-found _ (c .before
 
 pub count-checkpoints-spec : {M : Type 1} → statement M
 count-checkpoints-spec =
-    tie.close (tie.spec process-count-requires counts-requires count-kept-requires returns)
+    tie.close (tie.spec (λ c κs. search needs) (λ c κs. search needs) count-kept-requires returns)

@@ -7,18 +7,6 @@ use Rattle.retention.proofs.SheetLaws.{messages-needs, positions-found}
 use Rattle.retention.proofs.count_messages.Statement.{statement}
 use Rattle.retention.proofs.count_messages.Tie as tie
 
-process-count-requires : tie.Need-process-count-requires
-process-count-requires c κs = search needs
-
-message-count-requires : tie.Need-message-count-requires
-message-count-requires c κs = search needs
-
-sends-requires : tie.Need-sends-requires
-sends-requires c κs = search needs
-
-receipts-requires : tie.Need-receipts-requires
-receipts-requires c κs = search needs
-
 count-kept-requires : tie.Need-count-kept-requires
 count-kept-requires c κs = messages-needs _ (c .before .before .before .before .before .before .pre .0) _ (c .before .before .before .before .before .before .pre .1) _ _ _ _ (c .before .before .before .process-count .ensures) (c .before .before .message-count .ensures) (c .before .sends .ensures) (c .receipts .ensures)
 
@@ -31,9 +19,9 @@ pub count-messages-spec : {M : Type 1} → statement M
 count-messages-spec =
     tie.close
     (tie.spec
-    process-count-requires
-    message-count-requires
-    sends-requires
-    receipts-requires
+    (λ c κs. search needs)
+    (λ c κs. search needs)
+    (λ c κs. search needs)
+    (λ c κs. search needs)
     count-kept-requires
     returns)

@@ -35,12 +35,6 @@ t c = decode (now (c .before .before .before .before .before .before .before .be
 found : (c : Here) → stays (recoveryLine (t c)) (messageOf (t c) (c .before .before .before .before .loop .k)) ≡ true
 found c = found-staying _ (c .before .before .before .before .before .before .before .before .pre .0) _ (c .before .before .before .before .before .before .before .before .pre .1) _ _ (omega arith) _ _ (c .before .before .u16-at .ensures) (c .before .u16-at2 .ensures) (c .before .before .before .before .before .sends .ensures) (c .if1 .left)
 
-message-count-requires : tie.Need-message-count-requires Inv-loop μ-loop
-message-count-requires c κs = search needs
-
-sends-requires : tie.Need-sends-requires Inv-loop μ-loop
-sends-requires c κs = search needs
-
 loop-holds : tie.Need-loop-holds Inv-loop μ-loop
 loop-holds c = counted-none _
 
@@ -49,9 +43,6 @@ mul-u16-at c = omega (arith, within c)
 
 u16-at-requires : tie.Need-u16-at-requires Inv-loop μ-loop
 u16-at-requires c κs = omega (arith, within c)
-
-cast-sender : tie.Need-cast-sender Inv-loop μ-loop
-cast-sender c = omega arith
 
 mul-u16-at-2 : tie.Need-mul-u16-at-2 Inv-loop μ-loop
 mul-u16-at-2 c = omega (arith, within (c .before))
@@ -62,26 +53,14 @@ add-u16-at c = omega (arith, within (c .before))
 u16-at-requires-2 : tie.Need-u16-at-requires-2 Inv-loop μ-loop
 u16-at-requires-2 c κs = omega (arith, within (c .before))
 
-add-k : tie.Need-add-k Inv-loop μ-loop
-add-k c = omega arith
-
-mul-if1 : tie.Need-mul-if1 Inv-loop μ-loop
-mul-if1 c = omega arith
-
 array-read-if1 : tie.Need-array-read-if1 Inv-loop μ-loop
 array-read-if1 c = sender-small _ (c .before .before .before .before .before .before .before .pre .0) _ _ (omega arith) (c .before .before .before .before .sends .ensures) _ (c .before .u16-at .ensures)
-
-loop-less : tie.Need-loop-less Inv-loop μ-loop
-loop-less c = omega arith
 
 loop-again : tie.Need-loop-again Inv-loop μ-loop
 loop-again c = counted-skips _ _ _ (c .before .before .before .before .loop .inv) (omega arith) (found-going _ (c .before .before .before .before .before .before .before .before .pre .0) _ (c .before .before .before .before .before .before .before .before .pre .1) _ _ (omega arith) _ _ (c .before .before .u16-at .ensures) (c .before .u16-at2 .ensures) (c .before .before .before .before .before .sends .ensures) (c .if1 .taken))
 
 add-remaining : tie.Need-add-remaining Inv-loop μ-loop
 add-remaining c = omega (arith, messages-few _ (c .before .before .before .before .before .before .before .before .pre .0), counted-fits _ _ _ (c .before .before .before .before .loop .inv) (omega arith) (found c))
-
-loop-less-2 : tie.Need-loop-less-2 Inv-loop μ-loop
-loop-less-2 c = omega arith
 
 loop-again-2 : tie.Need-loop-again-2 Inv-loop μ-loop
 loop-again-2 c = counted-adds _ _ _ (c .before .before .before .before .loop .inv) (omega arith) (found c)
@@ -95,21 +74,21 @@ count-remaining-spec =
     (tie.spec
     Inv-loop
     μ-loop
-    message-count-requires
-    sends-requires
+    (λ c κs. search needs)
+    (λ c κs. search needs)
     loop-holds
     mul-u16-at
     u16-at-requires
-    cast-sender
+    (λ c. omega arith)
     mul-u16-at-2
     add-u16-at
     u16-at-requires-2
-    add-k
-    mul-if1
+    (λ c. omega arith)
+    (λ c. omega arith)
     array-read-if1
-    loop-less
+    (λ c. omega arith)
     loop-again
     add-remaining
-    loop-less-2
+    (λ c. omega arith)
     loop-again-2
     returns)

@@ -40,15 +40,6 @@ behind c = receipt-within _ (c .before .before .before .before .before .before .
 room : (c : Here) → c .before .before .before .before .loop .place + 4 * c .before .before .before .before .before .before .before .before .before .before .args .m + 4 ≤ length (c .before .before .before .before .loop .buffer)
 room c = gathered-room _ _ _ _ _ _ _ (c .before .before .before .before .loop .inv) (omega arith) (found c)
 
-message-count-requires : tie.Need-message-count-requires Inv-loop μ-loop
-message-count-requires c κs = search needs
-
-sends-requires : tie.Need-sends-requires Inv-loop μ-loop
-sends-requires c κs = search needs
-
-receipts-requires : tie.Need-receipts-requires Inv-loop μ-loop
-receipts-requires c κs = search needs
-
 loop-holds : tie.Need-loop-holds Inv-loop μ-loop
 loop-holds c = gathered-none _ _ _ _ (c .before .before .before .before .before .pre .1 .1 .1) (c .before .before .before .before .before .pre .1 .1 .0)
 
@@ -67,20 +58,8 @@ add-u16-at c = omega (arith, within (c .before))
 u16-at-requires-2 : tie.Need-u16-at-requires-2 Inv-loop μ-loop
 u16-at-requires-2 c κs = omega (arith, within (c .before))
 
-add-k : tie.Need-add-k Inv-loop μ-loop
-add-k c = omega arith
-
-cast-if1 : tie.Need-cast-if1 Inv-loop μ-loop
-cast-if1 c = omega arith
-
-mul-if1 : tie.Need-mul-if1 Inv-loop μ-loop
-mul-if1 c = omega arith
-
 array-read-if1 : tie.Need-array-read-if1 Inv-loop μ-loop
 array-read-if1 c = sender-small _ (c .before .before .before .before .before .before .before .before .before .pre .0) _ _ (omega arith) (c .before .before .before .before .before .sends .ensures) _ (c .before .u16-at .ensures)
-
-loop-less : tie.Need-loop-less Inv-loop μ-loop
-loop-less c = omega arith
 
 loop-again : tie.Need-loop-again Inv-loop μ-loop
 loop-again c = gathered-skips _ _ _ _ _ _ _ (c .before .before .before .before .loop .inv) (omega arith) (found-going _ (c .before .before .before .before .before .before .before .before .before .before .pre .0) _ (c .before .before .before .before .before .before .before .before .before .before .pre .1 .0) _ _ (omega arith) _ _ (c .before .before .u16-at .ensures) (c .before .u16-at2 .ensures) (c .before .before .before .before .before .before .sends .ensures) (c .if1 .taken))
@@ -100,35 +79,23 @@ add-u16-at-2 c = omega (arith, behind (c .before))
 u16-at-requires-4 : tie.Need-u16-at-requires-4 Inv-loop μ-loop
 u16-at-requires-4 c κs = omega (arith, behind (c .before))
 
-put-pair-requires : tie.Need-put-pair-requires Inv-loop μ-loop
-put-pair-requires c κs = omega (arith, room (c .before .before .before))
+put-entry-requires : tie.Need-put-entry-requires Inv-loop μ-loop
+put-entry-requires c κs = omega (arith, room (c .before .before .before))
 
-mul-put-pair : tie.Need-mul-put-pair Inv-loop μ-loop
-mul-put-pair c = omega (arith, room (c .before .before .before .before .before .before .before))
+mul-put-entry : tie.Need-mul-put-entry Inv-loop μ-loop
+mul-put-entry c = omega (arith, room (c .before .before .before .before .before .before .before))
 
-add-put-pair : tie.Need-add-put-pair Inv-loop μ-loop
-add-put-pair c = omega (arith, room (c .before .before .before .before .before .before .before))
-
-cast-receipt-left : tie.Need-cast-receipt-left Inv-loop μ-loop
-cast-receipt-left c = omega arith
-
-mul-receipt-left : tie.Need-mul-receipt-left Inv-loop μ-loop
-mul-receipt-left c = omega arith
+add-put-entry : tie.Need-add-put-entry Inv-loop μ-loop
+add-put-entry c = omega (arith, room (c .before .before .before .before .before .before .before))
 
 array-read-receipt-left : tie.Need-array-read-receipt-left Inv-loop μ-loop
 array-read-receipt-left c = receiver-small _ (c .before .before .before .before .before .before .before .before .before .before .before .before .before .before .before .before .before .pre .0) _ _ (omega arith) (c .before .before .before .before .before .before .before .before .before .before .before .before .receipts .ensures) _ (c .before .before .before .before .before .before .u16-at3 .ensures)
 
-receipt-left-requires : tie.Need-receipt-left-requires Inv-loop μ-loop
-receipt-left-requires c κs = tt
-
-put-pair-requires-2 : tie.Need-put-pair-requires-2 Inv-loop μ-loop
-put-pair-requires-2 c κs = omega (arith, room (c .before .before .before .before .before .before .before .before))
+put-entry-requires-2 : tie.Need-put-entry-requires-2 Inv-loop μ-loop
+put-entry-requires-2 c κs = omega (arith, room (c .before .before .before .before .before .before .before .before))
 
 add-place : tie.Need-add-place Inv-loop μ-loop
 add-place c = omega (arith, room (c .before .before .before .before .before .before .before .before .before .before .before))
-
-loop-less-2 : tie.Need-loop-less-2 Inv-loop μ-loop
-loop-less-2 c = omega arith
 
 loop-again-2 : tie.Need-loop-again-2 Inv-loop μ-loop
 loop-again-2 c =
@@ -141,7 +108,7 @@ loop-again-2 c =
     (sent-left _ (start .pre .0) _ _ (omega arith) sends _ (here .before .u16-at2 .ensures))
     (receiver-left _ (start .pre .0) _ _ (omega arith) receipts _ (c .before .before .before .before .before .before .before .before .before .before .u16-at3 .ensures))
     (received-left _ (start .pre .0) _ (start .pre .1 .0) _ _ (omega arith) _ _ (c .before .before .before .before .before .before .before .before .before .before .u16-at3 .ensures) (c .before .before .before .before .before .before .before .before .before .u16-at4 .ensures) receipts _ (c .before .before .before .receipt-left .ensures))
-    (c .before .before .before .before .before .before .before .put-pair .ensures) (c .before .before .put-pair2 .ensures)
+    (c .before .before .before .before .before .before .before .put-entry .ensures) (c .before .before .put-entry2 .ensures)
 
 same-length : tie.Need-same-length Inv-loop μ-loop
 same-length c = c .before .loop .inv .same-length
@@ -155,36 +122,36 @@ put-messages-spec =
     (tie.spec
     Inv-loop
     μ-loop
-    message-count-requires
-    sends-requires
-    receipts-requires
+    (λ c κs. search needs)
+    (λ c κs. search needs)
+    (λ c κs. search needs)
     loop-holds
     mul-u16-at
     u16-at-requires
     mul-u16-at-2
     add-u16-at
     u16-at-requires-2
-    add-k
-    cast-if1
-    mul-if1
+    (λ c. omega arith)
+    (λ c. omega arith)
+    (λ c. omega arith)
     array-read-if1
-    loop-less
+    (λ c. omega arith)
     loop-again
     mul-u16-at-3
     u16-at-requires-3
     mul-u16-at-4
     add-u16-at-2
     u16-at-requires-4
-    put-pair-requires
-    mul-put-pair
-    add-put-pair
-    cast-receipt-left
-    mul-receipt-left
+    put-entry-requires
+    mul-put-entry
+    add-put-entry
+    (λ c. omega arith)
+    (λ c. omega arith)
     array-read-receipt-left
-    receipt-left-requires
-    put-pair-requires-2
+    (λ c κs. tt)
+    put-entry-requires-2
     add-place
-    loop-less-2
+    (λ c. omega arith)
     loop-again-2
     same-length
     returns)

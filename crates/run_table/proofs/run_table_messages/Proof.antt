@@ -7,12 +7,9 @@ use Rattle.run_table.specs.Format.{messagesIn}
 use Rattle.run_table.proofs.run_table_messages.Statement.{statement}
 use Rattle.run_table.proofs.run_table_messages.Tie as tie
 
-u16-or-zero-requires : tie.Need-u16-or-zero-requires
-u16-or-zero-requires c κs = search needs
-
 returns : tie.Need-returns
 unfolding messagesIn
 returns c = c .u16-or-zero .ensures ∙ sym (decode-messages _)
 
 pub run-table-messages-spec : {M : Type 1} → statement M
-run-table-messages-spec = tie.close (tie.spec u16-or-zero-requires returns)
+run-table-messages-spec = tie.close (tie.spec (λ c κs. search needs) returns)

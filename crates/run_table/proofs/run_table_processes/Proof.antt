@@ -7,12 +7,9 @@ use Rattle.run_table.specs.Format.{processesIn}
 use Rattle.run_table.proofs.run_table_processes.Statement.{statement}
 use Rattle.run_table.proofs.run_table_processes.Tie as tie
 
-u16-or-zero-requires : tie.Need-u16-or-zero-requires
-u16-or-zero-requires c κs = search needs
-
 returns : tie.Need-returns
 unfolding processesIn
 returns c = c .u16-or-zero .ensures ∙ sym (decode-processes _)
 
 pub run-table-processes-spec : {M : Type 1} → statement M
-run-table-processes-spec = tie.close (tie.spec u16-or-zero-requires returns)
+run-table-processes-spec = tie.close (tie.spec (λ c κs. search needs) returns)

@@ -9,7 +9,7 @@ use std::time::Instant;
 use differential::compare::{Call, Comparison, Difference};
 use differential::make;
 use reference::gen::{self, Order, Rng};
-use reference::{Message, Outcome, Table};
+use reference::{Message, Outcome, Table, TABLE_CHECKS};
 
 const CALLS: u64 = 250_000;
 const SEED: u64 = 20_260_101;
@@ -104,11 +104,12 @@ fn truncations(comparison: &mut Comparison, seed: u64) -> Result<(), Box<Differe
     Ok(())
 }
 
-/// Every damage from 1 to 9 and every pair of damages from 2 to 9.
+/// Every damage and every pair of damages. A table that is cut for 1 has
+/// nothing else to damage.
 fn damages(comparison: &mut Comparison, seed: u64) -> Result<(), Box<Difference>> {
     let rng = &mut Rng::new(seed);
-    for first in 1..=9 {
-        for second in first..=9 {
+    for (place, &first) in TABLE_CHECKS.iter().enumerate() {
+        for &second in &TABLE_CHECKS[place..] {
             if first == 1 && second != 1 {
                 continue;
             }
@@ -154,7 +155,7 @@ fn orders(comparison: &mut Comparison, seed: u64) -> Result<(), Box<Difference>>
     let mut tables: Vec<Vec<u8>> = [&small, &full_count, &full_counts, &full_of_messages]
         .map(Table::to_bytes)
         .to_vec();
-    for refusal in 1..=9 {
+    for refusal in TABLE_CHECKS {
         tables.extend(gen::damage(rng, &full_count.to_bytes(), refusal));
     }
     // Good for process 0, then a position of M and above, equal ones, falling
@@ -308,13 +309,13 @@ fn main() -> ExitCode {
         return ExitCode::FAILURE;
     }
     print!("calls by the number returned:\n{}", comparison.report());
-    let missing = comparison.not_met();
-    if !missing.is_empty() {
-        println!("FAILED: no call met {}", missing.join(", "));
+    let strays = comparison.strays();
+    if !strays.is_empty() {
+        println!("FAILED: {}", strays.join(", "));
         return ExitCode::FAILURE;
     }
     println!(
-        "{} calls and {} lookups agree; every call met each of its refusals",
+        "{} calls and {} lookups agree; every call met each of its refusals and no other",
         comparison.total(),
         comparison.lookups
     );

@@ -16,7 +16,7 @@ use std::env;
 use std::process::ExitCode;
 use std::time::Instant;
 
-use differential::compare::Call;
+use differential::compare::{number, Call};
 use differential::scope::{least_renaming, next_order, renamed_message, Scope};
 use differential::show;
 use reference::lines::{
@@ -157,10 +157,7 @@ fn steps(scope: Scope) -> Result<String, Failure> {
             _ => keeper::fall_back(table, &mut answer),
         };
         calls += 1;
-        let (number, length) = match got {
-            Ok(length) => (0, length),
-            Err(refusal) => (refusal.number(), 0),
-        };
+        let (number, length) = (number(got), got.unwrap_or(0));
         let same = number == expected.number
             && answer[..length] == expected.answer
             && answer[length..].iter().all(|&byte| byte == FILL);

@@ -57,25 +57,32 @@ impl Bench {
         self.put(6, m / 2);
         for k in 0..m {
             let place = if backward { m - 1 - k } else { k };
-            self.message(place, &[k % 2, k / 2, 1 - k % 2, (k + 1) / 2]);
+            self.message(place, &[k % 2, k / 2, 1 - k % 2, k.div_ceil(2)]);
         }
     }
 
     /// The numbers of an answer, or a checksum of more than 128 bytes.
     fn numbers(&mut self, bytes: &[u8]) {
         if bytes.len() > 128 {
-            let sum = bytes.iter().fold(0u64, |sum, &byte| (31 * sum + u64::from(byte)) % 1_000_003);
+            let sum = bytes
+                .iter()
+                .fold(0u64, |sum, &byte| (31 * sum + u64::from(byte)) % 1_000_003);
             self.out.push_str(&format!(" sum {sum}"));
             return;
         }
         for pair in bytes.chunks(2) {
             let high = pair.get(1).map_or(0, |&b| u16::from(b));
-            self.out.push_str(&format!(" {}", u16::from(pair[0]) + 256 * high));
+            self.out
+                .push_str(&format!(" {}", u16::from(pair[0]) + 256 * high));
         }
     }
 
     fn outcome(&mut self, outcome: keeper::Outcome) {
-        let written = if outcome.number == 0 { outcome.answer.len() } else { 777 };
+        let written = if outcome.number == 0 {
+            outcome.answer.len()
+        } else {
+            777
+        };
         self.out.push_str(&format!(" {} {written}", outcome.number));
         self.numbers(&outcome.answer);
         if let Some(lines) = &outcome.lines {
@@ -113,7 +120,11 @@ impl Bench {
             self.out.push('\n');
             return;
         }
-        if !["check", "whole", "lookup", "recovery", "hold", "send", "save", "fall", "sheet"].contains(&word) {
+        if ![
+            "check", "whole", "lookup", "recovery", "hold", "send", "save", "fall", "sheet",
+        ]
+        .contains(&word)
+        {
             return;
         }
         self.out.push_str(&format!("{line} ->"));
@@ -123,7 +134,9 @@ impl Bench {
                 let number = keeper::check_table(&self.table[..a[0].min(SPACE)]);
                 self.out.push_str(&format!(" {number}"));
             }
-            "whole" => self.out.push_str(&format!(" {}", keeper::check_table(&whole))),
+            "whole" => self
+                .out
+                .push_str(&format!(" {}", keeper::check_table(&whole))),
             "lookup" => {
                 let table = self.table[..a[0].min(SPACE)].to_vec();
                 let found = [
@@ -155,8 +168,16 @@ impl Bench {
 
 fn main() {
     let mut script = String::new();
-    std::io::stdin().read_to_string(&mut script).expect("a script on standard input");
-    let mut bench = Bench { table: vec![0; SPACE], answer: Vec::new(), out: String::new() };
+    std::io::stdin()
+        .read_to_string(&mut script)
+        .expect("a script on standard input");
+    let mut bench = Bench {
+        table: vec![0; SPACE],
+        answer: Vec::new(),
+        out: String::new(),
+    };
     script.lines().for_each(|line| bench.line(line));
-    std::io::stdout().write_all(bench.out.as_bytes()).expect("standard output");
+    std::io::stdout()
+        .write_all(bench.out.as_bytes())
+        .expect("standard output");
 }

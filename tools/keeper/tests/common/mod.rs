@@ -172,11 +172,11 @@ impl Random {
                 let to = (process + 1 + self.below(n - 1)) % n;
                 keeper::send(&table, process as u16, to as u16, &mut answer)
             } else {
-                let m = keeper_command::sys::messages(&table);
+                let m = keeper::run_table::messages(&table);
                 let mut list = Vec::new();
                 for k in 0..usize::from(m) {
-                    let waits = keeper_command::sys::received(&table, k) == 0;
-                    let here = usize::from(keeper_command::sys::receiver(&table, k)) == process;
+                    let waits = keeper::run_table::received(&table, k) == 0;
+                    let here = usize::from(keeper::run_table::receiver(&table, k)) == process;
                     if waits && here && self.below(4) > 0 {
                         list.push(k as u16);
                     }

@@ -2,41 +2,33 @@
 -- Assumes nothing.
 use native.Mathlib.Omega.{arith}
 use Prim.Native.Nat.{_-_}
-use Rattle.kept.proofs.ScratchLaws.{Counted, counted-first, counted-small, counted-more, counted-all}
-use Rattle.kept.specs.Scratch.{shows, statesOf}
+use Rattle.kept.proofs.KeptLaws.{Standing, Tallied, stands, tallied-first, tallied-small, tallied-next, tallied-all}
+use Rattle.kept.specs.Kept.{shows, statesOf}
+use Rattle.kept.specs.Scratch.{entryAt}
 use Rattle.kept.proofs.checkpoints.count_states.Statement.{statement}
 use Rattle.kept.proofs.checkpoints.count_states.Tie as tie
 
 abbrev Inv-loop : tie.InvT-loop
-Inv-loop scratch n i count kept₀ state₀ kept state = Counted (shows scratch n i) count kept state
+Inv-loop scratch n i count kept₀ state₀ kept state =
+    Standing (shows n (entryAt scratch n) i) count state × Tallied (shows n (entryAt scratch n) i) count kept state
 
 abbrev μ-loop : tie.MeasureT-loop
 μ-loop scratch n i count kept₀ state₀ kept state = count - state
 
-next-kept-requires : tie.Need-next-kept-requires Inv-loop μ-loop
-next-kept-requires c κs = omega arith
-
 loop-holds : tie.Need-loop-holds Inv-loop μ-loop
-loop-holds c = counted-first _ _ _ (c .next-kept .ensures)
+loop-holds c = (stands _ _ _ _ (c .next-kept .ensures), tallied-first (c .next-kept .ensures))
 
 add-kept : tie.Need-add-kept Inv-loop μ-loop
-add-kept c = omega (arith, counted-small _ _ _ _ (c .before .loop .inv))
-
-add-next-kept : tie.Need-add-next-kept Inv-loop μ-loop
-add-next-kept c = omega arith
-
-next-kept-requires-2 : tie.Need-next-kept-requires-2 Inv-loop μ-loop
-next-kept-requires-2 c κs = omega arith
-
-loop-less : tie.Need-loop-less Inv-loop μ-loop
-loop-less c = omega arith
+add-kept c = omega (arith, tallied-small (c .before .loop .inv .1))
 
 loop-again : tie.Need-loop-again Inv-loop μ-loop
-loop-again c = counted-more _ _ _ _ (c .before .before .loop .inv) (c .before .loop-test .taken) _ (c .next-kept2 .ensures)
+loop-again c =
+    let counted = c .before .before .loop .inv in
+    (stands _ _ _ _ (c .next-kept2 .ensures), tallied-next (counted .1) (counted .0) (omega arith) (c .next-kept2 .ensures))
 
 returns : tie.Need-returns Inv-loop μ-loop
 unfolding statesOf
-returns c = counted-all _ _ _ _ (c .before .loop .inv) (c .loop-test .left)
+returns c = tallied-all (c .before .loop .inv .1) (c .loop-test .left)
 
 pub count-states-spec : {M : Type 1} → statement M
 count-states-spec =
@@ -44,11 +36,11 @@ count-states-spec =
     (tie.spec
     Inv-loop
     μ-loop
-    next-kept-requires
+    (λ c κs. omega arith)
     loop-holds
     add-kept
-    add-next-kept
-    next-kept-requires-2
-    loop-less
+    (λ c. omega arith)
+    (λ c κs. omega arith)
+    (λ c. omega arith)
     loop-again
     returns)

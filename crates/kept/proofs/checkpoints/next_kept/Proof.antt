@@ -2,47 +2,31 @@
 -- Assumes nothing.
 use native.Mathlib.Omega.{arith}
 use Prim.Native.Nat.{_-_}
-use Rattle.kept.proofs.ScratchLaws.{Searching, search-begins, search-passes, search-finds, search-ends}
-use Rattle.kept.specs.Scratch.{entryAt, shows}
+use Rattle.kept.proofs.KeptLaws.{Searching, search-begins, search-passes, search-finds, search-ends}
+use Rattle.kept.specs.Scratch.{entryAt}
 use Rattle.kept.proofs.checkpoints.next_kept.Statement.{statement}
 use Rattle.kept.proofs.checkpoints.next_kept.Tie as tie
 
 abbrev Inv-loop : tie.InvT-loop
-Inv-loop scratch n i from count least₀ k₀ least k = Searching (λ j. entryAt scratch n j i) n from count least k
+Inv-loop scratch n i from count least₀ k₀ least k = Searching n (entryAt scratch n) i from count least k
 
 abbrev μ-loop : tie.MeasureT-loop
 μ-loop scratch n i from count least₀ k₀ least k = n - k
 
 loop-holds : tie.Need-loop-holds Inv-loop μ-loop
-loop-holds c = search-begins _ _ _ _ (c .before .pre .1 .1)
-
-entry-requires : tie.Need-entry-requires Inv-loop μ-loop
-entry-requires c κs = omega arith
-
-add-k : tie.Need-add-k Inv-loop μ-loop
-add-k c = omega arith
-
-loop-less : tie.Need-loop-less Inv-loop μ-loop
-loop-less c = omega arith
+loop-holds c = search-begins (c .before .pre .1 .1)
 
 loop-again : tie.Need-loop-again Inv-loop μ-loop
-loop-again c = search-passes _ _ _ _ _ _ (c .before .before .before .loop .inv) (c .before .before .loop-test .taken) _ (c .before .entry .ensures) (λ b. omega arith)
-
-loop-less-2 : tie.Need-loop-less-2 Inv-loop μ-loop
-loop-less-2 c = omega arith
+loop-again c = search-passes (c .before .before .before .loop .inv) (omega arith) (λ b. omega arith)
 
 loop-again-2 : tie.Need-loop-again-2 Inv-loop μ-loop
-loop-again-2 c = search-passes _ _ _ _ _ _ (c .before .before .before .before .loop .inv) (c .before .before .before .loop-test .taken) _ (c .before .before .entry .ensures) (λ _. c .if2 .taken)
-
-loop-less-3 : tie.Need-loop-less-3 Inv-loop μ-loop
-loop-less-3 c = omega arith
+loop-again-2 c = search-passes (c .before .before .before .before .loop .inv) (omega arith) (λ b. omega arith)
 
 loop-again-3 : tie.Need-loop-again-3 Inv-loop μ-loop
-loop-again-3 c = search-finds _ _ _ _ _ _ (c .before .before .before .before .loop .inv) (c .before .before .before .loop-test .taken) _ (c .before .before .entry .ensures) (c .before .if1 .left) (c .if2 .left)
+loop-again-3 c = search-finds (c .before .before .before .before .loop .inv) (omega arith) _ (c .before .before .entry .ensures) (omega arith) (omega arith)
 
 returns : tie.Need-returns Inv-loop μ-loop
-unfolding shows
-returns c = search-ends _ _ _ _ _ _ (c .before .loop .inv) (c .loop-test .left)
+returns c = search-ends (c .before .loop .inv) (c .loop-test .left)
 
 pub next-kept-spec : {M : Type 1} → statement M
 next-kept-spec =
@@ -51,12 +35,12 @@ next-kept-spec =
     Inv-loop
     μ-loop
     loop-holds
-    entry-requires
-    add-k
-    loop-less
+    (λ c κs. omega arith)
+    (λ c. omega arith)
+    (λ c. omega arith)
     loop-again
-    loop-less-2
+    (λ c. omega arith)
     loop-again-2
-    loop-less-3
+    (λ c. omega arith)
     loop-again-3
     returns)

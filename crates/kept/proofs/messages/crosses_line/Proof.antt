@@ -1,50 +1,33 @@
 -- `messages::crosses_line` meets its contract: the loop leaves at the first line that the message crosses.
 -- Assumes nothing.
 use native.Mathlib.Omega.{arith}
-use mathlib.Core.Path.{refl}
 use Prim.Native.Nat.{_-_}
-use Rattle.kept.proofs.ScratchLaws.{Uncrossed, uncrossed-none, sent-after, received-before, crossed, uncrossed-all}
-use Rattle.kept.specs.Scratch.{crossesLine, entryAt}
+use Rattle.kept.proofs.KeptLaws.{Uncrossed, uncrossed-none, sent-after, received-before, crossed, uncrossed-all}
+use Rattle.kept.specs.Scratch.{entryAt}
 use Rattle.kept.proofs.messages.crosses_line.Statement.{statement}
 use Rattle.kept.proofs.messages.crosses_line.Tie as tie
 
 abbrev Inv-loop : tie.InvT-loop
-Inv-loop scratch n sender sent receiver received k₀ k = Uncrossed (λ j. entryAt scratch n j sender) (λ j. entryAt scratch n j receiver) sent received n k
+Inv-loop scratch n sender sent receiver received k₀ k =
+    Uncrossed n (entryAt scratch n) (record { sender = sender; sent = sent; receiver = receiver; received = received }) k
 
 abbrev μ-loop : tie.MeasureT-loop
 μ-loop scratch n sender sent receiver received k₀ k = n - k
 
 loop-holds : tie.Need-loop-holds Inv-loop μ-loop
-loop-holds c = uncrossed-none _ _ _ _ _
-
-add-k : tie.Need-add-k Inv-loop μ-loop
-add-k c = omega arith
-
-entry-requires : tie.Need-entry-requires Inv-loop μ-loop
-entry-requires c κs = omega arith
-
-loop-less : tie.Need-loop-less Inv-loop μ-loop
-loop-less c = omega arith
+loop-holds c = uncrossed-none
 
 loop-again : tie.Need-loop-again Inv-loop μ-loop
-loop-again c = received-before _ _ _ _ _ _ (c .before .before .before .loop .inv) (c .before .before .loop-test .taken) _ _ refl (c .before .entry .ensures) (c .if1 .taken)
-
-entry-requires-2 : tie.Need-entry-requires-2 Inv-loop μ-loop
-entry-requires-2 c κs = omega arith
-
-loop-less-2 : tie.Need-loop-less-2 Inv-loop μ-loop
-loop-less-2 c = omega arith
+loop-again c = received-before (c .before .before .before .loop .inv) (omega arith) (omega arith)
 
 loop-again-2 : tie.Need-loop-again-2 Inv-loop μ-loop
-loop-again-2 c = sent-after _ _ _ _ _ _ (c .before .before .before .before .before .loop .inv) (c .before .before .before .before .loop-test .taken) _ _ (c .before .entry2 .ensures) (c .before .before .before .entry .ensures) (c .if2 .taken)
+loop-again-2 c = sent-after (c .before .before .before .before .before .loop .inv) (omega arith) (omega arith)
 
 returns : tie.Need-returns Inv-loop μ-loop
-unfolding crossesLine
-returns c = crossed _ _ _ _ _ _ (c .before .before .before .before .before .loop .inv) (c .before .before .before .before .loop-test .taken) _ _ (c .before .entry2 .ensures) (c .before .before .before .entry .ensures) (c .if2 .left) (c .before .before .if1 .left)
+returns c = crossed (c .before .before .before .before .before .loop .inv) (omega arith) (omega arith) (omega arith)
 
 returns-2 : tie.Need-returns-2 Inv-loop μ-loop
-unfolding crossesLine
-returns-2 c = uncrossed-all _ _ _ _ _ _ (c .before .loop .inv) (c .loop-test .left)
+returns-2 c = uncrossed-all (c .before .loop .inv) (c .loop-test .left)
 
 pub crosses-line-spec : {M : Type 1} → statement M
 crosses-line-spec =
@@ -53,12 +36,12 @@ crosses-line-spec =
     Inv-loop
     μ-loop
     loop-holds
-    add-k
-    entry-requires
-    loop-less
+    (λ c. omega arith)
+    (λ c κs. omega arith)
+    (λ c. omega arith)
     loop-again
-    entry-requires-2
-    loop-less-2
+    (λ c κs. omega arith)
+    (λ c. omega arith)
     loop-again-2
     returns
     returns-2)

@@ -1,46 +1,36 @@
 -- `messages::lowest_line` meets its contract: the loop fills the array from the front.
 -- Assumes nothing.
 use native.Mathlib.Omega.{arith}
+use mathlib.Core.Path.{sym, _∙_}
 use Prim.Native.Nat.{_-_}
-use lib.ListN.{replicate}
-use Rattle.kept.proofs.ScratchLaws.{Copied, copied-none, copied-more, copied-all, lowest-first}
-use Rattle.kept.specs.Scratch.{lowestAt, lowestLine}
+use lib.ListN.{getD}
+use Rattle.kept.proofs.KeptLaws.{lowest-first}
+use Rattle.kept.specs.Kept.{lowestAt, lowestLine}
+use Rattle.kept.specs.Scratch.{entryAt}
+use Rattle.run_table.proofs.ArrayLaws.{Filled, filled-array, filled-more, filled-none}
+use Rattle.run_table.proofs.ListLaws.{getD-tabulate, length-tabulate}
+use Rattle.run_table.specs.Lists.{tabulate}
 use Rattle.kept.proofs.messages.lowest_line.Statement.{statement}
 use Rattle.kept.proofs.messages.lowest_line.Tie as tie
 
 abbrev Inv-loop : tie.InvT-loop
-Inv-loop scratch n lowest₀ i₀ lowest i = Copied (lowestAt scratch n) n 0 (replicate 32 0) lowest i
+Inv-loop scratch n lowest₀ i₀ lowest i = Filled (λ i. getD (tabulate n (lowestAt n (entryAt scratch n))) i 0) n i lowest
 
 abbrev μ-loop : tie.MeasureT-loop
 μ-loop scratch n lowest₀ i₀ lowest i = n - i
 
 loop-holds : tie.Need-loop-holds Inv-loop μ-loop
-loop-holds c = copied-none _ _ _ _
-
-next-kept-requires : tie.Need-next-kept-requires Inv-loop μ-loop
-next-kept-requires c κs = omega arith
-
-mul-lowest : tie.Need-mul-lowest Inv-loop μ-loop
-mul-lowest c = omega arith
-
-array-write-lowest : tie.Need-array-write-lowest Inv-loop μ-loop
-array-write-lowest c = omega arith
-
-add-i : tie.Need-add-i Inv-loop μ-loop
-add-i c = omega arith
-
-loop-less : tie.Need-loop-less Inv-loop μ-loop
-loop-less c = omega arith
+loop-holds c = filled-none _ _
 
 loop-again : tie.Need-loop-again Inv-loop μ-loop
 loop-again c =
-    let turn = c .before .before in
-    copied-more _ _ _ _ _ _ (turn .loop .inv) (omega arith) (c .before .loop-test .taken) (turn .loop .i) _ (omega arith)
-    (lowest-first _ _ _ _ (c .next-kept .ensures))
+    let turn = c .before in
+    filled-more _ _ _ _ _ (omega arith) (turn .before .loop .inv) (turn .loop-test .taken)
+    (lowest-first _ _ _ _ (c .next-kept .ensures) ∙ sym (getD-tabulate _ _ _ 0 (turn .loop-test .taken)))
 
 returns : tie.Need-returns Inv-loop μ-loop
 unfolding lowestLine
-returns c = copied-all _ _ _ _ _ _ (c .before .loop .inv) (c .loop-test .left)
+returns c = filled-array _ _ _ _ (c .before .loop .inv) (c .loop-test .left) (sym (length-tabulate _ _))
 
 pub lowest-line-spec : {M : Type 1} → statement M
 lowest-line-spec =
@@ -49,10 +39,10 @@ lowest-line-spec =
     Inv-loop
     μ-loop
     loop-holds
-    next-kept-requires
-    mul-lowest
-    array-write-lowest
-    add-i
-    loop-less
+    (λ c κs. omega arith)
+    (λ c. omega arith)
+    (λ c. omega arith)
+    (λ c. omega arith)
+    (λ c. omega arith)
     loop-again
     returns)

@@ -3,8 +3,8 @@
 use native.Mathlib.Omega.{arith}
 use mathlib.Core.Path.{subst⁻¹}
 use Prim.Native.Nat.{ℕ, _-_, _<_}
-use Rattle.lines.proofs.ArrayLaws.{height-read, height-beyond}
-use Rattle.lines.proofs.FillLaws.{Filled, filled-none, filled-more, filled-all}
+use Rattle.lines.proofs.LineReads.{height-read, height-beyond}
+use Rattle.run_table.proofs.ArrayLaws.{Filled, filled-none, filled-more, filled-all}
 use Rattle.lines.specs.Arrays.{heightAt}
 use Rattle.run_table.specs.Format.{countAt}
 use Rattle.lines.proofs.ceilings.ceiling.Statement.{statement}
@@ -19,30 +19,9 @@ abbrev μ-loop : tie.MeasureT-loop
 loop-holds : tie.Need-loop-holds Inv-loop μ-loop
 loop-holds c = filled-none _ _
 
-mul-u16-at : tie.Need-mul-u16-at Inv-loop μ-loop
-mul-u16-at c = omega arith
-
-u16-at-requires : tie.Need-u16-at-requires Inv-loop μ-loop
-u16-at-requires c κs = omega arith
-
-is-member-requires : tie.Need-is-member-requires Inv-loop μ-loop
-is-member-requires c κs = omega arith
-
 height-requires : tie.Need-height-requires Inv-loop μ-loop
 unfolding countAt
 height-requires c κs = subst⁻¹ (λ (x : ℕ). 0 < x) (c .before .u16-at .ensures) (c .before .before .before .before .before .pre .1 .1 _ (c .before .before .loop-test .taken))
-
-mul-line : tie.Need-mul-line Inv-loop μ-loop
-mul-line c = omega arith
-
-array-write-line : tie.Need-array-write-line Inv-loop μ-loop
-array-write-line c = omega arith
-
-add-p : tie.Need-add-p Inv-loop μ-loop
-add-p c = omega arith
-
-loop-less : tie.Need-loop-less Inv-loop μ-loop
-loop-less c = omega arith
 
 loop-again : tie.Need-loop-again Inv-loop μ-loop
 loop-again c =
@@ -60,13 +39,13 @@ ceiling-spec =
     Inv-loop
     μ-loop
     loop-holds
-    mul-u16-at
-    u16-at-requires
-    is-member-requires
+    (λ c. omega arith)
+    (λ c κs. omega arith)
+    (λ c κs. omega arith)
     height-requires
-    mul-line
-    array-write-line
-    add-p
-    loop-less
+    (λ c. omega arith)
+    (λ c. omega arith)
+    (λ c. omega arith)
+    (λ c. omega arith)
     loop-again
     returns)

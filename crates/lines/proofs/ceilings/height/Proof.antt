@@ -4,9 +4,6 @@ use borrow.Author.Needs.{needs}
 use Rattle.lines.proofs.ceilings.height.Statement.{statement}
 use Rattle.lines.proofs.ceilings.height.Tie as tie
 
-sub-result : tie.Need-sub-result
-sub-result c = search needs
-
 returns : tie.Need-returns
 returns c = simp (c .if1 .taken)
 
@@ -14,4 +11,4 @@ returns-2 : tie.Need-returns-2
 returns-2 c = simp (c .if1 .left)
 
 pub height-spec : {M : Type 1} → statement M
-height-spec = tie.close (tie.spec sub-result returns returns-2)
+height-spec = tie.close (tie.spec (λ c. search needs) returns returns-2)

@@ -63,48 +63,6 @@ passes-holds c = refl
 loop-holds : tie.Need-loop-holds Inv-loop μ-loop Inv-passes μ-passes
 loop-holds c = pass-begins _ _ _
 
-sub-k : tie.Need-sub-k Inv-loop μ-loop Inv-passes μ-passes
-sub-k c = omega arith
-
-mul-u16-at : tie.Need-mul-u16-at Inv-loop μ-loop Inv-passes μ-passes
-mul-u16-at c = omega arith
-
-u16-at-requires : tie.Need-u16-at-requires Inv-loop μ-loop Inv-passes μ-passes
-u16-at-requires c κs = omega arith
-
-cast-sender : tie.Need-cast-sender Inv-loop μ-loop Inv-passes μ-passes
-cast-sender c = search needs
-
-mul-u16-at-2 : tie.Need-mul-u16-at-2 Inv-loop μ-loop Inv-passes μ-passes
-mul-u16-at-2 c = omega arith
-
-add-u16-at : tie.Need-add-u16-at Inv-loop μ-loop Inv-passes μ-passes
-add-u16-at c = omega arith
-
-u16-at-requires-2 : tie.Need-u16-at-requires-2 Inv-loop μ-loop Inv-passes μ-passes
-u16-at-requires-2 c κs = omega arith
-
-mul-u16-at-3 : tie.Need-mul-u16-at-3 Inv-loop μ-loop Inv-passes μ-passes
-mul-u16-at-3 c = omega arith
-
-u16-at-requires-3 : tie.Need-u16-at-requires-3 Inv-loop μ-loop Inv-passes μ-passes
-u16-at-requires-3 c κs = omega arith
-
-cast-receiver : tie.Need-cast-receiver Inv-loop μ-loop Inv-passes μ-passes
-cast-receiver c = search needs
-
-mul-u16-at-4 : tie.Need-mul-u16-at-4 Inv-loop μ-loop Inv-passes μ-passes
-mul-u16-at-4 c = omega arith
-
-add-u16-at-2 : tie.Need-add-u16-at-2 Inv-loop μ-loop Inv-passes μ-passes
-add-u16-at-2 c = omega arith
-
-u16-at-requires-4 : tie.Need-u16-at-requires-4 Inv-loop μ-loop Inv-passes μ-passes
-u16-at-requires-4 c κs = omega arith
-
-loop-less : tie.Need-loop-less Inv-loop μ-loop Inv-passes μ-passes
-loop-less c = omega arith
-
 loop-again : tie.Need-loop-again Inv-loop μ-loop Inv-passes μ-passes
 loop-again c = skipped (c .before) (undelivered _ _ _ _ _ _ _ _ (position (c .before)) (c .before .before .before .before .u16-at .ensures) (c .before .before .before .u16-at2 .ensures) (c .before .before .u16-at3 .ensures) (c .before .u16-at4 .ensures) (line (c .before)) (c .if1 .taken))
 
@@ -113,9 +71,6 @@ mul-if2 c = omega (arith, sender-small (c .before))
 
 array-read-if2 : tie.Need-array-read-if2 Inv-loop μ-loop Inv-passes μ-passes
 array-read-if2 c = sender-small (c .before)
-
-loop-less-2 : tie.Need-loop-less-2 Inv-loop μ-loop Inv-passes μ-passes
-loop-less-2 c = omega arith
 
 loop-again-2 : tie.Need-loop-again-2 Inv-loop μ-loop Inv-passes μ-passes
 loop-again-2 c = skipped (c .before .before) (sent-before _ _ _ _ _ _ _ _ (position (c .before .before)) (c .before .before .before .before .before .u16-at .ensures) (c .before .before .before .before .u16-at2 .ensures) (c .before .before .before .u16-at3 .ensures) (c .before .before .u16-at4 .ensures) (line (c .before .before)) (c .if2 .taken))
@@ -126,23 +81,14 @@ mul-if3 c = omega (arith, receiver-small (c .before .before))
 array-read-if3 : tie.Need-array-read-if3 Inv-loop μ-loop Inv-passes μ-passes
 array-read-if3 c = receiver-small (c .before .before)
 
-loop-less-3 : tie.Need-loop-less-3 Inv-loop μ-loop Inv-passes μ-passes
-loop-less-3 c = omega arith
-
 loop-again-3 : tie.Need-loop-again-3 Inv-loop μ-loop Inv-passes μ-passes
 loop-again-3 c = skipped (c .before .before .before) (received-after _ _ _ _ _ _ _ _ (position (c .before .before .before)) (c .before .before .before .before .before .before .u16-at .ensures) (c .before .before .before .before .before .u16-at2 .ensures) (c .before .before .before .before .u16-at3 .ensures) (c .before .before .before .u16-at4 .ensures) (line (c .before .before .before)) (c .if3 .taken))
-
-sub-line : tie.Need-sub-line Inv-loop μ-loop Inv-passes μ-passes
-sub-line c = omega arith
 
 mul-line : tie.Need-mul-line Inv-loop μ-loop Inv-passes μ-passes
 mul-line c = omega (arith, receiver-small (c .before .before .before))
 
 array-write-line : tie.Need-array-write-line Inv-loop μ-loop Inv-passes μ-passes
 array-write-line c = receiver-small (c .before .before .before)
-
-loop-less-4 : tie.Need-loop-less-4 Inv-loop μ-loop Inv-passes μ-passes
-loop-less-4 c = omega arith
 
 loop-again-4 : tie.Need-loop-again-4 Inv-loop μ-loop Inv-passes μ-passes
 loop-again-4 c =
@@ -170,33 +116,33 @@ lower-spec =
     μ-passes
     passes-holds
     loop-holds
-    sub-k
-    mul-u16-at
-    u16-at-requires
-    cast-sender
-    mul-u16-at-2
-    add-u16-at
-    u16-at-requires-2
-    mul-u16-at-3
-    u16-at-requires-3
-    cast-receiver
-    mul-u16-at-4
-    add-u16-at-2
-    u16-at-requires-4
-    loop-less
+    (λ c. omega arith)
+    (λ c. omega arith)
+    (λ c κs. omega arith)
+    (λ c. search needs)
+    (λ c. omega arith)
+    (λ c. omega arith)
+    (λ c κs. omega arith)
+    (λ c. omega arith)
+    (λ c κs. omega arith)
+    (λ c. search needs)
+    (λ c. omega arith)
+    (λ c. omega arith)
+    (λ c κs. omega arith)
+    (λ c. omega arith)
     loop-again
     mul-if2
     array-read-if2
-    loop-less-2
+    (λ c. omega arith)
     loop-again-2
     mul-if3
     array-read-if3
-    loop-less-3
+    (λ c. omega arith)
     loop-again-3
-    sub-line
+    (λ c. omega arith)
     mul-line
     array-write-line
-    loop-less-4
+    (λ c. omega arith)
     loop-again-4
     passes-less
     passes-again

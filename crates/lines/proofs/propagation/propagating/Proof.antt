@@ -39,32 +39,14 @@ position c = omega (arith, c .loop-test .taken, c .before .before .before .befor
 known : (c : tie.After-u16-at Inv-loop μ-loop) → c .u16-at .result < processCount (decode (bytes (c .before)))
 known c = sender-known (parts (c .before)) (position (c .before)) (c .u16-at .ensures)
 
-message-count-requires : tie.Need-message-count-requires Inv-loop μ-loop
-message-count-requires c κs = search needs
-
-counts-requires : tie.Need-counts-requires Inv-loop μ-loop
-counts-requires c κs = search needs
-
-sends-requires : tie.Need-sends-requires Inv-loop μ-loop
-sends-requires c κs = search needs
-
-receipts-requires : tie.Need-receipts-requires Inv-loop μ-loop
-receipts-requires c κs = search needs
-
 loop-holds : tie.Need-loop-holds Inv-loop μ-loop
 loop-holds c = seen-none _
-
-add-k : tie.Need-add-k Inv-loop μ-loop
-add-k c = omega arith
 
 mul-u16-at : tie.Need-mul-u16-at Inv-loop μ-loop
 mul-u16-at c = omega (arith, sends-length (parts c), position c)
 
 u16-at-requires : tie.Need-u16-at-requires Inv-loop μ-loop
 u16-at-requires c κs = omega (arith, sends-length (parts c), position c)
-
-cast-sender : tie.Need-cast-sender Inv-loop μ-loop
-cast-sender c = search needs
 
 mul-u16-at-2 : tie.Need-mul-u16-at-2 Inv-loop μ-loop
 mul-u16-at-2 c = omega (arith, sends-length (parts (c .before)), position (c .before))
@@ -86,9 +68,6 @@ sub-last c =
     let turn = c .before .before .before in
     count-positive (parts turn) (position turn) (c .before .before .u16-at .ensures) (c .u16-at3 .ensures) (c .before .u16-at2 .ensures)
 
-loop-less : tie.Need-loop-less Inv-loop μ-loop
-loop-less c = omega arith
-
 loop-again : tie.Need-loop-again Inv-loop μ-loop
 loop-again c =
     let turn = c .before .before .before .before in
@@ -104,9 +83,6 @@ add-u16-at-2 c = omega (arith, receipts-length (parts (c .before .before .before
 u16-at-requires-4 : tie.Need-u16-at-requires-4 Inv-loop μ-loop
 u16-at-requires-4 c κs = omega (arith, receipts-length (parts (c .before .before .before .before)), position (c .before .before .before .before))
 
-loop-less-2 : tie.Need-loop-less-2 Inv-loop μ-loop
-loop-less-2 c = omega arith
-
 loop-again-2 : tie.Need-loop-again-2 Inv-loop μ-loop
 loop-again-2 c =
     let turn = c .before .before .before .before .before .before in
@@ -115,9 +91,6 @@ loop-again-2 c =
 
 array-write-propagates : tie.Need-array-write-propagates Inv-loop μ-loop
 array-write-propagates c = omega (arith, known (c .before .before .before .before .before), processes-few _ (parts (c .before .before .before .before .before .before) .none))
-
-loop-less-3 : tie.Need-loop-less-3 Inv-loop μ-loop
-loop-less-3 c = omega arith
 
 loop-again-3 : tie.Need-loop-again-3 Inv-loop μ-loop
 loop-again-3 c =
@@ -135,29 +108,29 @@ propagating-spec =
     (tie.spec
     Inv-loop
     μ-loop
-    message-count-requires
-    counts-requires
-    sends-requires
-    receipts-requires
+    (λ c κs. search needs)
+    (λ c κs. search needs)
+    (λ c κs. search needs)
+    (λ c κs. search needs)
     loop-holds
-    add-k
+    (λ c. omega arith)
     mul-u16-at
     u16-at-requires
-    cast-sender
+    (λ c. search needs)
     mul-u16-at-2
     add-u16-at
     u16-at-requires-2
     mul-u16-at-3
     u16-at-requires-3
     sub-last
-    loop-less
+    (λ c. omega arith)
     loop-again
     mul-u16-at-4
     add-u16-at-2
     u16-at-requires-4
-    loop-less-2
+    (λ c. omega arith)
     loop-again-2
     array-write-propagates
-    loop-less-3
+    (λ c. omega arith)
     loop-again-3
     returns)

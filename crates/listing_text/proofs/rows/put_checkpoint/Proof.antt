@@ -9,9 +9,6 @@ use borrow.Author.Needs.{needs}
 use Rattle.listing_text.proofs.rows.put_checkpoint.Statement.{statement}
 use Rattle.listing_text.proofs.rows.put_checkpoint.Tie as tie
 
-slice-aggregate-put-word : tie.Need-slice-aggregate-put-word
-slice-aggregate-put-word c = search needs
-
 put-word-requires : tie.Need-put-word-requires
 unfolding checkpointRow
 put-word-requires c κs = first-room (row-two _ _ _) _ _ (c .before .before .before .pre)
@@ -28,9 +25,6 @@ put-byte-requires : tie.Need-put-byte-requires
 unfolding checkpointRow
 put-byte-requires c κs = rest-room (parts _ _) (c .before .before .before .put-field2 .ensures) _ (rest-room (parts _ _) (c .before .before .before .before .before .before .before .put-field .ensures) _ (rest-room (row-two _ _ _) (c .before .before .before .before .before .before .before .before .before .before .before .put-word .ensures) _ (c .before .before .before .before .before .before .before .before .before .before .before .before .before .before .before .pre)))
 
-same-length : tie.Need-same-length
-same-length c = search needs
-
 returns : tie.Need-returns
 unfolding checkpointRow
 returns c = both-laid (row-two _ _ _) (c .before .before .before .before .before .before .before .before .before .before .before .before .before .before .put-word .ensures) (both-laid (parts _ _) (c .before .before .before .before .before .before .before .before .before .before .put-field .ensures) (both-laid (parts _ _) (c .before .before .before .before .before .before .put-field2 .ensures) (c .before .before .put-byte .ensures)))
@@ -39,10 +33,10 @@ pub put-checkpoint-spec : {M : Type 1} → statement M
 put-checkpoint-spec =
     tie.close
     (tie.spec
-    slice-aggregate-put-word
+    (λ c. search needs)
     put-word-requires
     put-field-requires
     put-field-requires-2
     put-byte-requires
-    same-length
+    (λ c. search needs)
     returns)

@@ -19,39 +19,9 @@ abbrev μ-loop : tie.MeasureT-loop
 loop-holds : tie.Need-loop-holds Inv-loop μ-loop
 loop-holds c = laying-none _ _ _ _
 
-mul-u16-at : tie.Need-mul-u16-at Inv-loop μ-loop
-mul-u16-at c = omega arith
-
-add-u16-at : tie.Need-add-u16-at Inv-loop μ-loop
-add-u16-at c = omega arith
-
-u16-at-requires : tie.Need-u16-at-requires Inv-loop μ-loop
-u16-at-requires c κs = omega arith
-
-mul-u16-at-2 : tie.Need-mul-u16-at-2 Inv-loop μ-loop
-mul-u16-at-2 c = omega arith
-
-add-u16-at-2 : tie.Need-add-u16-at-2 Inv-loop μ-loop
-add-u16-at-2 c = omega arith
-
-mul-u16-at-3 : tie.Need-mul-u16-at-3 Inv-loop μ-loop
-mul-u16-at-3 c = omega arith
-
-add-u16-at-3 : tie.Need-add-u16-at-3 Inv-loop μ-loop
-add-u16-at-3 c = omega arith
-
-u16-at-requires-2 : tie.Need-u16-at-requires-2 Inv-loop μ-loop
-u16-at-requires-2 c κs = omega arith
-
 put-checkpoint-requires : tie.Need-put-checkpoint-requires Inv-loop μ-loop
 unfolding checkpointRows
 put-checkpoint-requires c κs = laying-room _ _ _ _ _ _ _ (c .before .before .before .before .loop .inv) _ (checkpoint-read _ _ _ _ _ (c .before .before .u16-at .ensures) (c .before .u16-at2 .ensures)) (c .before .before .before .loop-test .taken) _ _ refl (c .before .before .before .before .before .before .before .pre .1)
-
-add-e : tie.Need-add-e Inv-loop μ-loop
-add-e c = omega arith
-
-loop-less : tie.Need-loop-less Inv-loop μ-loop
-loop-less c = omega arith
 
 loop-again : tie.Need-loop-again Inv-loop μ-loop
 loop-again c = laying-more _ _ _ _ _ _ _ (c .before .before .before .before .before .before .before .loop .inv) _ (checkpoint-read _ _ _ _ _ (c .before .before .before .before .before .u16-at .ensures) (c .before .before .before .before .u16-at2 .ensures)) (c .before .before .before .before .before .before .loop-test .taken) _ _ (c .before .before .put-checkpoint .ensures)
@@ -70,17 +40,17 @@ put-checkpoints-spec =
     Inv-loop
     μ-loop
     loop-holds
-    mul-u16-at
-    add-u16-at
-    u16-at-requires
-    mul-u16-at-2
-    add-u16-at-2
-    mul-u16-at-3
-    add-u16-at-3
-    u16-at-requires-2
+    (λ c. omega arith)
+    (λ c. omega arith)
+    (λ c κs. omega arith)
+    (λ c. omega arith)
+    (λ c. omega arith)
+    (λ c. omega arith)
+    (λ c. omega arith)
+    (λ c κs. omega arith)
     put-checkpoint-requires
-    add-e
-    loop-less
+    (λ c. omega arith)
+    (λ c. omega arith)
     loop-again
     same-length
     returns)

@@ -8,9 +8,6 @@ use borrow.Author.Needs.{needs}
 use Rattle.listing_text.proofs.rows.put_hold.Statement.{statement}
 use Rattle.listing_text.proofs.rows.put_hold.Tie as tie
 
-slice-aggregate-put-word : tie.Need-slice-aggregate-put-word
-slice-aggregate-put-word c = search needs
-
 put-word-requires : tie.Need-put-word-requires
 unfolding holdRow
 put-word-requires c κs = first-room (row-more _ _ _) _ _ (c .before .before .before .before .pre)
@@ -27,9 +24,6 @@ put-byte-requires : tie.Need-put-byte-requires
 unfolding holdRow
 put-byte-requires c κs = rest-room (parts _ _) (c .before .before .before .put-fields .ensures) _ (rest-room (parts _ _) (c .before .before .before .before .before .before .before .put-field .ensures) _ (rest-room (row-more _ _ _) (c .before .before .before .before .before .before .before .before .before .before .before .put-word .ensures) _ (c .before .before .before .before .before .before .before .before .before .before .before .before .before .before .before .before .pre)))
 
-same-length : tie.Need-same-length
-same-length c = search needs
-
 returns : tie.Need-returns
 unfolding holdRow
 returns c = both-laid (row-more _ _ _) (c .before .before .before .before .before .before .before .before .before .before .before .before .before .before .put-word .ensures) (both-laid (parts _ _) (c .before .before .before .before .before .before .before .before .before .before .put-field .ensures) (both-laid (parts _ _) (c .before .before .before .before .before .before .put-fields .ensures) (c .before .before .put-byte .ensures)))
@@ -38,10 +32,10 @@ pub put-hold-spec : {M : Type 1} → statement M
 put-hold-spec =
     tie.close
     (tie.spec
-    slice-aggregate-put-word
+    (λ c. search needs)
     put-word-requires
     put-field-requires
     put-fields-requires
     put-byte-requires
-    same-length
+    (λ c. search needs)
     returns)

@@ -25,17 +25,8 @@ mul-start c = omega (arith, line-in _ _ (c .loop-test .taken), c .before .before
 add-end : tie.Need-add-end Inv-loop μ-loop
 add-end c = omega (arith, line-in _ _ (c .loop-test .taken), c .before .before .before .before .pre)
 
-cast-put-hold : tie.Need-cast-put-hold Inv-loop μ-loop
-cast-put-hold c = omega arith
-
 mul-put-hold : tie.Need-mul-put-hold Inv-loop μ-loop
 mul-put-hold c = omega (arith, line-in _ _ (c .before .loop-test .taken), c .before .before .before .before .before .pre)
-
-sub-put-hold : tie.Need-sub-put-hold Inv-loop μ-loop
-sub-put-hold c = omega arith
-
-part-put-hold-start : tie.Need-part-put-hold-start Inv-loop μ-loop
-part-put-hold-start c = omega arith
 
 part-put-hold-end : tie.Need-part-put-hold-end Inv-loop μ-loop
 part-put-hold-end c = omega (arith, line-in _ _ (c .before .loop-test .taken), c .before .before .before .before .before .pre)
@@ -43,12 +34,6 @@ part-put-hold-end c = omega (arith, line-in _ _ (c .before .loop-test .taken), c
 put-hold-requires : tie.Need-put-hold-requires Inv-loop μ-loop
 unfolding holdRows
 put-hold-requires c κs = laying-room _ _ _ _ _ _ _ (c .before .before .before .loop .inv) _ (ap (holdRow _) (line-part _ _ _)) (c .before .before .loop-test .taken) _ _ refl (c .before .before .before .before .before .before .pre .1 .1)
-
-add-k : tie.Need-add-k Inv-loop μ-loop
-add-k c = omega arith
-
-loop-less : tie.Need-loop-less Inv-loop μ-loop
-loop-less c = omega arith
 
 loop-again : tie.Need-loop-again Inv-loop μ-loop
 loop-again c = laying-more _ _ _ _ _ _ _ (c .before .before .before .before .before .before .loop .inv) _ (ap (holdRow _) (line-part _ _ _)) (c .before .before .before .before .before .loop-test .taken) _ _ (c .before .before .put-hold .ensures)
@@ -69,14 +54,14 @@ put-holds-spec =
     loop-holds
     mul-start
     add-end
-    cast-put-hold
+    (λ c. omega arith)
     mul-put-hold
-    sub-put-hold
-    part-put-hold-start
+    (λ c. omega arith)
+    (λ c. omega arith)
     part-put-hold-end
     put-hold-requires
-    add-k
-    loop-less
+    (λ c. omega arith)
+    (λ c. omega arith)
     loop-again
     same-length
     returns)

@@ -8,9 +8,6 @@ use borrow.Author.Needs.{needs}
 use Rattle.listing_text.proofs.rows.put_line.Statement.{statement}
 use Rattle.listing_text.proofs.rows.put_line.Tie as tie
 
-slice-aggregate-put-word : tie.Need-slice-aggregate-put-word
-slice-aggregate-put-word c = search needs
-
 put-word-requires : tie.Need-put-word-requires
 unfolding lineRow
 put-word-requires c κs = first-room (row-parts _ _) _ _ (c .before .before .before .before .pre)
@@ -23,9 +20,6 @@ put-byte-requires : tie.Need-put-byte-requires
 unfolding lineRow
 put-byte-requires c κs = rest-room (parts _ _) (c .before .before .before .put-fields .ensures) _ (rest-room (row-parts _ _) (c .before .before .before .before .before .before .before .put-word .ensures) _ (c .before .before .before .before .before .before .before .before .before .before .before .before .pre))
 
-same-length : tie.Need-same-length
-same-length c = search needs
-
 returns : tie.Need-returns
 unfolding lineRow
 returns c = both-laid (row-parts _ _) (c .before .before .before .before .before .before .before .before .before .before .put-word .ensures) (both-laid (parts _ _) (c .before .before .before .before .before .before .put-fields .ensures) (c .before .before .put-byte .ensures))
@@ -34,9 +28,9 @@ pub put-line-spec : {M : Type 1} → statement M
 put-line-spec =
     tie.close
     (tie.spec
-    slice-aggregate-put-word
+    (λ c. search needs)
     put-word-requires
     put-fields-requires
     put-byte-requires
-    same-length
+    (λ c. search needs)
     returns)

@@ -21,36 +21,9 @@ abbrev μ-loop : tie.MeasureT-loop
 loop-holds : tie.Need-loop-holds Inv-loop μ-loop
 loop-holds c = laying-none _ _ _ _
 
-mul-u16-at : tie.Need-mul-u16-at Inv-loop μ-loop
-mul-u16-at c = omega arith
-
-add-u16-at : tie.Need-add-u16-at Inv-loop μ-loop
-add-u16-at c = omega arith
-
-mul-u16-at-2 : tie.Need-mul-u16-at-2 Inv-loop μ-loop
-mul-u16-at-2 c = omega arith
-
-add-u16-at-2 : tie.Need-add-u16-at-2 Inv-loop μ-loop
-add-u16-at-2 c = omega arith
-
-u16-at-requires : tie.Need-u16-at-requires Inv-loop μ-loop
-u16-at-requires c κs = omega arith
-
-slice-aggregate-put-row : tie.Need-slice-aggregate-put-row Inv-loop μ-loop
-slice-aggregate-put-row c = search needs
-
-cast-put-row : tie.Need-cast-put-row Inv-loop μ-loop
-cast-put-row c = omega arith
-
 put-row-requires : tie.Need-put-row-requires Inv-loop μ-loop
 unfolding messageRows messageRow
 put-row-requires c κs = laying-room _ _ _ _ _ _ _ (c .before .before .before .before .loop .inv) _ (ap messageRow (c .before .before .u16-at .ensures)) (c .before .before .before .loop-test .taken) _ _ refl (c .before .before .before .before .before .before .before .pre .1)
-
-add-e : tie.Need-add-e Inv-loop μ-loop
-add-e c = omega arith
-
-loop-less : tie.Need-loop-less Inv-loop μ-loop
-loop-less c = omega arith
 
 loop-again : tie.Need-loop-again Inv-loop μ-loop
 unfolding messageRow
@@ -70,16 +43,16 @@ put-messages-spec =
     Inv-loop
     μ-loop
     loop-holds
-    mul-u16-at
-    add-u16-at
-    mul-u16-at-2
-    add-u16-at-2
-    u16-at-requires
-    slice-aggregate-put-row
-    cast-put-row
+    (λ c. omega arith)
+    (λ c. omega arith)
+    (λ c. omega arith)
+    (λ c. omega arith)
+    (λ c κs. omega arith)
+    (λ c. search needs)
+    (λ c. omega arith)
     put-row-requires
-    add-e
-    loop-less
+    (λ c. omega arith)
+    (λ c. omega arith)
     loop-again
     same-length
     returns)

@@ -16,12 +16,9 @@ put-field-requires c κs = first-room (parts (field (c .before .before .before .
 put-byte-requires : tie.Need-put-byte-requires
 put-byte-requires c κs = rest-room (parts _ _) (c .before .before .before .put-field .ensures) _ (rest-room (row-one _ _) (c .before .before .before .before .before .before .before .put-word .ensures) _ (c .before .before .before .before .before .before .before .before .before .before .before .pre))
 
-same-length : tie.Need-same-length
-same-length c = search needs
-
 returns : tie.Need-returns
 returns c = both-laid (row-one _ _) (c .before .before .before .before .before .before .before .before .before .before .put-word .ensures) (both-laid (parts _ _) (c .before .before .before .before .before .before .put-field .ensures) (c .before .before .put-byte .ensures))
 
 pub put-row-spec : {M : Type 1} → statement M
 put-row-spec =
-    tie.close (tie.spec put-word-requires put-field-requires put-byte-requires same-length returns)
+    tie.close (tie.spec put-word-requires put-field-requires put-byte-requires (λ c. search needs) returns)

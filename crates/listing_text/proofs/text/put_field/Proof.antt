@@ -11,11 +11,8 @@ put-byte-requires c κs = first-room (field-parts _) _ _ (c .before .before .pre
 put-decimal-requires : tie.Need-put-decimal-requires
 put-decimal-requires c κs = rest-room (field-parts _) (c .before .before .before .put-byte .ensures) _ (c .before .before .before .before .before .before .pre)
 
-same-length : tie.Need-same-length
-same-length c = search needs
-
 returns : tie.Need-returns
 returns c = both-laid (field-parts _) (c .before .before .before .before .before .before .put-byte .ensures) (c .before .before .put-decimal .ensures)
 
 pub put-field-spec : {M : Type 1} → statement M
-put-field-spec = tie.close (tie.spec put-byte-requires put-decimal-requires same-length returns)
+put-field-spec = tie.close (tie.spec put-byte-requires put-decimal-requires (λ c. search needs) returns)

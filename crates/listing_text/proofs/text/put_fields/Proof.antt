@@ -18,23 +18,11 @@ abbrev μ-loop : tie.MeasureT-loop
 loop-holds : tie.Need-loop-holds Inv-loop μ-loop
 loop-holds c = laying-none _ _ _ _
 
-mul-put-field : tie.Need-mul-put-field Inv-loop μ-loop
-mul-put-field c = omega arith
-
-shared-slice-read-put-field : tie.Need-shared-slice-read-put-field Inv-loop μ-loop
-shared-slice-read-put-field c = omega arith
-
 cast-put-field : tie.Need-cast-put-field Inv-loop μ-loop
 cast-put-field c = omega (arith, c .shared-slice-known2 .given (c .before .before .before .loop .i))
 
 put-field-requires : tie.Need-put-field-requires Inv-loop μ-loop
 put-field-requires c κs = laying-room _ _ _ _ _ _ _ (c .before .before .before .loop .inv) _ refl (c .before .before .loop-test .taken) _ _ (sym (each-rows field 0 (c .before .before .before .before .before .before .args .numbers .now))) (c .before .before .before .before .before .before .pre)
-
-add-i : tie.Need-add-i Inv-loop μ-loop
-add-i c = omega arith
-
-loop-less : tie.Need-loop-less Inv-loop μ-loop
-loop-less c = omega arith
 
 loop-again : tie.Need-loop-again Inv-loop μ-loop
 loop-again c = laying-more _ _ _ _ _ _ _ (c .before .before .before .before .before .before .loop .inv) _ refl (c .before .before .before .before .before .loop-test .taken) _ _ (c .before .before .put-field .ensures)
@@ -52,12 +40,12 @@ put-fields-spec =
     Inv-loop
     μ-loop
     loop-holds
-    mul-put-field
-    shared-slice-read-put-field
+    (λ c. omega arith)
+    (λ c. omega arith)
     cast-put-field
     put-field-requires
-    add-i
-    loop-less
+    (λ c. omega arith)
+    (λ c. omega arith)
     loop-again
     same-length
     returns)

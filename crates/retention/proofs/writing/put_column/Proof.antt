@@ -4,14 +4,16 @@ use native.Mathlib.Omega.{arith}
 use mathlib.Core.Path.{refl}
 use Prim.Native.Nat.{_-_, zero-le}
 use Rattle.retention.proofs.WritingLaws.{Putting, putting-none, putting-length, putting-all, row-room, row-more, column-read}
-use Rattle.kept.specs.Scratch.{columnAt, columnOf, statesOf}
+use Rattle.kept.specs.Kept.{columnAt, columnOf, statesOf}
+use Rattle.kept.specs.Scratch.{entryAt}
 use Rattle.run_table.specs.Format.{countAt}
 use Rattle.retention.proofs.writing.put_column.Statement.{statement}
 use Rattle.run_table.specs.Lists.{rows}
 use Rattle.retention.proofs.writing.put_column.Tie as tie
 
 abbrev Inv-loop : tie.InvT-loop
-Inv-loop buffer₀ at states scratch n counts next₀ i₀ buffer next i = Putting (rows (λ j. columnAt states j (statesOf scratch n j (countAt counts j)))) n buffer₀ at buffer next i
+Inv-loop buffer₀ at states scratch n counts next₀ i₀ buffer next i =
+    Putting (rows (λ j. columnAt states j (statesOf n (entryAt scratch n) j (countAt counts j)))) n buffer₀ at buffer next i
 
 abbrev μ-loop : tie.MeasureT-loop
 μ-loop buffer₀ at states scratch n counts next₀ i₀ buffer next i = n - i
@@ -20,23 +22,11 @@ loop-holds : tie.Need-loop-holds Inv-loop μ-loop
 unfolding rows columnOf
 loop-holds c = putting-none _ _ _ _ _ zero-le refl (c .before .before .before .pre .1 .1 .1)
 
-mul-u16-at : tie.Need-mul-u16-at Inv-loop μ-loop
-mul-u16-at c = omega arith
-
-u16-at-requires : tie.Need-u16-at-requires Inv-loop μ-loop
-u16-at-requires c κs = omega arith
-
 put-process-requires : tie.Need-put-process-requires Inv-loop μ-loop
 put-process-requires c κs =
     let start = c .before .before .before .before .before .before .before in
     let l = c .before .before .loop-test .taken in
     (start .pre .0, (start .pre .1 .0, (l, row-room _ _ _ _ _ _ _ (c .before .before .before .loop .inv) l _ (column-read _ _ _ _ _ _ (c .u16-at .ensures)))))
-
-add-i : tie.Need-add-i Inv-loop μ-loop
-add-i c = omega arith
-
-loop-less : tie.Need-loop-less Inv-loop μ-loop
-loop-less c = omega arith
 
 loop-again : tie.Need-loop-again Inv-loop μ-loop
 loop-again c = row-more _ _ _ _ _ _ _ (c .before .before .before .before .before .before .loop .inv) (c .before .before .before .before .before .loop-test .taken) _ (column-read _ _ _ _ _ _ (c .before .before .before .u16-at .ensures)) _ _ (c .before .before .put-process .ensures)
@@ -55,11 +45,11 @@ put-column-spec =
     Inv-loop
     μ-loop
     loop-holds
-    mul-u16-at
-    u16-at-requires
+    (λ c. omega arith)
+    (λ c κs. omega arith)
     put-process-requires
-    add-i
-    loop-less
+    (λ c. omega arith)
+    (λ c. omega arith)
     loop-again
     same-length
     returns)

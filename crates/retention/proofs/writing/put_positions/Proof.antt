@@ -5,38 +5,25 @@ use native.Mathlib.Omega.{arith}
 use mathlib.Core.Path.{refl}
 use borrow.Author.Tests.{not-true, not-false}
 use Prim.Native.Nat.{_-_, zero-le}
-use Rattle.kept.proofs.ScratchLaws.{lowest-read}
+use Rattle.kept.proofs.KeptLaws.{lowest-read}
 use Rattle.retention.proofs.WritingLaws.{Putting, putting-none, putting-length, putting-all, passing-room, passing-skip, passing-more}
-use Rattle.kept.specs.Scratch.{isKept, positionsOf}
+use Rattle.kept.specs.Kept.{isKept, positionsOf}
+use Rattle.kept.specs.Scratch.{entryAt}
 use Rattle.run_table.specs.Format.{messageAt, processAt}
 use Rattle.retention.proofs.writing.put_positions.Statement.{statement}
 use Rattle.run_table.specs.Lists.{select}
 use Rattle.retention.proofs.writing.put_positions.Tie as tie
 
 abbrev Inv-loop : tie.InvT-loop
-Inv-loop buffer₀ at scratch n sends receipts m lowest next₀ k₀ buffer next k = Putting (select (λ j. isKept scratch n (messageAt sends receipts j))) m buffer₀ at buffer next k
+Inv-loop buffer₀ at scratch n sends receipts m lowest next₀ k₀ buffer next k =
+    Putting (select (λ j. isKept n (entryAt scratch n) (messageAt sends receipts j))) m buffer₀ at buffer next k
 
 abbrev μ-loop : tie.MeasureT-loop
 μ-loop buffer₀ at scratch n sends receipts m lowest next₀ k₀ buffer next k = m - k
 
-lowest-line-requires : tie.Need-lowest-line-requires Inv-loop μ-loop
-lowest-line-requires c κs = omega arith
-
 loop-holds : tie.Need-loop-holds Inv-loop μ-loop
 unfolding select positionsOf
 loop-holds c = putting-none _ _ _ _ _ zero-le refl (c .before .before .before .before .before .pre .1 .1 .1 .1 .1 .1 .1)
-
-mul-u16-at : tie.Need-mul-u16-at Inv-loop μ-loop
-mul-u16-at c = omega arith
-
-u16-at-requires : tie.Need-u16-at-requires Inv-loop μ-loop
-u16-at-requires c κs = omega arith
-
-cast-receiver : tie.Need-cast-receiver Inv-loop μ-loop
-cast-receiver c = search needs
-
-mul-is-kept : tie.Need-mul-is-kept Inv-loop μ-loop
-mul-is-kept c = search needs
 
 array-read-is-kept : tie.Need-array-read-is-kept Inv-loop μ-loop
 unfolding processAt
@@ -49,23 +36,11 @@ is-kept-requires c κs =
     let known = start .pre .1 .1 .1 .1 .1 .1 .0 _ l in
     (lowest-read _ _ (omega arith) _ (c .before .before .before .lowest-line .ensures) _ _ _ (c .u16-at .ensures) known, omega (arith, start .pre .1 .1 .1 .1 .1 .0 _ l, known))
 
-add-k : tie.Need-add-k Inv-loop μ-loop
-add-k c = omega arith
-
-loop-less : tie.Need-loop-less Inv-loop μ-loop
-loop-less c = omega arith
-
 loop-again : tie.Need-loop-again Inv-loop μ-loop
 loop-again c = passing-skip _ _ _ _ _ _ _ (c .before .before .before .before .loop .inv) (c .before .before .before .loop-test .taken) _ (c .before .is-kept .ensures) (not-true _ (c .if1 .taken))
 
-cast-put-number : tie.Need-cast-put-number Inv-loop μ-loop
-cast-put-number c = omega arith
-
 put-number-requires : tie.Need-put-number-requires Inv-loop μ-loop
 put-number-requires c κs = passing-room _ _ _ _ _ _ _ (c .before .before .before .before .before .loop .inv) (c .before .before .before .before .loop-test .taken) _ (c .before .before .is-kept .ensures) (not-false _ (c .before .if1 .left))
-
-loop-less-2 : tie.Need-loop-less-2 Inv-loop μ-loop
-loop-less-2 c = omega arith
 
 loop-again-2 : tie.Need-loop-again-2 Inv-loop μ-loop
 loop-again-2 c = passing-more _ _ _ _ _ _ _ (c .before .before .before .before .before .before .before .before .loop .inv) (c .before .before .before .before .before .before .before .loop-test .taken) _ (c .before .before .before .before .before .is-kept .ensures) (not-false _ (c .before .before .before .before .if1 .left)) _ _ (c .before .before .put-number .ensures)
@@ -83,20 +58,20 @@ put-positions-spec =
     (tie.spec
     Inv-loop
     μ-loop
-    lowest-line-requires
+    (λ c κs. omega arith)
     loop-holds
-    mul-u16-at
-    u16-at-requires
-    cast-receiver
-    mul-is-kept
+    (λ c. omega arith)
+    (λ c κs. omega arith)
+    (λ c. search needs)
+    (λ c. search needs)
     array-read-is-kept
     is-kept-requires
-    add-k
-    loop-less
+    (λ c. omega arith)
+    (λ c. omega arith)
     loop-again
-    cast-put-number
+    (λ c. omega arith)
     put-number-requires
-    loop-less-2
+    (λ c. omega arith)
     loop-again-2
     same-length
     returns)

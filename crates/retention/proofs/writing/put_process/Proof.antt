@@ -3,40 +3,24 @@
 use native.Mathlib.Omega.{arith}
 use Prim.Native.Nat.{_-_}
 use Rattle.retention.proofs.WritingLaws.{Laying, laying-first, laying-room, laying-more, putting-all, putting-length}
-use Rattle.kept.specs.Scratch.{shows, statesOf}
+use Rattle.kept.specs.Kept.{shows, statesOf}
+use Rattle.kept.specs.Scratch.{entryAt}
 use Rattle.retention.proofs.writing.put_process.Statement.{statement}
 use Rattle.retention.proofs.writing.put_process.Tie as tie
 
 abbrev Inv-loop : tie.InvT-loop
-Inv-loop buffer₀ at states scratch n i count next₀ state₀ buffer next state = Laying (shows scratch n i) count states i buffer₀ at buffer next state
+Inv-loop buffer₀ at states scratch n i count next₀ state₀ buffer next state =
+    Laying (shows n (entryAt scratch n) i) count states i buffer₀ at buffer next state
 
 abbrev μ-loop : tie.MeasureT-loop
 μ-loop buffer₀ at states scratch n i count next₀ state₀ buffer next state = count - state
-
-next-kept-requires : tie.Need-next-kept-requires Inv-loop μ-loop
-next-kept-requires c κs = omega arith
 
 loop-holds : tie.Need-loop-holds Inv-loop μ-loop
 unfolding statesOf
 loop-holds c = laying-first _ _ _ _ _ _ _ (c .next-kept .ensures) (c .before .before .before .pre .1 .1 .1)
 
-cast-number-of : tie.Need-cast-number-of Inv-loop μ-loop
-cast-number-of c = omega arith
-
-number-of-requires : tie.Need-number-of-requires Inv-loop μ-loop
-number-of-requires c κs = omega arith
-
 put-number-requires : tie.Need-put-number-requires Inv-loop μ-loop
 put-number-requires c κs = laying-room _ _ _ _ _ _ _ _ _ (c .before .before .before .loop .inv) (c .before .before .loop-test .taken)
-
-add-next-kept : tie.Need-add-next-kept Inv-loop μ-loop
-add-next-kept c = omega arith
-
-next-kept-requires-2 : tie.Need-next-kept-requires-2 Inv-loop μ-loop
-next-kept-requires-2 c κs = omega arith
-
-loop-less : tie.Need-loop-less Inv-loop μ-loop
-loop-less c = omega arith
 
 loop-again : tie.Need-loop-again Inv-loop μ-loop
 loop-again c =
@@ -55,14 +39,14 @@ put-process-spec =
     (tie.spec
     Inv-loop
     μ-loop
-    next-kept-requires
+    (λ c κs. omega arith)
     loop-holds
-    cast-number-of
-    number-of-requires
+    (λ c. omega arith)
+    (λ c κs. omega arith)
     put-number-requires
-    add-next-kept
-    next-kept-requires-2
-    loop-less
+    (λ c. omega arith)
+    (λ c κs. omega arith)
+    (λ c. omega arith)
     loop-again
     same-length
     returns)

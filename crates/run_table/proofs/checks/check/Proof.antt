@@ -40,18 +40,6 @@ returns : tie.Need-returns
 unfolding tableRefusal tableChecks
 returns c = sym (stopped _ _ (short _ (c .if1 .taken)))
 
-u16-at-requires : tie.Need-u16-at-requires
-u16-at-requires c κs = search needs
-
-cast-n : tie.Need-cast-n
-cast-n c = search needs
-
-u16-at-requires-2 : tie.Need-u16-at-requires-2
-u16-at-requires-2 c κs = search needs
-
-cast-m : tie.Need-cast-m
-cast-m c = search needs
-
 returns-2 : tie.Need-returns-2
 unfolding tableRefusal tableChecks
 returns-2 c =
@@ -70,9 +58,6 @@ returns-4 c =
     let read = c .before .before .before in
     sym (passed _ _ _ (passed-1 (read .before .before)) (passed _ _ _ (passed-2 (c .before)) (stopped _ _ (many-messages _ _ _ (read .before .u16-at .ensures) (read .u16-at2 .ensures) (c .if4 .taken)))))
 
-table-length-requires : tie.Need-table-length-requires
-table-length-requires c κs = search needs
-
 returns-5 : tie.Need-returns-5
 unfolding tableRefusal tableChecks
 returns-5 c =
@@ -80,42 +65,6 @@ returns-5 c =
     let read = few .before .before .before in
     sym (passed _ _ _ (passed-1 (read .before .before)) (passed _ _ _ (passed-2 (few .before)) (passed _ _ _ (passed-3 few)
     (stopped _ _ (wrong-length _ _ _ (read .before .u16-at .ensures) (read .u16-at2 .ensures) (λ e. c .if5 .taken (omega (arith, e, c .before .table-length .ensures))))))))
-
-sends-at-requires : tie.Need-sends-at-requires
-sends-at-requires c κs = search needs
-
-receipts-at-requires : tie.Need-receipts-at-requires
-receipts-at-requires c κs = search needs
-
-sub-counts : tie.Need-sub-counts
-sub-counts c = search needs
-
-part-counts-start : tie.Need-part-counts-start
-part-counts-start c = search needs
-
-part-counts-end : tie.Need-part-counts-end
-part-counts-end c = search needs
-
-sub-sends : tie.Need-sub-sends
-sub-sends c = search needs
-
-part-sends-start : tie.Need-part-sends-start
-part-sends-start c = search needs
-
-part-sends-end : tie.Need-part-sends-end
-part-sends-end c = search needs
-
-sub-receipts : tie.Need-sub-receipts
-sub-receipts c = search needs
-
-part-receipts-start : tie.Need-part-receipts-start
-part-receipts-start c = search needs
-
-part-receipts-end : tie.Need-part-receipts-end
-part-receipts-end c = search needs
-
-entry-checks-requires : tie.Need-entry-checks-requires
-entry-checks-requires c κs = search needs
 
 returns-6 : tie.Need-returns-6
 returns-6 c =
@@ -133,25 +82,25 @@ check-spec =
     tie.close
     (tie.spec
     returns
-    u16-at-requires
-    cast-n
-    u16-at-requires-2
-    cast-m
+    (λ c κs. search needs)
+    (λ c. search needs)
+    (λ c κs. search needs)
+    (λ c. search needs)
     returns-2
     returns-3
     returns-4
-    table-length-requires
+    (λ c κs. search needs)
     returns-5
-    sends-at-requires
-    receipts-at-requires
-    sub-counts
-    part-counts-start
-    part-counts-end
-    sub-sends
-    part-sends-start
-    part-sends-end
-    sub-receipts
-    part-receipts-start
-    part-receipts-end
-    entry-checks-requires
+    (λ c κs. search needs)
+    (λ c κs. search needs)
+    (λ c. search needs)
+    (λ c. search needs)
+    (λ c. search needs)
+    (λ c. search needs)
+    (λ c. search needs)
+    (λ c. search needs)
+    (λ c. search needs)
+    (λ c. search needs)
+    (λ c. search needs)
+    (λ c κs. search needs)
     returns-6)

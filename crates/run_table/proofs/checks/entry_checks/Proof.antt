@@ -20,14 +20,8 @@ messages c =
     let args = c .before .before .before .before .before .args in
     checksBelow (messageChecks (args .n) (now (args .counts)) (now (args .sends)) (now (args .receipts))) (args .m)
 
-bad-count-requires : tie.Need-bad-count-requires
-bad-count-requires c κs = search needs
-
 returns : tie.Need-returns
 returns c = sym (stopped _ _ (sym (c .before .bad-count .ensures) ∙ c .if1 .taken))
-
-first-fault-requires : tie.Need-first-fault-requires
-first-fault-requires c κs = search needs
 
 mul-result : tie.Need-mul-result
 mul-result c = omega (arith, place-within (messages (c .before)), c .first-fault .ensures)
@@ -42,4 +36,4 @@ returns-2 c =
     (number-there (messages quiet) ∙ ap (λ (i : ℕ). getD (6 ∷ 6 ∷ 7 ∷ 8 ∷ 9 ∷ 0 ∷ []) i 0) (sym (c .first-fault .ensures))))
 
 pub entry-checks-spec : {M : Type 1} → statement M
-entry-checks-spec = tie.close (tie.spec bad-count-requires returns first-fault-requires mul-result array-read-result returns-2)
+entry-checks-spec = tie.close (tie.spec (λ c κs. search needs) returns (λ c κs. search needs) mul-result array-read-result returns-2)

@@ -37,20 +37,11 @@ past-4 c x later = past-3 (c .before .before) (x + 1) (place-passes _ _ x (sym (
 past-5 : (c : tie.Else5) → Past (c .before .before .before .before .before .before .before .before) 5
 past-5 c x later = past-4 (c .before .before) (x + 1) (place-passes _ _ x (sym (c .before .not-below-at2 .ensures) ∙ c .if5 .left) later) ∙ omega arith
 
-unknown-at-requires : tie.Need-unknown-at-requires
-unknown-at-requires c κs = search needs
-
 returns : tie.Need-returns
 returns c = sym (place-stops _ _ (sym (c .before .unknown-at .ensures) ∙ c .if1 .taken))
 
-unknown-at-requires-2 : tie.Need-unknown-at-requires-2
-unknown-at-requires-2 c κs = search needs
-
 returns-2 : tie.Need-returns-2
 returns-2 c = sym (past-1 (c .before .before) _ (place-stops _ _ (sym (c .before .unknown-at2 .ensures) ∙ c .if2 .taken)))
-
-to-itself-at-requires : tie.Need-to-itself-at-requires
-to-itself-at-requires c κs = search needs
 
 returns-3 : tie.Need-returns-3
 returns-3 c = sym (past-2 (c .before .before) _ (place-stops _ _ (sym (c .before .to-itself-at .ensures) ∙ c .if3 .taken)))
@@ -78,11 +69,11 @@ pub fault-at-spec : {M : Type 1} → statement M
 fault-at-spec =
     tie.close
     (tie.spec
-    unknown-at-requires
+    (λ c κs. search needs)
     returns
-    unknown-at-requires-2
+    (λ c κs. search needs)
     returns-2
-    to-itself-at-requires
+    (λ c κs. search needs)
     returns-3
     not-below-at-requires
     returns-4

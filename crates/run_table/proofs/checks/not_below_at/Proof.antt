@@ -8,27 +8,6 @@ use Rattle.run_table.specs.Parts.{notBelowAt}
 use Rattle.run_table.proofs.checks.not_below_at.Statement.{statement}
 use Rattle.run_table.proofs.checks.not_below_at.Tie as tie
 
-mul-u16-at : tie.Need-mul-u16-at
-mul-u16-at c = search needs
-
-u16-at-requires : tie.Need-u16-at-requires
-u16-at-requires c κs = search needs
-
-cast-process : tie.Need-cast-process
-cast-process c = search needs
-
-mul-u16-at-2 : tie.Need-mul-u16-at-2
-mul-u16-at-2 c = search needs
-
-add-u16-at : tie.Need-add-u16-at
-add-u16-at c = search needs
-
-u16-at-requires-2 : tie.Need-u16-at-requires-2
-u16-at-requires-2 c κs = search needs
-
-mul-u16-at-3 : tie.Need-mul-u16-at-3
-mul-u16-at-3 c = search needs
-
 u16-at-requires-3 : tie.Need-u16-at-requires-3
 u16-at-requires-3 c κs = omega (arith, process-known _ _ _ (c .before .before .before .before .pre .1 .1))
 
@@ -40,12 +19,12 @@ pub not-below-at-spec : {M : Type 1} → statement M
 not-below-at-spec =
     tie.close
     (tie.spec
-    mul-u16-at
-    u16-at-requires
-    cast-process
-    mul-u16-at-2
-    add-u16-at
-    u16-at-requires-2
-    mul-u16-at-3
+    (λ c. search needs)
+    (λ c κs. search needs)
+    (λ c. search needs)
+    (λ c. search needs)
+    (λ c. search needs)
+    (λ c κs. search needs)
+    (λ c. search needs)
     u16-at-requires-3
     returns)

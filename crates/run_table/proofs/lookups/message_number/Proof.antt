@@ -21,89 +21,11 @@ none-number Received = refl
 named : (f g : Field) (m : Message) (r : ℕ) → f ≡ g → r ≡ numberOf g m → r ≡ numberOf f m
 named f g m r e read = read ∙ sym (ap (λ (h : Field). numberOf h m) e)
 
-u16-or-zero-requires : tie.Need-u16-or-zero-requires
-u16-or-zero-requires c κs = search needs
-
-cast-n : tie.Need-cast-n
-cast-n c = search needs
-
-u16-or-zero-requires-2 : tie.Need-u16-or-zero-requires-2
-u16-or-zero-requires-2 c κs = search needs
-
-cast-m : tie.Need-cast-m
-cast-m c = search needs
-
 returns : tie.Need-returns
 returns c =
     let read = c .before in
     let field = read .before .before .before .args .field in
     sym (ap (numberOf field) (message-none _ _ _ (read .before .u16-or-zero .ensures) (read .u16-or-zero2 .ensures) _ (c .if1 .taken)) ∙ none-number field)
-
-enum-told : tie.Need-enum-told
-enum-told c = search needs
-
-sends-at-requires : tie.Need-sends-at-requires
-sends-at-requires c κs = search needs
-
-mul-u16-or-zero : tie.Need-mul-u16-or-zero
-mul-u16-or-zero c = search needs
-
-add-u16-or-zero : tie.Need-add-u16-or-zero
-add-u16-or-zero c = search needs
-
-u16-or-zero-requires-3 : tie.Need-u16-or-zero-requires-3
-u16-or-zero-requires-3 c κs = search needs
-
-enum-told-2 : tie.Need-enum-told-2
-enum-told-2 c = search needs
-
-sends-at-requires-2 : tie.Need-sends-at-requires-2
-sends-at-requires-2 c κs = search needs
-
-mul-u16-or-zero-2 : tie.Need-mul-u16-or-zero-2
-mul-u16-or-zero-2 c = search needs
-
-add-u16-or-zero-2 : tie.Need-add-u16-or-zero-2
-add-u16-or-zero-2 c = search needs
-
-add-u16-or-zero-3 : tie.Need-add-u16-or-zero-3
-add-u16-or-zero-3 c = search needs
-
-u16-or-zero-requires-4 : tie.Need-u16-or-zero-requires-4
-u16-or-zero-requires-4 c κs = search needs
-
-enum-told-3 : tie.Need-enum-told-3
-enum-told-3 c = search needs
-
-receipts-at-requires : tie.Need-receipts-at-requires
-receipts-at-requires c κs = search needs
-
-mul-u16-or-zero-3 : tie.Need-mul-u16-or-zero-3
-mul-u16-or-zero-3 c = search needs
-
-add-u16-or-zero-4 : tie.Need-add-u16-or-zero-4
-add-u16-or-zero-4 c = search needs
-
-u16-or-zero-requires-5 : tie.Need-u16-or-zero-requires-5
-u16-or-zero-requires-5 c κs = search needs
-
-enum-told-4 : tie.Need-enum-told-4
-enum-told-4 c = search needs
-
-receipts-at-requires-2 : tie.Need-receipts-at-requires-2
-receipts-at-requires-2 c κs = search needs
-
-mul-u16-or-zero-4 : tie.Need-mul-u16-or-zero-4
-mul-u16-or-zero-4 c = search needs
-
-add-u16-or-zero-5 : tie.Need-add-u16-or-zero-5
-add-u16-or-zero-5 c = search needs
-
-add-u16-or-zero-6 : tie.Need-add-u16-or-zero-6
-add-u16-or-zero-6 c = search needs
-
-u16-or-zero-requires-6 : tie.Need-u16-or-zero-requires-6
-u16-or-zero-requires-6 c κs = search needs
 
 returns-2 : tie.Need-returns-2
 returns-2 c =
@@ -141,33 +63,33 @@ pub message-number-spec : {M : Type 1} → statement M
 message-number-spec =
     tie.close
     (tie.spec
-    u16-or-zero-requires
-    cast-n
-    u16-or-zero-requires-2
-    cast-m
+    (λ c κs. search needs)
+    (λ c. search needs)
+    (λ c κs. search needs)
+    (λ c. search needs)
     returns
-    enum-told
-    sends-at-requires
-    mul-u16-or-zero
-    add-u16-or-zero
-    u16-or-zero-requires-3
-    enum-told-2
-    sends-at-requires-2
-    mul-u16-or-zero-2
-    add-u16-or-zero-2
-    add-u16-or-zero-3
-    u16-or-zero-requires-4
-    enum-told-3
-    receipts-at-requires
-    mul-u16-or-zero-3
-    add-u16-or-zero-4
-    u16-or-zero-requires-5
-    enum-told-4
-    receipts-at-requires-2
-    mul-u16-or-zero-4
-    add-u16-or-zero-5
-    add-u16-or-zero-6
-    u16-or-zero-requires-6
+    (λ c. search needs)
+    (λ c κs. search needs)
+    (λ c. search needs)
+    (λ c. search needs)
+    (λ c κs. search needs)
+    (λ c. search needs)
+    (λ c κs. search needs)
+    (λ c. search needs)
+    (λ c. search needs)
+    (λ c. search needs)
+    (λ c κs. search needs)
+    (λ c. search needs)
+    (λ c κs. search needs)
+    (λ c. search needs)
+    (λ c. search needs)
+    (λ c κs. search needs)
+    (λ c. search needs)
+    (λ c κs. search needs)
+    (λ c. search needs)
+    (λ c. search needs)
+    (λ c. search needs)
+    (λ c κs. search needs)
     returns-2
     returns-3
     returns-4

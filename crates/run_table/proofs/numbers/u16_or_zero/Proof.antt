@@ -11,34 +11,19 @@ use Rattle.run_table.proofs.numbers.u16_or_zero.Tie as tie
 returns : tie.Need-returns
 returns c = sym (u16At-beyond (now (c .before .before .args .bytes)) (c .before .before .args .at) (search needs))
 
-sub-if2 : tie.Need-sub-if2
-sub-if2 c = search needs
-
-shared-slice-read-u16-of : tie.Need-shared-slice-read-u16-of
-shared-slice-read-u16-of c = search needs
-
-u16-of-requires : tie.Need-u16-of-requires
-u16-of-requires c κs = search needs
-
 returns-2 : tie.Need-returns-2
 returns-2 c =
     let start = c .before .before .before .before .before in
     omega (arith, c .u16-of .ensures, u16At-last (now (start .args .bytes)) (start .args .at) (omega arith))
-
-u16-at-requires : tie.Need-u16-at-requires
-u16-at-requires c κs = search needs
-
-returns-3 : tie.Need-returns-3
-returns-3 c = search needs
 
 pub u16-or-zero-spec : {M : Type 1} → statement M
 u16-or-zero-spec =
     tie.close
     (tie.spec
     returns
-    sub-if2
-    shared-slice-read-u16-of
-    u16-of-requires
+    (λ c. search needs)
+    (λ c. search needs)
+    (λ c κs. search needs)
     returns-2
-    u16-at-requires
-    returns-3)
+    (λ c κs. search needs)
+    (λ c. search needs))

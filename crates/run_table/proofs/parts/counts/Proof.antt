@@ -6,17 +6,8 @@ use Rattle.run_table.proofs.ReadLaws.{counts-taken, processes-few, whol
 use Rattle.run_table.proofs.parts.counts.Statement.{statement}
 use Rattle.run_table.proofs.parts.counts.Tie as tie
 
-process-count-requires : tie.Need-process-count-requires
-process-count-requires c κs = search needs
-
 sends-at-requires : tie.Need-sends-at-requires
 sends-at-requires c κs = omega (arith, processes-few _ (c .before .before .pre), c .process-count .ensures)
-
-sub-result : tie.Need-sub-result
-sub-result c = search needs
-
-part-result-start : tie.Need-part-result-start
-part-result-start c = search needs
 
 part-result-end : tie.Need-part-result-end
 part-result-end c =
@@ -33,9 +24,9 @@ pub counts-spec : {M : Type 1} → statement M
 counts-spec =
     tie.close
     (tie.spec
-    process-count-requires
+    (λ c κs. search needs)
     sends-at-requires
-    sub-result
-    part-result-start
+    (λ c. search needs)
+    (λ c. search needs)
     part-result-end
     returns)

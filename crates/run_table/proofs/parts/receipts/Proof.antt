@@ -10,12 +10,6 @@ use Rattle.run_table.specs.Table.{messageCount, processCount}
 use Rattle.run_table.proofs.parts.receipts.Statement.{statement}
 use Rattle.run_table.proofs.parts.receipts.Tie as tie
 
-process-count-requires : tie.Need-process-count-requires
-process-count-requires c κs = search needs
-
-message-count-requires : tie.Need-message-count-requires
-message-count-requires c κs = search needs
-
 receipts-at-requires : tie.Need-receipts-at-requires
 receipts-at-requires c κs =
     let counted = c .before in
@@ -33,9 +27,6 @@ sub-result c = omega (arith, whole _ (c .before .before .before .before .pre), s
 part-result-start : tie.Need-part-result-start
 part-result-start c = omega (arith, whole _ (c .before .before .before .before .pre), start c)
 
-part-result-end : tie.Need-part-result-end
-part-result-end c = search needs
-
 returns : tie.Need-returns
 returns c =
     let placed = c .before in
@@ -45,10 +36,10 @@ pub receipts-spec : {M : Type 1} → statement M
 receipts-spec =
     tie.close
     (tie.spec
-    process-count-requires
-    message-count-requires
+    (λ c κs. search needs)
+    (λ c κs. search needs)
     receipts-at-requires
     sub-result
     part-result-start
-    part-result-end
+    (λ c. search needs)
     returns)

@@ -6,26 +6,14 @@ use Rattle.run_table.proofs.ReadLaws.{messages-few, processes-few, send
 use Rattle.run_table.proofs.parts.sends.Statement.{statement}
 use Rattle.run_table.proofs.parts.sends.Tie as tie
 
-process-count-requires : tie.Need-process-count-requires
-process-count-requires c κs = search needs
-
 sends-at-requires : tie.Need-sends-at-requires
 sends-at-requires c κs = omega (arith, processes-few _ (c .before .before .pre), c .process-count .ensures)
-
-message-count-requires : tie.Need-message-count-requires
-message-count-requires c κs = search needs
 
 receipts-at-requires : tie.Need-receipts-at-requires
 receipts-at-requires c κs =
     let counted = c .before .before in
     let none = counted .before .before .pre in
     omega (arith, processes-few _ none, messages-few _ none, counted .process-count .ensures, c .message-count .ensures)
-
-sub-result : tie.Need-sub-result
-sub-result c = search needs
-
-part-result-start : tie.Need-part-result-start
-part-result-start c = search needs
 
 part-result-end : tie.Need-part-result-end
 part-result-end c =
@@ -46,11 +34,11 @@ pub sends-spec : {M : Type 1} → statement M
 sends-spec =
     tie.close
     (tie.spec
-    process-count-requires
+    (λ c κs. search needs)
     sends-at-requires
-    message-count-requires
+    (λ c κs. search needs)
     receipts-at-requires
-    sub-result
-    part-result-start
+    (λ c. search needs)
+    (λ c. search needs)
     part-result-end
     returns)

@@ -17,26 +17,11 @@ Inv-loop table process list m receipts a₀ a = Positions (decode table) process
 abbrev μ-loop : tie.MeasureT-loop
 μ-loop table process list m receipts a₀ a = length list - a
 
-message-count-requires : tie.Need-message-count-requires Inv-loop μ-loop
-message-count-requires c κs = search needs
-
-receipts-requires : tie.Need-receipts-requires Inv-loop μ-loop
-receipts-requires c κs = search needs
-
 loop-holds : tie.Need-loop-holds Inv-loop μ-loop
 loop-holds c = positions-none _ _ _
 
-mul-k : tie.Need-mul-k Inv-loop μ-loop
-mul-k c = omega arith
-
-shared-slice-read-k : tie.Need-shared-slice-read-k Inv-loop μ-loop
-shared-slice-read-k c = omega arith
-
 cast-k : tie.Need-cast-k Inv-loop μ-loop
 cast-k c = omega (arith, c .shared-slice-known3 .given (c .before .before .loop .a))
-
-add-a : tie.Need-add-a Inv-loop μ-loop
-add-a c = omega arith
 
 returns : tie.Need-returns Inv-loop μ-loop
 returns c = position-bad _ _ _ (c .before .before .before .loop .a) (c .before .before .loop-test .taken) (bad-beyond _ (c .before .before .before .before .before .before .before .before .pre) _ _ (omega (arith, c .before .before .before .before .before .message-count .ensures, c .if1 .taken)))
@@ -62,9 +47,6 @@ u16-at-requires-2 c κs = omega (arith, receipts-size _ (c .before .before .befo
 returns-3 : tie.Need-returns-3 Inv-loop μ-loop
 returns-3 c = position-bad _ _ _ (c .before .before .before .before .before .before .before .loop .a) (c .before .before .before .before .before .before .loop-test .taken) (bad-received _ (c .before .before .before .before .before .before .before .before .before .before .before .before .pre) _ _ (omega (arith, c .before .before .before .before .before .before .before .before .before .message-count .ensures, c .before .before .before .before .if1 .left)) _ (c .before .before .before .before .before .before .before .before .receipts .ensures) _ (c .before .u16-at2 .ensures) (c .if3 .taken))
 
-loop-less : tie.Need-loop-less Inv-loop μ-loop
-loop-less c = omega arith
-
 loop-again : tie.Need-loop-again Inv-loop μ-loop
 loop-again c = positions-more _ _ _ (c .before .before .before .before .before .before .before .loop .a) (c .before .before .before .before .before .before .before .loop .inv) (c .before .before .before .before .before .before .loop-test .taken) (good-here _ (c .before .before .before .before .before .before .before .before .before .before .before .before .pre) _ _ (omega (arith, c .before .before .before .before .before .before .before .before .before .message-count .ensures, c .before .before .before .before .if1 .left)) _ (c .before .before .before .before .before .before .before .before .receipts .ensures) _ _ (c .before .before .before .u16-at .ensures) (c .before .u16-at2 .ensures) (c .before .before .if2 .left) (c .if3 .left))
 
@@ -77,13 +59,13 @@ bad-position-spec =
     (tie.spec
     Inv-loop
     μ-loop
-    message-count-requires
-    receipts-requires
+    (λ c κs. search needs)
+    (λ c κs. search needs)
     loop-holds
-    mul-k
-    shared-slice-read-k
+    (λ c. omega arith)
+    (λ c. omega arith)
     cast-k
-    add-a
+    (λ c. omega arith)
     returns
     mul-u16-at
     u16-at-requires
@@ -92,6 +74,6 @@ bad-position-spec =
     add-u16-at
     u16-at-requires-2
     returns-3
-    loop-less
+    (λ c. omega arith)
     loop-again
     returns-4)

@@ -1,131 +1,122 @@
--- `saving::put_checkpoint` meets its contract: the sizes and the counts, the count that grows, the sends, the receipts.
+-- `saving::put_checkpoint` meets its contract: the head with the count that grows, the sends, the receipts.
 -- Assumes nothing.
 use borrow.Author.Needs.{needs}
 use native.Mathlib.Omega.{arith}
 use mathlib.Core.List.{List}
-use mathlib.Core.Path.{_≡_, sym, ap, _∙_}
-use Prim.Native.Nat.{ℕ, _*_}
+use mathlib.Core.Path.{_≡_, refl, _∙_}
+use Prim.Native.Nat.{ℕ, _+_}
 use denote.Ref.{now}
-use lib.ListN.{length}
-use Rattle.run_table.proofs.ReadLaws.{count-is, counts-size, counts-small, messages-few, receipts-size, sends-size}
-use Rattle.run_table.specs.Format.{countAt, decode}
-use Rattle.run_table.specs.Table.{countOf}
+use lib.ListN.{getD, length, set, length-set}
 use Rattle.steps.proofs.CheckpointLaws.{checkpoint-put}
+use Rattle.steps.proofs.PutLaws.{Read, array-long, count-small, front-size, m-few, n-few, receipts-long, sends-long}
 use Rattle.steps.proofs.SavingLaws.{positions-below}
 use Rattle.steps.proofs.saving.put_checkpoint.Statement.{statement}
 use Rattle.steps.proofs.saving.put_checkpoint.Tie as tie
 
--- the new receipt, as it was read
-number-is : (c : tie.After-u16-at) → c .u16-at .result ≡ countOf (decode (now (c .before .before .before .before .before .before .before .args .table))) (c .before .before .before .before .before .before .before .args .process)
-unfolding countAt
-number-is c = c .u16-at .ensures ∙ ap (λ (x : List ℕ). countAt x (c .before .before .before .before .before .before .before .args .process)) (c .before .counts .ensures) ∙ count-is _ (c .before .before .before .before .before .before .before .pre .0) _ (c .before .before .before .before .before .before .before .pre .1 .0)
+-- the places, from the last back to the entry
+abbrev sends-read : tie.After-receipts → tie.After-sends
+sends-read c = c .before .before .before .before .before .before
 
-process-count-requires : tie.Need-process-count-requires
-process-count-requires c κs = search needs
+abbrev head-put : tie.After-sends → tie.After-put-head
+head-put c = c .before .before .before .before .before
 
-message-count-requires : tie.Need-message-count-requires
-message-count-requires c κs = search needs
+abbrev counted : tie.After-put-head → tie.After-count-array
+counted c = c .before .before .before
 
-counts-requires : tie.Need-counts-requires
-counts-requires c κs = search needs
+abbrev start : tie.After-count-array → tie.Start
+start c = c .before .before .before .before .before .before
 
-mul-u16-at : tie.Need-mul-u16-at
-mul-u16-at c = search needs
+-- what was read of the table
+known : (c : tie.After-count-array) → Read (now (start c .args .table)) (c .before .before .process-count .result) (c .before .message-count .result) (c .count-array .result)
+known c = record {
+  none = start c .pre .0;
+  read-n = c .before .before .process-count .ensures;
+  read-m = c .before .message-count .ensures;
+  read-counts = c .count-array .ensures;
+}
 
-u16-at-requires : tie.Need-u16-at-requires
-u16-at-requires c κs = omega (arith, counts-size _ (c .before .before .before .before .before .before .pre .0), ap length (c .counts .ensures), c .before .before .before .before .before .before .pre .1 .0)
+-- the counts with the one that grows
+abbrev grown : tie.After-count-array → List ℕ
+grown c = set (c .count-array .result) (start c .args .process) (getD (c .count-array .result) (start c .args .process) 0 + 1)
+
+grown-long : (c : tie.After-count-array) → length (grown c) ≡ 32
+grown-long c = length-set (c .count-array .result) (start c .args .process) _ ∙ array-long (known c)
+
+array-read-number : tie.Need-array-read-number
+array-read-number c = omega (arith, start c .pre .1 .0, known c .read-n, n-few (known c))
+
+add-counts : tie.Need-add-counts
+add-counts c = omega (arith, count-small (known c) _ (start c .pre .1 .0))
+
+array-write-counts : tie.Need-array-write-counts
+array-write-counts c = omega (arith, start c .pre .1 .0, known c .read-n, n-few (known c))
+
+array-share-prefix-counts : tie.Need-array-share-prefix-counts
+array-share-prefix-counts c = omega (arith, n-few (known (c .before)), grown-long (c .before))
+
+slice-aggregate-put-head : tie.Need-slice-aggregate-put-head
+slice-aggregate-put-head c = front-size (known (c .before .before)) _ (grown-long (c .before .before))
 
 put-head-requires : tie.Need-put-head-requires
-put-head-requires c κs = (c .before .before .before .before .before .before .before .before .pre .0, omega (arith, messages-few _ (c .before .before .before .before .before .before .before .before .pre .0), c .before .before .before .message-count .ensures, c .before .before .before .before .before .before .before .before .pre .1 .1 .1))
+put-head-requires c κs =
+    let read = c .before .before in
+    omega (arith, start read .pre .1 .1 .1, n-few (known read), m-few (known read), front-size (known read) (grown read) (grown-long read), known read .read-n, known read .read-m)
 
-mul-put-u16 : tie.Need-mul-put-u16
-mul-put-u16 c = search needs
-
-add-put-u16 : tie.Need-add-put-u16
-add-put-u16 c = search needs
-
-add-put-u16-2 : tie.Need-add-put-u16-2
-add-put-u16-2 c = omega (arith, number-is (c .before .before .before .before .before), count-is _ (c .before .before .before .before .before .before .before .before .before .before .before .before .pre .0) _ (c .before .before .before .before .before .before .before .before .before .before .before .before .pre .1 .0), counts-small _ (c .before .before .before .before .before .before .before .before .before .before .before .before .pre .0) _ (c .before .before .before .before .before .before .before .before .before .before .before .before .pre .1 .0))
-
-put-u16-requires : tie.Need-put-u16-requires
-put-u16-requires c κs = search needs
-
-sends-requires : tie.Need-sends-requires
-sends-requires c κs = search needs
-
-mul-copy-numbers : tie.Need-mul-copy-numbers
-mul-copy-numbers c = search needs
-
-mul-copy-numbers-2 : tie.Need-mul-copy-numbers-2
-mul-copy-numbers-2 c = search needs
-
-add-copy-numbers : tie.Need-add-copy-numbers
-add-copy-numbers c = search needs
+sends-at-requires : tie.Need-sends-at-requires
+sends-at-requires c κs = omega (arith, n-few (known (counted (c .before .before .before))))
 
 copy-numbers-requires : tie.Need-copy-numbers-requires
-copy-numbers-requires c κs = omega (arith, sends-size _ (c .before .before .before .before .before .before .before .before .before .before .before .before .before .before .before .before .before .pre .0), ap length (c .before .sends .ensures), c .before .before .before .before .before .before .before .before .before .before .before .before .before .process-count .ensures, c .before .before .before .before .before .before .before .before .before .before .before .before .message-count .ensures, c .before .before .before .before .before .before .before .before .before .before .before .before .before .before .before .before .before .pre .1 .1 .1, c .before .before .before .before .before .before .before .before .put-head .kept, c .before .before .before .before .put-u16 .kept)
+copy-numbers-requires c κs =
+    let read = counted (head-put c) in
+    omega (arith, sends-long (known read) _ (c .sends .ensures), start read .pre .1 .1 .1, known read .read-n, known read .read-m, c .before .sends-at .ensures, head-put c .put-head .kept)
 
-receipts-requires : tie.Need-receipts-requires
-receipts-requires c κs = search needs
-
-mul-put-receipts : tie.Need-mul-put-receipts
-mul-put-receipts c = search needs
-
-add-put-receipts : tie.Need-add-put-receipts
-add-put-receipts c = search needs
-
-mul-put-receipts-2 : tie.Need-mul-put-receipts-2
-mul-put-receipts-2 c = search needs
-
-add-put-receipts-2 : tie.Need-add-put-receipts-2
-add-put-receipts-2 c = search needs
+receipts-at-requires : tie.Need-receipts-at-requires
+receipts-at-requires c κs =
+    let read = counted (head-put (c .before .before .before .before)) in
+    omega (arith, n-few (known read), m-few (known read))
 
 put-receipts-requires : tie.Need-put-receipts-requires
 put-receipts-requires c κs =
-    let start = c .before .before .before .before .before .before .before .before .before .before .before .before .before .before .before .before .before .before .before .before .before .before in
-    let m = c .before .before .before .before .before .before .before .before .before .before .before .before .before .before .before .before .before .message-count .ensures in (
-      ap length (c .before .receipts .ensures) ∙ receipts-size _ (start .pre .0) ∙ ap (λ (x : ℕ). 4 * x) (sym m),
+    let put = sends-read c in
+    let read = counted (head-put put) in (
+      receipts-long (known read) _ (c .receipts .ensures),
       (
-        positions-below _ _ _ (start .pre .1 .1 .0) _ m,
-        omega (arith, c .before .before .before .before .before .before .before .before .before .before .before .before .before .before .before .before .before .before .process-count .ensures, m, start .pre .1 .1 .1, c .before .before .before .before .before .before .before .before .before .before .before .before .before .put-head .kept, c .before .before .before .before .before .before .before .before .before .put-u16 .kept, c .before .before .before .before .copy-numbers .kept),
+        positions-below _ _ _ (start read .pre .1 .1 .0) _ (known read .read-m),
+        omega (arith, start read .pre .1 .1 .1, known read .read-n, known read .read-m, c .before .receipts-at .ensures, head-put put .put-head .kept, c .before .before .before .before .before .copy-numbers .kept),
       ),
     )
 
-same-length : tie.Need-same-length
-same-length c = search needs
-
 returns : tie.Need-returns
 returns c =
-    let start = c .before .before .before .before .before .before .before .before .before .before .before .before .before .before .before .before .before .before .before .before .before .before .before .before .before in
-    let n = c .before .before .before .before .before .before .before .before .before .before .before .before .before .before .before .before .before .before .before .before .before .process-count .ensures in
-    let m = c .before .before .before .before .before .before .before .before .before .before .before .before .before .before .before .before .before .before .before .before .message-count .ensures in
-    checkpoint-put _ (start .pre .0) _ _ _ _ _ _ _ _ _ _ _ _ n m (start .pre .1 .0) (c .before .before .before .before .before .before .before .before .before .sends .ensures) (c .before .before .before .before .receipts .ensures) (number-is (c .before .before .before .before .before .before .before .before .before .before .before .before .before .before .before .before .before .before)) (omega (arith, start .pre .1 .1 .1, n, m))
-    (c .before .before .before .before .before .before .before .before .before .before .before .before .before .before .before .before .put-head .ensures) (c .before .before .before .before .before .before .before .before .before .before .before .before .put-u16 .ensures) (c .before .before .before .before .before .before .before .copy-numbers .ensures) (c .before .before .put-receipts .ensures)
+    let last = c .before .before in
+    let put = sends-read (last .before) in
+    let read = counted (head-put put) in
+    checkpoint-put (known read) _ (start read .pre .1 .0) _ _ (put .before .sends-at .result) (last .before .before .receipts-at .result) _ _ _ _ _ _
+    (put .sends .ensures) (last .before .receipts .ensures) refl (put .before .sends-at .ensures) (last .before .before .receipts-at .ensures)
+    (omega (arith, start read .pre .1 .1 .1, known read .read-n, known read .read-m)) (head-put put .put-head .ensures)
+    (last .before .before .before .before .before .before .copy-numbers .ensures) (last .put-receipts .ensures)
 
 pub put-checkpoint-spec : {M : Type 1} → statement M
 put-checkpoint-spec =
     tie.close
     (tie.spec
-    process-count-requires
-    message-count-requires
-    counts-requires
-    mul-u16-at
-    u16-at-requires
+    (λ c κs. search needs)
+    (λ c κs. search needs)
+    (λ c κs. search needs)
+    (λ c. search needs)
+    array-read-number
+    add-counts
+    (λ c. search needs)
+    array-write-counts
+    array-share-prefix-counts
+    slice-aggregate-put-head
     put-head-requires
-    mul-put-u16
-    add-put-u16
-    add-put-u16-2
-    put-u16-requires
-    sends-requires
-    mul-copy-numbers
-    mul-copy-numbers-2
-    add-copy-numbers
+    sends-at-requires
+    (λ c κs. search needs)
+    (λ c. search needs)
     copy-numbers-requires
-    receipts-requires
-    mul-put-receipts
-    add-put-receipts
-    mul-put-receipts-2
-    add-put-receipts-2
+    receipts-at-requires
+    (λ c κs. search needs)
     put-receipts-requires
-    same-length
+    (λ c. search needs)
     returns)

@@ -11,29 +11,22 @@ use Rattle.steps.proofs.saving.put_receipts.Statement.{statement}
 use Rattle.steps.proofs.saving.put_receipts.Tie as tie
 
 abbrev Inv-loop : tie.InvT-loop
-Inv-loop receipts m list number answer₀ at a₀ answer a = Received receipts number m list at answer₀ answer a
+Inv-loop buffer₀ at receipts m list number a₀ buffer a = Received receipts number m list at buffer₀ buffer a
 
 abbrev μ-loop : tie.MeasureT-loop
-μ-loop receipts m list number answer₀ at a₀ answer a = length list - a
+μ-loop buffer₀ at receipts m list number a₀ buffer a = length list - a
 
--- the listed position is one of a message
-below : (c : tie.After-shared-slice-known3 Inv-loop μ-loop) → getD (now (c .before .before .before .before .before .before .before .before .before .before .args .list)) (c .before .before .loop .a) 0 < c .before .before .before .before .before .before .before .before .before .before .args .m
-below c = c .before .before .before .before .before .before .before .before .before .before .pre .1 .0 (c .before .before .loop .a) (c .before .loop-test .taken)
+-- the entry, where a position is read; it is one of a message
+abbrev start : tie.After-shared-slice-known3 Inv-loop μ-loop → tie.Start Inv-loop μ-loop
+start c =
+    let copied = c .before .before .before .before .before in
+    copied .before .before .before .before .before
 
-mul-copy-numbers : tie.Need-mul-copy-numbers Inv-loop μ-loop
-mul-copy-numbers c = omega arith
-
-copy-numbers-requires : tie.Need-copy-numbers-requires Inv-loop μ-loop
-copy-numbers-requires c κs = omega arith
+below : (c : tie.After-shared-slice-known3 Inv-loop μ-loop) → getD (now (start c .args .list)) (c .before .before .loop .a) 0 < start c .args .m
+below c = start c .pre .1 .0 (c .before .before .loop .a) (c .before .loop-test .taken)
 
 loop-holds : tie.Need-loop-holds Inv-loop μ-loop
 loop-holds c = received-none _ _ _ _ _ _ (omega (arith, c .before .before .copy-numbers .kept))
-
-mul-k : tie.Need-mul-k Inv-loop μ-loop
-mul-k c = search needs
-
-shared-slice-read-k : tie.Need-shared-slice-read-k Inv-loop μ-loop
-shared-slice-read-k c = search needs
 
 cast-k : tie.Need-cast-k Inv-loop μ-loop
 cast-k c = omega (arith, c .shared-slice-known3 .given (c .before .before .loop .a))
@@ -50,12 +43,6 @@ add-put-u16-2 c = omega (arith, below (c .before), c .before .before .before .lo
 put-u16-requires : tie.Need-put-u16-requires Inv-loop μ-loop
 put-u16-requires c κs = omega (arith, below (c .before), c .before .before .before .loop .inv .room, c .before .before .before .loop .inv .same-length)
 
-add-a : tie.Need-add-a Inv-loop μ-loop
-add-a c = omega arith
-
-loop-less : tie.Need-loop-less Inv-loop μ-loop
-loop-less c = omega arith
-
 loop-again : tie.Need-loop-again Inv-loop μ-loop
 loop-again c = received-more _ _ _ _ _ _ _ _ (c .before .before .before .before .before .before .loop .inv) (c .before .before .before .before .before .loop-test .taken) _ refl (below (c .before .before .before .before)) _ (omega (arith, c .before .before .put-u16 .kept)) (c .before .before .put-u16 .ensures)
 
@@ -71,18 +58,18 @@ put-receipts-spec =
     (tie.spec
     Inv-loop
     μ-loop
-    mul-copy-numbers
-    copy-numbers-requires
+    (λ c. omega arith)
+    (λ c κs. omega arith)
     loop-holds
-    mul-k
-    shared-slice-read-k
+    (λ c. search needs)
+    (λ c. search needs)
     cast-k
     mul-put-u16
     add-put-u16
     add-put-u16-2
     put-u16-requires
-    add-a
-    loop-less
+    (λ c. omega arith)
+    (λ c. omega arith)
     loop-again
     same-length
     returns)

@@ -2,104 +2,101 @@
 -- Assumes nothing.
 use borrow.Author.Needs.{needs}
 use native.Mathlib.Omega.{arith}
-use mathlib.Core.List.{List}
-use mathlib.Core.Path.{_≡_, sym, ap, _∙_, subst⁻¹}
-use Prim.Native.Nat.{ℕ, _-_, _*_, _<_}
+use mathlib.Core.Path.{refl}
 use denote.Ref.{now}
-use lib.ListN.{length}
-use Rattle.run_table.proofs.ReadLaws.{count-is, counts-positive, counts-size, messages-few, processes-few, receipts-size, sends-size}
-use Rattle.steps.proofs.PutLaws.{send-put}
-use Rattle.run_table.specs.Format.{countAt, decode}
-use Rattle.run_table.specs.Table.{countOf}
+use Rattle.steps.proofs.PutLaws.{Read, array-long, count-positive, front-size, m-few, n-few, receipts-long, send-put, sends-long}
 use Rattle.steps.proofs.sending.put_send.Statement.{statement}
 use Rattle.steps.proofs.sending.put_send.Tie as tie
 
--- the send number, as it was read
-sent-is : (c : tie.After-latest) → c .latest .result ≡ countOf (decode (now (c .before .before .before .before .before .before .args .table))) (c .before .before .before .before .before .before .args .from) - 1
-sent-is c =
-    c .latest .ensures
-    ∙ ap (λ (x : ℕ). x - 1) (ap (λ (x : List ℕ). countAt x (c .before .before .before .before .before .before .args .from)) (c .before .counts .ensures) ∙ count-is _ (c .before .before .before .before .before .before .pre .0) _ (c .before .before .before .before .before .before .pre .1 .0))
+-- the places, from the last back to the entry
+abbrev sends-read : tie.After-receipts → tie.After-sends
+sends-read c = c .before .before .before .before .before .before
 
-process-count-requires : tie.Need-process-count-requires
-process-count-requires c κs = search needs
+abbrev head-put : tie.After-sends → tie.After-put-head
+head-put c = c .before .before .before .before .before
 
-message-count-requires : tie.Need-message-count-requires
-message-count-requires c κs = search needs
+abbrev counted : tie.After-put-head → tie.After-count-array
+counted c = c .before .before .before
 
-counts-requires : tie.Need-counts-requires
-counts-requires c κs = search needs
+abbrev start : tie.After-count-array → tie.Start
+start c = c .before .before .before .before .before
 
-latest-requires : tie.Need-latest-requires
-latest-requires c κs = (omega (arith, counts-size _ (c .before .before .before .before .before .pre .0), ap length (c .counts .ensures), c .before .before .before .before .before .pre .1 .0), subst⁻¹ (λ (x : List ℕ). 0 < countAt x (c .before .before .before .before .before .args .from)) (c .counts .ensures) (counts-positive _ (c .before .before .before .before .before .pre .0) _ (c .before .before .before .before .before .pre .1 .0)))
+-- what was read of the table
+known : (c : tie.After-count-array) → Read (now (start c .args .table)) (c .before .before .process-count .result) (c .before .message-count .result) (c .count-array .result)
+known c = record {
+  none = start c .pre .0;
+  read-n = c .before .before .process-count .ensures;
+  read-m = c .before .message-count .ensures;
+  read-counts = c .count-array .ensures;
+}
 
-add-put-head : tie.Need-add-put-head
-add-put-head c = search needs
+array-read-sent : tie.Need-array-read-sent
+array-read-sent c = omega (arith, start c .pre .1 .0, known c .read-n, n-few (known c))
+
+sub-sent : tie.Need-sub-sent
+sub-sent c = count-positive (known c) _ (start c .pre .1 .0)
+
+array-share-prefix-counts : tie.Need-array-share-prefix-counts
+array-share-prefix-counts c = omega (arith, n-few (known (c .before)), array-long (known (c .before)))
+
+slice-aggregate-put-head : tie.Need-slice-aggregate-put-head
+slice-aggregate-put-head c = front-size (known (c .before .before)) _ (array-long (known (c .before .before)))
 
 put-head-requires : tie.Need-put-head-requires
-put-head-requires c κs = (c .before .before .before .before .before .before .before .pre .0, (omega (arith, processes-few _ (c .before .before .before .before .before .before .before .pre .0), messages-few _ (c .before .before .before .before .before .before .before .pre .0), c .before .before .before .before .process-count .ensures, c .before .before .before .message-count .ensures), omega (arith, c .before .before .before .before .before .before .before .pre .1 .1)))
+put-head-requires c κs =
+    let read = c .before .before in
+    omega (arith, start read .pre .1 .1, n-few (known read), m-few (known read), front-size (known read) (read .count-array .result) (array-long (known read)), known read .read-n, known read .read-m)
 
-sends-requires : tie.Need-sends-requires
-sends-requires c κs = search needs
-
-mul-put-longer : tie.Need-mul-put-longer
-mul-put-longer c = search needs
-
-add-put-longer : tie.Need-add-put-longer
-add-put-longer c = search needs
+sends-at-requires : tie.Need-sends-at-requires
+sends-at-requires c κs = omega (arith, n-few (known (counted (c .before .before .before))))
 
 put-longer-requires : tie.Need-put-longer-requires
-put-longer-requires c κs = (ap length (c .before .sends .ensures) ∙ sends-size _ (c .before .before .before .before .before .before .before .before .before .before .before .before .pre .0) ∙ ap (λ (x : ℕ). 4 * x) (sym (c .before .before .before .before .before .before .before .before .message-count .ensures)), omega (arith, c .before .before .before .before .before .before .before .before .before .before .before .before .pre .1 .1, processes-few _ (c .before .before .before .before .before .before .before .before .before .before .before .before .pre .0), messages-few _ (c .before .before .before .before .before .before .before .before .before .before .before .before .pre .0), c .before .before .before .before .before .before .before .before .before .process-count .ensures, c .before .before .before .before .before .before .before .before .message-count .ensures, c .before .before .before .before .put-head .kept))
+put-longer-requires c κs =
+    let read = counted (head-put c) in
+    (sends-long (known read) _ (c .sends .ensures), omega (arith, start read .pre .1 .1, known read .read-n, known read .read-m, c .before .sends-at .ensures, head-put c .put-head .kept))
 
-receipts-requires : tie.Need-receipts-requires
-receipts-requires c κs = search needs
-
-mul-put-longer-2 : tie.Need-mul-put-longer-2
-mul-put-longer-2 c = search needs
-
-add-put-longer-2 : tie.Need-add-put-longer-2
-add-put-longer-2 c = search needs
-
-mul-put-longer-3 : tie.Need-mul-put-longer-3
-mul-put-longer-3 c = search needs
-
-add-put-longer-3 : tie.Need-add-put-longer-3
-add-put-longer-3 c = search needs
-
-add-put-longer-4 : tie.Need-add-put-longer-4
-add-put-longer-4 c = search needs
+receipts-at-requires : tie.Need-receipts-at-requires
+receipts-at-requires c κs =
+    let read = counted (head-put (c .before .before .before .before)) in
+    omega (arith, n-few (known read), m-few (known read))
 
 put-longer-requires-2 : tie.Need-put-longer-requires-2
-put-longer-requires-2 c κs = (ap length (c .before .receipts .ensures) ∙ receipts-size _ (c .before .before .before .before .before .before .before .before .before .before .before .before .before .before .before .before .before .pre .0) ∙ ap (λ (x : ℕ). 4 * x) (sym (c .before .before .before .before .before .before .before .before .before .before .before .before .before .message-count .ensures)), omega (arith, c .before .before .before .before .before .before .before .before .before .before .before .before .before .before .before .before .before .pre .1 .1, processes-few _ (c .before .before .before .before .before .before .before .before .before .before .before .before .before .before .before .before .before .pre .0), messages-few _ (c .before .before .before .before .before .before .before .before .before .before .before .before .before .before .before .before .before .pre .0), c .before .before .before .before .before .before .before .before .before .before .before .before .before .before .process-count .ensures, c .before .before .before .before .before .before .before .before .before .before .before .before .before .message-count .ensures, c .before .before .before .before .before .before .before .before .before .put-head .kept, c .before .before .before .before .put-longer .kept))
-
-same-length : tie.Need-same-length
-same-length c = search needs
+put-longer-requires-2 c κs =
+    let put = sends-read c in
+    let read = counted (head-put put) in (
+      receipts-long (known read) _ (c .receipts .ensures),
+      omega (arith, start read .pre .1 .1, known read .read-n, known read .read-m, c .before .receipts-at .ensures, head-put put .put-head .kept, c .before .before .before .before .before .put-longer .kept),
+    )
 
 returns : tie.Need-returns
 returns c =
-    send-put _ _ _ (c .before .before .before .before .before .before .before .before .before .before .before .before .before .before .before .before .before .process-count .ensures) (c .before .before .before .before .before .before .before .before .before .before .before .before .before .before .before .before .message-count .ensures) _ _ _ _ _ _ _ _ _ (c .before .before .before .before .before .before .before .before .before .sends .ensures) (c .before .before .before .before .receipts .ensures)
-    (sent-is (c .before .before .before .before .before .before .before .before .before .before .before .before .before .before)) (omega (arith, c .before .before .before .before .before .before .before .before .before .before .before .before .before .before .before .before .before .before .before .before .pre .1 .1, c .before .before .before .before .before .before .before .before .before .before .before .before .before .before .before .before .before .process-count .ensures, c .before .before .before .before .before .before .before .before .before .before .before .before .before .before .before .before .message-count .ensures))
-    (c .before .before .before .before .before .before .before .before .before .before .before .before .put-head .ensures) (c .before .before .before .before .before .before .before .put-longer .ensures) (c .before .before .put-longer2 .ensures)
+    let last = c .before .before in
+    let put = sends-read (last .before) in
+    let read = counted (head-put put) in
+    send-put (known read) _ _ _ (put .before .sends-at .result) (last .before .before .receipts-at .result) _ _ _ _ _ _ (put .sends .ensures) (last .before .receipts .ensures)
+    refl (put .before .sends-at .ensures) (last .before .before .receipts-at .ensures) (omega (arith, start read .pre .1 .1, known read .read-n, known read .read-m))
+    (head-put put .put-head .ensures) (last .before .before .before .before .before .before .put-longer .ensures) (last .put-longer2 .ensures)
 
 pub put-send-spec : {M : Type 1} → statement M
 put-send-spec =
     tie.close
     (tie.spec
-    process-count-requires
-    message-count-requires
-    counts-requires
-    latest-requires
-    add-put-head
+    (λ c κs. search needs)
+    (λ c κs. search needs)
+    (λ c κs. search needs)
+    (λ c. search needs)
+    array-read-sent
+    sub-sent
+    array-share-prefix-counts
+    slice-aggregate-put-head
+    (λ c. search needs)
     put-head-requires
-    sends-requires
-    mul-put-longer
-    add-put-longer
+    sends-at-requires
+    (λ c κs. search needs)
     put-longer-requires
-    receipts-requires
-    mul-put-longer-2
-    add-put-longer-2
-    mul-put-longer-3
-    add-put-longer-3
-    add-put-longer-4
+    (λ c. search needs)
+    receipts-at-requires
+    (λ c κs. search needs)
     put-longer-requires-2
-    same-length
+    (λ c. search needs)
     returns)

@@ -1,0 +1,49 @@
+-- `writing::copy_numbers` meets its contract: the loop copies one number after another.
+-- Assumes nothing.
+use native.Mathlib.Omega.{arith}
+use mathlib.Core.Path.{ap, _∙_}
+use Prim.Native.Nat.{ℕ, _-_, _*_}
+use Rattle.run_table.proofs.WriteLaws.{Written, numbers-put, two-bytes, written-all, written-more, written-none}
+use Rattle.run_table.specs.Numbers.{putAt, u16At, u16Bytes}
+use Rattle.run_table.proofs.writing.copy_numbers.Statement.{statement}
+use Rattle.run_table.proofs.writing.copy_numbers.Tie as tie
+
+abbrev Inv-loop : tie.InvT-loop
+Inv-loop buffer₀ at part n k₀ buffer k = Written 2 (λ k. u16Bytes (u16At part (2 * k))) n at buffer₀ buffer k
+
+abbrev μ-loop : tie.MeasureT-loop
+μ-loop buffer₀ at part n k₀ buffer k = n - k
+
+loop-holds : tie.Need-loop-holds Inv-loop μ-loop
+loop-holds c = written-none _ _ _ _ _ (omega arith)
+
+loop-again : tie.Need-loop-again Inv-loop μ-loop
+loop-again c =
+    let read = c .before .before .before in
+    let turn = read .before .before in
+    written-more _ _ _ _ _ (λ k. two-bytes _) _ _ (turn .before .loop .inv) (turn .loop-test .taken) _ _ (omega arith)
+    (rw (read .u16-at .ensures) at (c .before .before .put-u16 .ensures))
+
+same-length : tie.Need-same-length Inv-loop μ-loop
+same-length c = c .before .loop .inv .same-length
+
+returns : tie.Need-returns Inv-loop μ-loop
+returns c = written-all _ _ _ _ _ (λ k. two-bytes _) _ _ (c .before .loop .inv) (c .loop-test .left) ∙ ap (putAt _ _) (numbers-put _ _)
+
+pub copy-numbers-spec : {M : Type 1} → statement M
+copy-numbers-spec =
+    tie.close
+    (tie.spec
+    Inv-loop
+    μ-loop
+    loop-holds
+    (λ c. omega arith)
+    (λ c. omega arith)
+    (λ c. omega arith)
+    (λ c κs. omega arith)
+    (λ c κs. omega arith)
+    (λ c. omega arith)
+    (λ c. omega arith)
+    loop-again
+    same-length
+    returns)

@@ -1,0 +1,126 @@
+#!/bin/sh
+# sh tests/refusals/must_fail.sh WORK
+#
+# That compare.sh can fail: it is run over copies of the files that it reads with one change each. It has to find every
+# one, and to name the file and the refusal or call.
+
+if [ $# -ne 1 ] || [ ! -d "$1" ]; then
+    echo "usage: sh tests/refusals/must_fail.sh WORK" >&2
+    exit 2
+fi
+work=$(cd "$1" && pwd)
+here=$(cd "$(dirname "$0")" && pwd)
+root=$here/../..
+copy=$work/must_fail
+prefix=refusals
+. "$root/tests/changes.sh"
+
+fresh() {
+    rm -rf "$copy"
+    mkdir -p "$copy/docs" "$copy/tests/refusals" "$copy/tests/reference" "$copy/bindings/rust" "$copy/crates/run_table/specs" || exit 1
+    cp "$here/compare.sh" "$copy/tests/refusals" && cp "$root/docs/refusals.txt" "$root/docs/MANUAL.md" "$copy/docs" &&
+        cp -r "$root/include" "$root/man" "$copy" && cp -r "$root/bindings/rust/src" "$copy/bindings/rust" &&
+        cp -r "$root/tests/reference/src" "$copy/tests/reference" &&
+        cp "$root/crates/run_table/specs/Checks.antt" "$copy/crates/run_table/specs" || exit 1
+}
+
+tested() {
+    sh "$copy/tests/refusals/compare.sh"
+}
+
+# A file, the edit that it gets, and what has to be named beside the file.
+differs() {
+    changed "$1" "$2"
+    grep -q "$1" "$work/must_fail.out" || { cat "$work/must_fail.out"; fail "found, but the file is not named: $1, $2"; }
+    grep -q "$3" "$work/must_fail.out" || { cat "$work/must_fail.out"; fail "found, but not told by '$3': $1, $2"; }
+}
+
+finds_nothing
+
+# The one table: against itself, and against the others.
+differs docs/refusals.txt '/^7 /d' MESSAGE_TO_ITS_SENDER
+differs docs/refusals.txt '/^4 /{h;d;};/^5 /G' WRONG_LENGTH
+differs docs/refusals.txt 's/^8 /7 /' 'second refusal 7'
+differs docs/refusals.txt 's/ BAD_LIST / TABLE_FULL /' 'second refusal TABLE_FULL'
+differs docs/refusals.txt 's/^4   table/4   list/' 'refusal 4'
+differs docs/refusals.txt 's/^9   table/9   call/' '(call).*receipt number'
+differs docs/refusals.txt 's/^12 /twelve /' twelve
+differs docs/refusals.txt '/^14 /s/meets M/has M/' TABLE_FULL
+differs docs/refusals.txt '/^13 /{n;d;}' BAD_LIST
+differs docs/refusals.txt 's/^\(16 .*TOO_SHORT\).*/\1/' 'refusal 16'
+differs docs/refusals.txt '/^13 /s/$/\n#/' 'no row to go on with'
+differs docs/refusals.txt '/^keeper_send /s/10 11/11 10/' keeper_send
+differs docs/refusals.txt '/^keeper_send /s/table 10/10 table/' keeper_send
+differs docs/refusals.txt '/^keeper_fall_back /s/16/99/' keeper_fall_back
+differs docs/refusals.txt '/^keeper_save /s/13 //' keeper_save
+differs docs/refusals.txt '/^keeper_line_of_set /d' keeper_line_of_set
+
+# The headers.
+differs include/keeper.h 's/NUMBER_TOO_HIGH = 8/NUMBER_TOO_HIGH = 9/;t;s/NUMBER_TOO_HIGH = 9/NUMBER_TOO_HIGH = 8/' KEEPER_SEND_NUMBER_TOO_HIGH
+differs include/keeper.h 's/KEEPER_WRONG_LENGTH = 4,/KEEPER_WRONG_LENGTH,/' KEEPER_WRONG_LENGTH
+differs include/keeper.h 's/KEEPER_OK = 0/KEEPER_OK = 1/' KEEPER_OK
+differs include/keeper.h 's/KEEPER_BAD_LIST = /KEEPER_WRONG_LIST = /' KEEPER_BAD_LIST
+differs include/keeper.h 's/the answer buffer is shorter/the answer buffer is smaller/' KEEPER_ANSWER_TOO_SHORT
+differs include/keeper.h 's/the one before it, or of a message/the one before it, or a message/' KEEPER_BAD_LIST
+differs include/keeper.h '/KEEPER_SEND_TO_ITSELF = /d' KEEPER_SEND_TO_ITSELF
+differs include/keeper.h '/KEEPER_TOO_MANY_MESSAGES = /{h;d;};/KEEPER_WRONG_LENGTH = /G' KEEPER_TOO_MANY_MESSAGES
+differs include/keeper.h '/KEEPER_RECEIPT_NUMBER_TOO_HIGH = /{h;d;};/Of the other arguments/G' KEEPER_RECEIPT_NUMBER_TOO_HIGH
+differs include/keeper.h 's/KEEPER_TABLE_FULL = .*/&\n    KEEPER_MORE = 17, \/* more *\//' KEEPER_MORE
+differs include/keeper.h "s/Checks: the table's, 12, 16/Checks: the table's, 16/" keeper_line_of_set
+differs include/keeper.h "s/Checks: the table's, 15, 16/Checks: the table's, 16, 15/" keeper_keep_sheet
+differs include/keeper.h "s/ Checks: the table's\\. / /" keeper_check_table
+differs include/run_table.h 's/RUN_TABLE_TOO_SHORT = 1/RUN_TABLE_TOO_SHORT = 2/' RUN_TABLE_TOO_SHORT
+differs include/run_table.h 's/N is 0 or above 32/N is 0 or above 31/' RUN_TABLE_PROCESSES_OUT_OF_RANGE
+differs include/run_table.h '/RUN_TABLE_COUNT_OUT_OF_RANGE = /d' RUN_TABLE_COUNT_OUT_OF_RANGE
+differs include/run_table.h '/RUN_TABLE_WRONG_LENGTH = /{h;d;};/RUN_TABLE_COUNT_OUT_OF_RANGE = /G' RUN_TABLE_WRONG_LENGTH
+differs include/listing_text.h 's/Checks: 16/Checks: 15/' keeper_listing
+
+# The man pages.
+differs man/keeper.3 's/^\.It 10 Dv/.It 11 Dv/' KEEPER_UNKNOWN_PROCESS
+differs man/keeper.3 's/^\.It 6 Dv KEEPER_UNKNOWN_PROCESS_IN_MESSAGE/.It 6 Dv KEEPER_UNKNOWN_PROCESS/' KEEPER_UNKNOWN_PROCESS_IN_MESSAGE
+differs man/keeper.3 's/^A set has a bit at N/A set has bits at N/' KEEPER_UNKNOWN_PROCESS_IN_SET
+differs man/keeper.3 '/^\.It 16 Dv/{N;d;}' KEEPER_ANSWER_TOO_SHORT
+differs man/keeper.3 '/^\.It 4 Dv/{N;h;d;};/^\.It 5 Dv/{N;G;}' KEEPER_WRONG_LENGTH
+differs man/keeper.3 "s/^Checks: the table's, 10, 13, 14/Checks: the table's, 10, 14/" keeper_save
+differs man/run_table.3 '/^\.It 3$/{N;d;}' RUN_TABLE_TOO_MANY_MESSAGES
+differs man/run_table.3 's/^\.Dv RUN_TABLE_WRONG_LENGTH/.Dv RUN_TABLE_LENGTH/' RUN_TABLE_WRONG_LENGTH
+differs man/run_table.3 '/^\.It 8$/{N;h;d;};/^\.It 9$/{N;G;}' RUN_TABLE_SEND_NUMBER_TOO_HIGH
+differs man/run_table.5 's/^\.It 7$/.It/' 'same sender and receiver'
+differs man/run_table.5 's/^A count is 0/A count is 1/' 'a count is 0'
+differs man/run_table.5 '/^\.It 2$/{N;d;}' 'N is 0 or above'
+
+# The manual.
+differs docs/MANUAL.md 's/^| 15 | call/| 51 | call/' '15 (call)'
+differs docs/MANUAL.md 's/^| 10 | call/| 10 | table/' '10 (call)'
+differs docs/MANUAL.md '/^| 11 |/s/twice/two times/' '11 (call)'
+differs docs/MANUAL.md '/^| 14 |/d' '14 (call)'
+differs docs/MANUAL.md '/^| 12 |/{h;d;};/^| 13 |/G' '12 (call)'
+differs docs/MANUAL.md '/^| `uint32_t keeper_send(/s/10, 11, 14/10, 14/' keeper_send
+differs docs/MANUAL.md '/^| `uint32_t keeper_listing(/s/| 16 |/| |/' keeper_listing
+
+# The binding.
+differs bindings/rust/src/refusal.rs 's/SendToItself = 11/SendToItself = 12/' SendToItself
+differs bindings/rust/src/refusal.rs 's/SendToItself = 11/SendToItself/' SendToItself
+differs bindings/rust/src/refusal.rs 's/BadList = 13, call/BadList = 13, table/' BadList
+differs bindings/rust/src/refusal.rs 's/or of a message not waiting/or of one not waiting/' BadList
+differs bindings/rust/src/refusal.rs 's/    TableFull = /    TooFull = /' TableFull
+differs bindings/rust/src/refusal.rs '/^    WrongLength = /d' WrongLength
+differs bindings/rust/src/refusal.rs '/^    WrongLength = /{h;d;};/^    CountOutOfRange = /G' WrongLength
+changed bindings/rust/src/lib.rs "s/^\\/\\/\\/ Checks: the table's, 12, 16/\\/\\/\\/ Checks: the table's, 16/"
+changed bindings/rust/src/listing_text.rs '/^\/\/\/ Checks: 16/d'
+
+# The second implementation, and the definition that is proved.
+differs tests/reference/src/table.rs '/^pub const TABLE_CHECKS/s/4, 5/5, 4/' 'row 4 '
+differs tests/reference/src/table.rs '/^pub const TABLE_CHECKS/s/, 9\]/]/' 'row 9 '
+differs tests/reference/src/table.rs 's/^    \/\/ 8\. A send number is not below/    \/\/ 8. A send number is above/' '8: a send number'
+differs tests/reference/src/table.rs '/^    \/\/ 3\. /d' '3: M is above'
+differs tests/reference/src/gen.rs 's/"5\. A count is 0 or/"5. A count is/' '5: a count'
+changed tests/reference/src/steps.rs "s/^\\/\\/\\/ Checks: the table's, 10, 13, 14, 16/\\/\\/\\/ Checks: the table's, 10, 13, 16/"
+differs crates/run_table/specs/Checks.antt '/number = 8 }/{h;d;};/number = 9 }/G' 'row 8 '
+
+# A file that is not there.
+fresh
+rm "$copy/man/run_table.5"
+finds "a page that is missing"
+rm -rf "$copy"
+echo "must_fail: $found changes found by compare.sh"
