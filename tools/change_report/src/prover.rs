@@ -1,0 +1,261 @@
+//! Proving a commit from nothing, by the command `rt`, with a time for each
+//! crate.
+
+use std::fs;
+use std::io::{self, BufRead, BufReader, Write};
+use std::os::unix::process::CommandExt;
+use std::path::Path;
+use std::process::{Child, Command, Stdio};
+use std::time::{Duration, Instant};
+
+use crate::command::missing;
+use crate::room::Room;
+
+/// A proof of a commit.
+#[derive(Clone, Debug, Default)]
+pub struct Run {
+    /// The crates in the order of their proofs, with tenths of seconds.
+    pub tenths: Vec<(String, u64)>,
+    /// What failed, where something did.
+    pub failure: Option<Failure>,
+}
+
+/// A proof that failed.
+#[derive(Clone, Debug, Default, PartialEq, Eq)]
+pub struct Failure {
+    /// The crates that are not proved, but for those that only stand on one.
+    pub crates: Vec<String>,
+    /// What was said of them.
+    pub said: Vec<String>,
+}
+
+impl Run {
+    pub fn of(&self, krate: &str) -> Option<u64> {
+        let found = self.tenths.iter().find(|(name, _)| name == krate);
+        found.map(|(_, tenths)| *tenths)
+    }
+
+    /// The time of all crates, where there are some and none failed.
+    pub fn total(&self) -> Option<u64> {
+        let whole = self.failure.is_none() && !self.tenths.is_empty();
+        whole.then(|| self.tenths.iter().map(|(_, tenths)| tenths).sum())
+    }
+}
+
+/// The kit, in one line.
+pub fn kit() -> Result<String, String> {
+    let output = Command::new("rt")
+        .arg("version")
+        .stdin(Stdio::null())
+        .output();
+    let output = output.map_err(|error| missing("rt", &error))?;
+    if !output.status.success() {
+        return Err("rt version fails: is the kit whole?".to_string());
+    }
+    Ok(String::from_utf8_lossy(&output.stdout)
+        .trim_end()
+        .to_string())
+}
+
+/// Proves all crates in a folder, or those named and what they stand on. All
+/// that rt keeps lies in `target/`, which is removed first. One crate is proved
+/// at a time: its time is that from the end of the one before it to its own.
+pub fn prove(folder: &Path, crates: Option<&[String]>, room: &mut Room) -> Result<Run, String> {
+    remove_target(folder).map_err(|error| format!("target/ can't be removed: {error}"))?;
+    let mut rt = waiting(folder, crates).map_err(|error| missing("sh", &error))?;
+    room.begins(rt.id());
+    let run = listen(&mut rt).map_err(|error| format!("rt: {error}"))?;
+    room.ended();
+    Ok(run)
+}
+
+fn remove_target(folder: &Path) -> io::Result<()> {
+    let target = folder.join("target");
+    match target.exists() {
+        true => fs::remove_dir_all(&target),
+        false => Ok(()),
+    }
+}
+
+/// A process that becomes rt when it is told to: none runs that the guard of the
+/// room does not know of.
+fn waiting(folder: &Path, crates: Option<&[String]>) -> io::Result<Child> {
+    let mut command = Command::new("sh");
+    command.args(["-c", r#"read -r go && exec rt "$@" </dev/null"#, "sh"]);
+    match crates {
+        None => command.arg("prove"),
+        Some(crates) => command.arg("check").args(crates),
+    };
+    command
+        .env("RT_JOBS", "1")
+        .current_dir(folder)
+        .stdin(Stdio::piped())
+        .stdout(Stdio::piped())
+        .process_group(0)
+        .spawn()
+}
+
+/// Tells rt to go, and hears it to its end.
+fn listen(rt: &mut Child) -> io::Result<Run> {
+    let mut listener = Listener::default();
+    let mut last = Instant::now();
+    rt.stdin.take().expect("piped").write_all(b"go\n")?;
+    for line in BufReader::new(rt.stdout.take().expect("piped")).split(b'\n') {
+        let line = line?;
+        if listener.hear(&String::from_utf8_lossy(&line), last.elapsed()) {
+            last = Instant::now();
+        }
+    }
+    Ok(listener.finish(rt.wait()?.success()))
+}
+
+/// What a line of rt says of a crate.
+#[derive(Debug, PartialEq, Eq)]
+enum Verdict<'a> {
+    Proved(&'a str),
+    /// It was trusted from an earlier run.
+    Trusted(&'a str),
+    NotProved(&'a str),
+    /// A crate that it stands on is not proved.
+    NotTried,
+}
+
+fn verdict(line: &str) -> Option<Verdict<'_>> {
+    let (krate, said) = line.strip_prefix("rt: ")?.split_once(' ')?;
+    if said.starts_with("NOT PROVED: its dependency ") {
+        return Some(Verdict::NotTried);
+    }
+    if said.starts_with("NOT PROVED") {
+        return Some(Verdict::NotProved(krate));
+    }
+    let why = said.strip_prefix("proved (")?.strip_suffix(')')?;
+    let seconds = why
+        .strip_suffix(" s")
+        .and_then(|seconds| seconds.parse::<u64>().ok());
+    Some(match seconds {
+        Some(_) => Verdict::Proved(krate),
+        None => Verdict::Trusted(krate),
+    })
+}
+
+/// What was heard of a run.
+#[derive(Default)]
+struct Listener {
+    run: Run,
+    failure: Failure,
+    /// The lines since the last verdict.
+    lines: Vec<String>,
+}
+
+impl Listener {
+    /// Hears a line that came so long after the last verdict, and answers
+    /// whether it is one.
+    fn hear(&mut self, line: &str, time: Duration) -> bool {
+        self.lines.push(line.to_string());
+        let Some(verdict) = verdict(line) else {
+            return false;
+        };
+        let lines = std::mem::take(&mut self.lines);
+        match verdict {
+            Verdict::Proved(krate) => {
+                eprintln!("  {krate} {:.1} s", time.as_secs_f64());
+                let tenths = (time.as_secs_f64() * 10.0).round() as u64;
+                self.run.tenths.push((krate.to_string(), tenths));
+            }
+            Verdict::Trusted(krate) | Verdict::NotProved(krate) => {
+                self.failure.crates.push(krate.to_string());
+                self.failure.said.extend(lines);
+            }
+            Verdict::NotTried => {}
+        }
+        true
+    }
+
+    fn finish(mut self, success: bool) -> Run {
+        if !success && self.failure.crates.is_empty() {
+            self.failure.said.append(&mut self.lines);
+        }
+        if !success || !self.failure.crates.is_empty() {
+            self.run.failure = Some(self.failure);
+        }
+        self.run
+    }
+}
+
+#[cfg(test)]
+mod tests {
+    use super::*;
+
+    fn heard(lines: &[&str], success: bool) -> Run {
+        let mut listener = Listener::default();
+        for line in lines {
+            listener.hear(line, Duration::from_millis(1460));
+        }
+        listener.finish(success)
+    }
+
+    #[test]
+    fn hears_what_is_proved() {
+        let run = heard(
+            &[
+                "fn first::echo: proved",
+                "rt: first proved (2 s)",
+                "rt: second proved (0 s)",
+                "rt: second was not run",
+                "rt: second ran as nobody, and wrote what its file 'stdout' has (0 s)",
+                "rt: ok, 2 crates proved, no program run",
+            ],
+            true,
+        );
+        assert_eq!(
+            run.tenths,
+            [("first".to_string(), 15), ("second".to_string(), 15)]
+        );
+        assert_eq!((run.of("second"), run.of("third")), (Some(15), None));
+        assert_eq!(run.total(), Some(30));
+        assert_eq!(run.failure, None);
+    }
+
+    #[test]
+    fn hears_what_is_not_proved() {
+        let run = heard(
+            &[
+                "rt: first proved (2 s)",
+                "src/lib.rt:3:1: error",
+                "rt: second NOT PROVED (exit 1, 2 s)",
+                "rt: third NOT PROVED: its dependency second is not proved",
+                "rt: fourth NOT PROVED: it has neither src/lib.rt nor src/main.rt",
+                "rt: FAILED: second third fourth",
+            ],
+            false,
+        );
+        let failure = run.failure.expect("it failed");
+        assert_eq!(failure.crates, ["second", "fourth"]);
+        assert_eq!(failure.said[0], "src/lib.rt:3:1: error");
+        assert_eq!(failure.said.len(), 3);
+        assert_eq!(run.tenths.len(), 1);
+    }
+
+    #[test]
+    fn a_failure_needs_no_crate() {
+        let lost = "rt: in no crate that crates.txt lists, so nothing proves it: a.rt";
+        let run = heard(
+            &["rt: first proved (2 s)", lost, "rt: FAILED: lost-files"],
+            false,
+        );
+        let failure = run.failure.expect("it failed");
+        assert_eq!(failure.crates, [""; 0]);
+        assert_eq!(failure.said, [lost, "rt: FAILED: lost-files"]);
+        let run = heard(&["rt: a proved, and its run FAILED (0 s)"], false);
+        assert_eq!(run.failure.expect("it failed").crates, [""; 0]);
+    }
+
+    #[test]
+    fn nothing_is_trusted() {
+        let run = heard(
+            &["rt: first proved (unchanged since it was last proved)"],
+            true,
+        );
+        assert_eq!(run.failure.expect("it failed").crates, ["first"]);
+    }
+}
