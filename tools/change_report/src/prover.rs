@@ -58,11 +58,15 @@ pub fn kit() -> Result<String, String> {
 }
 
 /// Proves all crates in a folder, or those named and what they stand on. All
-/// that rt keeps lies in `target/`, which is removed first. One crate is proved
-/// at a time: its time is that from the end of the one before it to its own.
+/// that rt keeps lies in `target/`, which is removed first; the prover's files
+/// for the time that it runs go to an empty folder. One crate is proved at a
+/// time: its time is that from the end of the one before it to its own.
 pub fn prove(folder: &Path, crates: Option<&[String]>, room: &mut Room) -> Result<Run, String> {
     remove_target(folder).map_err(|error| format!("target/ can't be removed: {error}"))?;
-    let mut rt = waiting(folder, crates).map_err(|error| missing("sh", &error))?;
+    let temporary = room.temporary();
+    let temporary = temporary.map_err(|error| format!("no temporary folder: {error}"))?;
+    let rt = waiting(folder, crates).env("TMPDIR", temporary).spawn();
+    let mut rt = rt.map_err(|error| missing("sh", &error))?;
     room.begins(rt.id());
     let run = listen(&mut rt).map_err(|error| format!("rt: {error}"))?;
     room.ended();
@@ -79,7 +83,7 @@ fn remove_target(folder: &Path) -> io::Result<()> {
 
 /// A process that becomes rt when it is told to: none runs that the guard of the
 /// room does not know of.
-fn waiting(folder: &Path, crates: Option<&[String]>) -> io::Result<Child> {
+fn waiting(folder: &Path, crates: Option<&[String]>) -> Command {
     let mut command = Command::new("sh");
     command.args(["-c", r#"read -r go && exec rt "$@" </dev/null"#, "sh"]);
     match crates {
@@ -91,8 +95,8 @@ fn waiting(folder: &Path, crates: Option<&[String]>) -> io::Result<Child> {
         .current_dir(folder)
         .stdin(Stdio::piped())
         .stdout(Stdio::piped())
-        .process_group(0)
-        .spawn()
+        .process_group(0);
+    command
 }
 
 /// Tells rt to go, and hears it to its end.

@@ -1,11 +1,14 @@
 //! A folder for worktrees that does not outlive this process.
 
 use std::fs;
-use std::io::Write;
+use std::io::{self, Write};
+use std::os::unix::fs::PermissionsExt;
 use std::os::unix::process::CommandExt;
 use std::path::{Path, PathBuf};
 use std::process::{Child, Command, Stdio};
 use std::time::{SystemTime, UNIX_EPOCH};
+
+use crate::command::missing;
 
 /// The guard: it reads the process group of each prover as it starts, and an
 /// empty line as it ends. Its input ends when this process does, killed or not;
@@ -32,7 +35,7 @@ impl Room {
         let now = now.map_or(0, |since| since.as_nanos());
         let name = format!("change-report-{}-{now}", std::process::id());
         let folder = std::env::temp_dir().join(name);
-        fs::create_dir(&folder)
+        open_folder(&folder)
             .map_err(|error| format!("no temporary folder can be made: {error}"))?;
         let guard = Command::new("sh")
             .args(["-c", GUARD, "sh"])
@@ -46,13 +49,23 @@ impl Room {
             Ok(guard) => Ok(Room { folder, guard }),
             Err(error) => {
                 _ = fs::remove_dir(&folder);
-                Err(format!("sh can't be run: {error}"))
+                Err(missing("sh", &error))
             }
         }
     }
 
     pub fn folder(&self) -> &Path {
         &self.folder
+    }
+
+    /// An empty folder for what the prover keeps for itself while it runs.
+    pub fn temporary(&self) -> io::Result<PathBuf> {
+        let folder = self.folder.join("temporary");
+        if folder.exists() {
+            fs::remove_dir_all(&folder)?;
+        }
+        open_folder(&folder)?;
+        Ok(folder)
     }
 
     /// Tells the guard which process group runs.
@@ -70,6 +83,13 @@ impl Room {
         // A guard that is gone can't be told, and there is nobody else to tell.
         _ = guard.write_all(line.as_bytes());
     }
+}
+
+/// A new folder that others can pass through: rt, where it is root, runs programs
+/// as nobody.
+fn open_folder(folder: &Path) -> io::Result<()> {
+    fs::create_dir(folder)?;
+    fs::set_permissions(folder, fs::Permissions::from_mode(0o711))
 }
 
 impl Drop for Room {

@@ -7,12 +7,13 @@ use std::process::{Command, Output, Stdio};
 
 /// The prover of the tests. It says of each crate of `crates.txt`, or of those
 /// named, that it is proved, unless the crate has a file `fails`; and it waits
-/// where one has a file `waits`. It wants no `target/`, and writes down what it
-/// was asked, and of which commit.
+/// where one has a file `waits`. It wants no `target/`, leaves a temporary
+/// folder, and writes down what it was asked, and of which commit.
 const RT: &str = r#"#!/bin/sh
 [ "$1" != version ] || { echo 'a kit for tests'; exit 0; }
 [ ! -e target ] || { echo 'rt: target/ is there'; exit 2; }
 mkdir target
+mktemp -d >/dev/null
 echo "$(cat commit) $RT_JOBS $*" >>"$ASKED"
 [ $# -gt 1 ] || set -- "$1" $(sed 's/:.*//' crates.txt)
 shift
