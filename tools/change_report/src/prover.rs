@@ -14,10 +14,18 @@ use crate::room::Room;
 /// A proof of a commit.
 #[derive(Clone, Debug, Default)]
 pub struct Run {
-    /// The crates in the order of their proofs, with tenths of seconds.
-    pub tenths: Vec<(String, u64)>,
+    /// The crates in the order of their proofs, with what each took.
+    pub crates: Vec<(String, Took)>,
     /// What failed, where something did.
     pub failure: Option<Failure>,
+}
+
+/// The time that the proof of a crate took, in tenths of seconds.
+#[derive(Clone, Copy, Debug, PartialEq, Eq)]
+pub struct Took {
+    /// Of a processor. Other work on the machine changes it little.
+    pub processor: u64,
+    pub clock: u64,
 }
 
 /// A proof that failed.
@@ -30,15 +38,25 @@ pub struct Failure {
 }
 
 impl Run {
+    /// The processor's time of a crate.
     pub fn of(&self, krate: &str) -> Option<u64> {
-        let found = self.tenths.iter().find(|(name, _)| name == krate);
-        found.map(|(_, tenths)| *tenths)
+        let found = self.crates.iter().find(|(name, _)| name == krate);
+        found.map(|(_, took)| took.processor)
     }
 
-    /// The time of all crates, where there are some and none failed.
+    /// The processor's time of all crates, where there are some and none failed.
     pub fn total(&self) -> Option<u64> {
-        let whole = self.failure.is_none() && !self.tenths.is_empty();
-        whole.then(|| self.tenths.iter().map(|(_, tenths)| tenths).sum())
+        self.sum(|took| took.processor)
+    }
+
+    /// The same by the clock.
+    pub fn clock(&self) -> Option<u64> {
+        self.sum(|took| took.clock)
+    }
+
+    fn sum(&self, part: fn(&Took) -> u64) -> Option<u64> {
+        let whole = self.failure.is_none() && !self.crates.is_empty();
+        whole.then(|| self.crates.iter().map(|(_, took)| part(took)).sum())
     }
 }
 
@@ -60,7 +78,7 @@ pub fn kit() -> Result<String, String> {
 /// Proves all crates in a folder, or those named and what they stand on. All
 /// that rt keeps lies in `target/`, which is removed first; the prover's files
 /// for the time that it runs go to an empty folder. One crate is proved at a
-/// time: its time is that from the end of the one before it to its own.
+/// time: it took what passed from the end of the one before it to its own.
 pub fn prove(folder: &Path, crates: Option<&[String]>, room: &mut Room) -> Result<Run, String> {
     remove_target(folder).map_err(|error| format!("target/ can't be removed: {error}"))?;
     let temporary = room.temporary();
@@ -102,15 +120,53 @@ fn waiting(folder: &Path, crates: Option<&[String]>) -> Command {
 /// Tells rt to go, and hears it to its end.
 fn listen(rt: &mut Child) -> io::Result<Run> {
     let mut listener = Listener::default();
-    let mut last = Instant::now();
+    let began = Instant::now();
     rt.stdin.take().expect("piped").write_all(b"go\n")?;
     for line in BufReader::new(rt.stdout.take().expect("piped")).split(b'\n') {
         let line = line?;
-        if listener.hear(&String::from_utf8_lossy(&line), last.elapsed()) {
-            last = Instant::now();
-        }
+        let passed = Passed {
+            processor: processor_time(rt.id())?,
+            clock: began.elapsed(),
+        };
+        listener.hear(&String::from_utf8_lossy(&line), passed);
     }
     Ok(listener.finish(rt.wait()?.success()))
+}
+
+/// The time that has passed since the prover was started.
+#[derive(Clone, Copy, Default)]
+struct Passed {
+    processor: Duration,
+    clock: Duration,
+}
+
+impl Passed {
+    fn since(&self, earlier: Passed) -> Took {
+        let tenths = |time: Duration| (time.as_secs_f64() * 10.0).round() as u64;
+        Took {
+            processor: tenths(self.processor.saturating_sub(earlier.processor)),
+            clock: tenths(self.clock.saturating_sub(earlier.clock)),
+        }
+    }
+}
+
+/// The processor's time of a process and of those that it has waited for.
+fn processor_time(process: u32) -> io::Result<Duration> {
+    let said = fs::read_to_string(format!("/proc/{process}/stat"))?;
+    times_in(&said).ok_or_else(|| io::Error::other("/proc has no processor's time"))
+}
+
+/// The fields 14 to 17 of a process's `stat`, in hundredths of seconds. The
+/// second field, the command, may have spaces and ends in the last bracket.
+fn times_in(stat: &str) -> Option<Duration> {
+    let (_, fields) = stat.rsplit_once(')')?;
+    let times: Vec<u64> = fields
+        .split_whitespace()
+        .skip(11)
+        .take(4)
+        .map_while(|field| field.parse().ok())
+        .collect();
+    (times.len() == 4).then(|| Duration::from_millis(10 * times.iter().sum::<u64>()))
 }
 
 /// What a line of rt says of a crate.
@@ -147,24 +203,23 @@ fn verdict(line: &str) -> Option<Verdict<'_>> {
 struct Listener {
     run: Run,
     failure: Failure,
-    /// The lines since the last verdict.
+    /// The lines since the last verdict, and when that came.
     lines: Vec<String>,
+    last: Passed,
 }
 
 impl Listener {
-    /// Hears a line that came so long after the last verdict, and answers
-    /// whether it is one.
-    fn hear(&mut self, line: &str, time: Duration) -> bool {
+    fn hear(&mut self, line: &str, passed: Passed) {
         self.lines.push(line.to_string());
         let Some(verdict) = verdict(line) else {
-            return false;
+            return;
         };
         let lines = std::mem::take(&mut self.lines);
+        let took = passed.since(std::mem::replace(&mut self.last, passed));
         match verdict {
             Verdict::Proved(krate) => {
-                eprintln!("  {krate} {:.1} s", time.as_secs_f64());
-                let tenths = (time.as_secs_f64() * 10.0).round() as u64;
-                self.run.tenths.push((krate.to_string(), tenths));
+                eprintln!("  {krate} {}.{} s", took.clock / 10, took.clock % 10);
+                self.run.crates.push((krate.to_string(), took));
             }
             Verdict::Trusted(krate) | Verdict::NotProved(krate) => {
                 self.failure.crates.push(krate.to_string());
@@ -172,7 +227,6 @@ impl Listener {
             }
             Verdict::NotTried => {}
         }
-        true
     }
 
     fn finish(mut self, success: bool) -> Run {
@@ -190,10 +244,15 @@ impl Listener {
 mod tests {
     use super::*;
 
+    /// What is heard of lines that come a second apart.
     fn heard(lines: &[&str], success: bool) -> Run {
         let mut listener = Listener::default();
-        for line in lines {
-            listener.hear(line, Duration::from_millis(1460));
+        for (number, line) in (1..).zip(lines) {
+            let passed = Passed {
+                processor: Duration::from_millis(740) * number,
+                clock: Duration::from_secs(1) * number,
+            };
+            listener.hear(line, passed);
         }
         listener.finish(success)
     }
@@ -211,12 +270,16 @@ mod tests {
             ],
             true,
         );
+        let took = |processor, clock| Took { processor, clock };
         assert_eq!(
-            run.tenths,
-            [("first".to_string(), 15), ("second".to_string(), 15)]
+            run.crates,
+            [
+                ("first".to_string(), took(15, 20)),
+                ("second".to_string(), took(7, 10))
+            ]
         );
-        assert_eq!((run.of("second"), run.of("third")), (Some(15), None));
-        assert_eq!(run.total(), Some(30));
+        assert_eq!((run.of("second"), run.of("third")), (Some(7), None));
+        assert_eq!((run.total(), run.clock()), (Some(22), Some(30)));
         assert_eq!(run.failure, None);
     }
 
@@ -237,7 +300,7 @@ mod tests {
         assert_eq!(failure.crates, ["second", "fourth"]);
         assert_eq!(failure.said[0], "src/lib.rt:3:1: error");
         assert_eq!(failure.said.len(), 3);
-        assert_eq!(run.tenths.len(), 1);
+        assert_eq!(run.crates.len(), 1);
     }
 
     #[test]
@@ -261,5 +324,21 @@ mod tests {
             true,
         );
         assert_eq!(run.failure.expect("it failed").crates, ["first"]);
+    }
+
+    #[test]
+    fn a_failed_run_has_no_total() {
+        let run = heard(&["rt: first proved (2 s)", "rt: second NOT PROVED"], false);
+        assert_eq!((run.total(), run.clock()), (None, None));
+        assert_eq!(heard(&[], true).total(), None);
+    }
+
+    #[test]
+    fn reads_the_processors_time() {
+        let stat = "7 (a (b) c) S 1 7 7 0 -1 4194304 1 2 3 4 10 20 300 4000 20 0 1 0";
+        assert_eq!(times_in(stat), Some(Duration::from_millis(43_300)));
+        assert_eq!(times_in("7 (sh) S 1 7"), None);
+        assert_eq!(times_in(""), None);
+        assert!(processor_time(std::process::id()).is_ok());
     }
 }

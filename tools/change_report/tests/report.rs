@@ -82,7 +82,7 @@ fn proves_base_and_head_in_turn() {
         .report
         .lines()
         .filter(|line| line.starts_with("| "))
-        .take(5)
+        .take(6)
         .collect();
     let is_row = |row: &str, title: &str, before: bool, after: bool| {
         let cells: Vec<&str> = row.split(" | ").collect();
@@ -94,6 +94,10 @@ fn proves_base_and_head_in_turn() {
     assert!(is_row(rows[2], "`new`", false, true), "{rows:?}");
     assert!(is_row(rows[3], "`old`", true, false), "{rows:?}");
     assert!(is_row(rows[4], "total", true, true), "{rows:?}");
+    assert!(
+        is_row(rows[5], "total by the clock", true, true),
+        "{rows:?}"
+    );
     assert!(
         found.report.contains("(a kit for tests)"),
         "{}",

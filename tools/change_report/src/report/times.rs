@@ -21,6 +21,7 @@ pub fn section(times: &Times, before: &Snapshot, after: &Snapshot) -> String {
         .filter_map(|krate| row(&quoted(krate), times, |run| run.of(krate)))
         .collect();
     rows.extend(row("total", times, Run::total));
+    rows.extend(row("total by the clock", times, Run::clock));
     let text = [
         "## Times\n".to_string(),
         wrapped(&about(times), ""),
@@ -49,8 +50,8 @@ fn about(times: &Times) -> String {
         ),
     };
     format!(
-        "Seconds to prove each crate from nothing, one crate at a time, on {cores} ({}). Base and head were proved in turn; the lowest \
-         time counts, and all are in brackets.{only}",
+        "Seconds of a processor to prove each crate from nothing, one crate at a time, on {cores} ({}). Base and head were proved in \
+         turn; the lowest time counts, and all are in brackets.{only}",
         times.kit
     )
 }
@@ -124,17 +125,22 @@ fn drift(times: &Times) -> String {
 #[cfg(test)]
 mod tests {
     use super::*;
-    use crate::prover::Failure;
+    use crate::prover::{Failure, Took};
     use crate::snapshot::tests::snapshot;
 
-    fn run(tenths: &[(&str, u64)], failed: &[&str]) -> Run {
-        let named = |(name, tenths): &(&str, u64)| (name.to_string(), *tenths);
+    /// A run of crates whose proofs took so much, and twice as much by the clock.
+    fn run(crates: &[(&str, u64)], failed: &[&str]) -> Run {
+        let took = |(name, processor): &(&str, u64)| {
+            let clock = 2 * processor;
+            let processor = *processor;
+            (name.to_string(), Took { processor, clock })
+        };
         let failure = Failure {
             crates: failed.iter().map(|name| name.to_string()).collect(),
             said: Vec::new(),
         };
         Run {
-            tenths: tenths.iter().map(named).collect(),
+            crates: crates.iter().map(took).collect(),
             failure: (!failed.is_empty()).then_some(failure),
         }
     }
@@ -174,6 +180,7 @@ mod tests {
 | `new` | – | 2.0 (2.0, 2.1) |  |
 | `old` | 0.5 (0.5, 0.6) | – |  |
 | total | 9.9 (10.5, 9.9) | 11.0 (11.0, 11.6) | +1.1 |
+| total by the clock | 19.8 (21.0, 19.8) | 22.0 (22.0, 23.2) | +2.2 |
 
 The total of one commit differed by up to 0.6 s from run to run.
 
@@ -197,6 +204,7 @@ The total of one commit differed by up to 0.6 s from run to run.
 | `low` | 1.0 (1.0) | 1.0 (1.0) | 0.0 |
 | `high` | 1.0 (1.0) | – |  |
 | total | 2.0 (2.0) | – |  |
+| total by the clock | 4.0 (4.0) | – |  |
 
 ";
         assert_eq!(table_and_after(&text), expected);
