@@ -314,6 +314,17 @@ pub data Place : Type 0 where
     }
 
     #[test]
+    fn a_comment_belongs_to_what_stands_right_below_it() {
+        let comment = |text: &str| definitions(text).remove(0).comment;
+        assert_eq!(
+            comment("-- The file.\n\n-- One.\nf : A\nf = 1\n"),
+            "-- One."
+        );
+        assert_eq!(comment("-- The file.\n\nf : A\nf = 1\n"), "");
+        assert_eq!(comment("-- ---- numbers\nf : A\nf = 1 -- one\n"), "-- one");
+    }
+
+    #[test]
     fn comments_and_what_is_brought_in_change_no_definition() {
         let text = |d: &[Definition]| d.iter().map(|d| d.text.clone()).collect::<Vec<_>>();
         let other = FILE

@@ -77,8 +77,7 @@ impl Repository {
     /// The commit of a name.
     pub fn commit(&self, name: &str) -> Result<Commit, String> {
         let wanted = format!("{name}^{{commit}}");
-        let options = ["rev-parse", "--verify", "--quiet", "--end-of-options"];
-        let id = self.ask_text(&[&options[..], &[&wanted]].concat());
+        let id = self.ask_text(&["rev-parse", "--verify", "--quiet", &wanted]);
         let id = id.map_err(|_| format!("{name}: there is no such commit in this repository"))?;
         let subject = self.ask_text(&["log", "-1", "--format=%s", &id])?;
         Ok(Commit { id, subject })

@@ -249,5 +249,8 @@ pub mod tests {
         assert_eq!(first.changed_parts(&other), ["ensures"]);
         let other = of("pub fn f(x: u8)\n    ensures { b }\n{\n    1\n}\n");
         assert_eq!(first.changed_parts(&other), ["requires", "signature"]);
+        let first = of("fn f()\n    ghost { A }\n{\n    1\n}\n");
+        let other = of("fn f()\n    ghost { B }\n{\n    1\n}\n");
+        assert_eq!(first.changed_parts(&other), ["ghost"]);
     }
 }
