@@ -9,11 +9,13 @@
 # make tools    builds the command keeper, target/cargo/release/keeper
 # make bench    the archive's times beside plain C, Rust and work lists, written to docs/BENCHMARKS.md
 # make install  headers, archives, pkg-config files, programs and man pages: PREFIX=/usr/local, DESTDIR
+# make change-report BASE=commit  what changed since a commit, for the note of a change: RUNS=2, TIMES=no, CRATES="a b"
 SHELL := /bin/sh
 .DEFAULT_GOAL := help
 .PHONY: help list program test check format reference-tests corpus-tests
 .PHONY: archives c-tests install uninstall install-test tools tools-tests
 .PHONY: refusal-tests rust-lint binding-tests differential-tests differential-faults fuzz fuzz-tools fuzz-replay bench
+.PHONY: change-report report-tests
 
 help:
 	@sed -n 's/^# \(make .*\)/\1/p' Makefile
@@ -35,7 +37,7 @@ program: need-rt
 	    { line[++n] = $$0 } \
 	    /^rt: .* proved \([0-9]/ { print >"/dev/stderr" }'
 
-test: need-rt need-gcc need-cargo format refusal-tests reference-tests corpus-tests c-tests install-test rust-lint binding-tests tools-tests differential-tests fuzz-replay
+test: need-rt need-gcc need-cargo format refusal-tests reference-tests corpus-tests c-tests install-test rust-lint binding-tests tools-tests report-tests differential-tests fuzz-replay
 	@rt ci
 
 check: need-rt
@@ -183,6 +185,24 @@ tools-tests: tools
 	@mkdir -p target/tests
 	@cd tools/keeper && $(CARGO) test --release --target-dir ../../target/cargo >../../target/tests/tools.log 2>&1 || { cat ../../target/tests/tools.log; exit 1; }
 	@awk '/^test result/ { n += $$4 } END { print n " tests of the command keeper passed" }' target/tests/tools.log
+
+# What changed from the commit BASE to HEAD, in Markdown. Both are proved RUNS times from nothing, a quarter of an
+# hour for two times; TIMES=no leaves that out, and CRATES="a b" proves these alone, with the crates below them.
+# No --release: the command waits for git and rt, and this compiles in half the time.
+BASE =
+RUNS = 2
+TIMES = yes
+CRATES =
+change-report: need-git need-cargo
+	@cd tools/change_report && $(CARGO) build --target-dir ../../target/cargo
+	@target/cargo/debug/change-report --runs '$(RUNS)' --times '$(TIMES)' --crates '$(CRATES)' '$(BASE)'
+
+# The report's own tests. Without git, those on small repositories are left out.
+report-tests: need-cargo
+	@mkdir -p target/tests
+	@tests=; command -v git >/dev/null 2>&1 || { tests=--lib; echo "git is missing: the change report is tested on no repository"; }; \
+	    cd tools/change_report && $(CARGO) test $$tests --target-dir ../../target/cargo >../../target/tests/report.log 2>&1 || { cat ../../target/tests/report.log; exit 1; }
+	@awk '/^test result/ { n += $$4 } END { print n " tests of the change report passed" }' target/tests/report.log
 
 # Times of the archive's calls, some two or three minutes; no part of `make test`. valgrind, and python3 with
 # networkx, add columns where they are there.

@@ -18,7 +18,7 @@ use Rattle.consistency.specs.Lowering.{lineUnder}
 use Rattle.keeper.proofs.AnswerLaws.{put-in-front}
 use Rattle.keeper.specs.Calls.{HoldsLatest}
 use Rattle.lines.proofs.LineReads.{all-hold}
-use Rattle.process_set.specs.Sets.{member}
+use Rattle.process_set.specs.Sets.{allProcesses, member}
 use Rattle.run_table.proofs.AcceptLaws.{accepted}
 use Rattle.run_table.proofs.ListLaws.{getD-tabulate, length-tabulate}
 use Rattle.run_table.proofs.NumberLaws.{length-u16s, u16At-u16s}

@@ -1,18 +1,18 @@
 -- An array of 32 numbers that begins with a list.
 --     array-length, array-at          its length, and its entries
---     array-numbers, array-front      its first numbers are the list
+--     array-front                     its first numbers are the list
 --     array-set                       one entry set
 --     Filled                          such an array, as a loop fills it from the front: the invariant
 --     filled-none, filled-more, filled-all, filled-array    how it begins, goes on and ends
 -- Assumes nothing.
 use mathlib.Core.List.{List}
-use mathlib.Core.Path.{_≡_, refl, sym, ap, ap₂, _∙_, subst⁻¹}
+use mathlib.Core.Path.{_≡_, sym, ap₂, _∙_, subst⁻¹}
 use Prim.Native.Nat.{ℕ, _+_, _≤_, _<_, zero-le}
 use native.Mathlib.Decide.{decLt, ℕ-discrete}
 use native.Mathlib.Omega.{arith}
-use lib.ListN.{length, getD, set, take, replicate, length-replicate, length-set, length-take, getD-replicate, List·getD-eq-default}
+use lib.ListN.{length, getD, set, take, replicate, length-replicate, length-set, getD-replicate, List·getD-eq-default}
 use lib.Seq.{ext-getD, getD-set-same, getD-set-other, getD-take, length-take-le}
-use Rattle.run_table.proofs.ListLaws.{getD-tabulate, length-tabulate, set-tabulate, tabulate-ext, tabulate-getD}
+use Rattle.run_table.proofs.ListLaws.{getD-tabulate, length-tabulate, set-tabulate}
 use Rattle.run_table.specs.Arrays.{arrayOf}
 use Rattle.run_table.specs.Lists.{tabulate}
 
@@ -30,12 +30,6 @@ module _ (l : List ℕ) where
       go (no b) =
           List·getD-eq-default (tabulate 32 (λ q. getD l q 0)) 0 (subst⁻¹ (λ (x : ℕ). x ≤ p) (length-tabulate 32 (λ q. getD l q 0)) (omega arith))
           ∙ sym (List·getD-eq-default l 0 (omega arith))
-
--- the first numbers of the array are the line
-pub array-numbers : (l line : List ℕ) (n : ℕ) → line ≡ arrayOf l → n ≡ length l → length l ≤ 32 → tabulate n (λ p. getD line p 0) ≡ l
-array-numbers l line n e same small =
-    ap₂ (λ (x : List ℕ) (k : ℕ). tabulate k (λ p. getD x p 0)) e same
-    ∙ tabulate-ext (length l) (λ p. getD (arrayOf l) p 0) (λ p. getD l p 0) (λ p _. array-at l small p) ∙ tabulate-getD l 0
 
 pub array-front : (l line : List ℕ) (n : ℕ) → line ≡ arrayOf l → n ≡ length l → length l ≤ 32 → take n line ≡ l
 array-front l line n e same small =

@@ -10,6 +10,7 @@ use Rattle.keeper.proofs.LineLaws.{line-room, recovery-put, set-holds}
 use Rattle.keeper.specs.Calls.{recoveryLineAnswer}
 use Rattle.run_table.proofs.CheckLaws.{table-refusals}
 use Rattle.run_table.specs.Checks.{tableChecks, tableRefusal}
+use Rattle.process_set.specs.Sets.{allProcesses}
 use Rattle.keeper.proofs.keeper_recovery_line.Statement.{statement}
 use Rattle.keeper.proofs.keeper_recovery_line.Tie as tie
 
@@ -41,7 +42,7 @@ put-line-of-set-requires c κs =
     (accepted (sized .before), line-room _ (sized .line-size .ensures) (c .before .if2 .left))
 
 returns-3 : tie.Need-returns-3
-unfolding recoveryLineAnswer recoveryLine
+unfolding recoveryLineAnswer recoveryLine allProcesses
 returns-3 c =
     let put = c .before .before in
     let sized = put .before .before .before in
