@@ -17,10 +17,10 @@ use Rattle.futures.proofs.StepLaws.{rollback-limits, rollback-processes, send-f
 use Rattle.futures.proofs.StepLaws.{step-taken, step-well-formed}
 use Rattle.futures.specs.Steps.{Step, afterCheckpoint, afterRollback, afterSend, badPosition, checkpoint, checkpointChecks, rollback, send, sendChecks, step}
 use Rattle.keeper.proofs.AnswerLaws.{Quiet, put-in-front}
-use Rattle.keeper.proofs.RefusalLaws.{front, on-table}
+use Rattle.keeper.proofs.RefusalLaws.{on-table}
 use Rattle.keeper.specs.Calls.{HoldsTable, saveCallChecks, sendCallChecks}
 use Rattle.run_table.proofs.AcceptLaws.{accepted, accepted-encode, reread}
-use Rattle.run_table.proofs.CheckLaws.{caughtBy, quiet}
+use Rattle.run_table.proofs.CheckLaws.{caughtBy, clear, passed, quiet}
 use Rattle.run_table.proofs.FormatLaws.{encode-length}
 use Rattle.run_table.specs.Checks.{Accepted, Limits, WellFormed, firstCaught, tableChecks, tableRefusal}
 use Rattle.run_table.specs.Format.{decode, encode, tableLength}
@@ -51,9 +51,12 @@ module _ (table : List ℕ) where
   t = decode table
 
   module _ (j i : ℕ) (q : Quiet (sendCallChecks table j i)) where
+    by-send : (n : ℕ) → caughtBy n (sendCallChecks table j i) ≡ false
+    by-send = quiet (sendCallChecks table j i) (q .refusals) (q .none)
+
     send-free : firstCaught (sendChecks t j i) ≡ 0
-    unfolding sendCallChecks
-    send-free = front (sendChecks t j i) _ (on-table table _ (q .none) .1)
+    unfolding sendCallChecks sendChecks tableChecks caughtBy
+    send-free = passed _ _ 0 (by-send 10) (passed _ _ 0 (by-send 11) clear)
 
     pub send-known : j < processCount t
     send-known = free-send t j i send-free .0
@@ -62,13 +65,16 @@ module _ (table : List ℕ) where
     unfolding sendCallChecks sendChecks tableChecks caughtBy step
     send-taken =
         let none = on-table table _ (q .none) .0 in
-        let room = leb-false mostMessages (messageCount t) (quiet (sendCallChecks table j i) (q .refusals) (q .none) 14) in
+        let room = leb-false mostMessages (messageCount t) (by-send 14) in
         record { none = none; gives = step-taken _ _ _ send-free; limits = send-limits t j i (accepted table none .limits) room }
 
   module _ (i : ℕ) (list : List ℕ) (q : Quiet (saveCallChecks table i list)) where
+    by-save : (n : ℕ) → caughtBy n (saveCallChecks table i list) ≡ false
+    by-save = quiet (saveCallChecks table i list) (q .refusals) (q .none)
+
     save-free : firstCaught (checkpointChecks t i list) ≡ 0
-    unfolding saveCallChecks
-    save-free = front (checkpointChecks t i list) _ (on-table table _ (q .none) .1)
+    unfolding saveCallChecks checkpointChecks tableChecks caughtBy
+    save-free = passed _ _ 0 (by-save 10) (passed _ _ 0 (by-save 13) clear)
 
     pub save-known : i < processCount t
     save-known = checkpoint-known t i list save-free
@@ -80,7 +86,7 @@ module _ (table : List ℕ) where
     unfolding saveCallChecks checkpointChecks tableChecks caughtBy step
     save-taken =
         let none = on-table table _ (q .none) .0 in
-        let room = leb-false mostCheckpoints (countOf t i) (quiet (saveCallChecks table i list) (q .refusals) (q .none) 14) in
+        let room = leb-false mostCheckpoints (countOf t i) (by-save 14) in
         record { none = none; gives = step-taken _ _ _ save-free; limits = checkpoint-limits t i list (accepted table none .limits) room }
 
   pub rollback-taken : tableRefusal table ≡ 0 → Taken table rollback (afterRollback t)
