@@ -23,7 +23,7 @@ abbrev pub onTable : List ℕ → List Check → List Check
 onTable table own = tableChecks table ++ own
 
 -- ---- lines
--- The recovery line of the run: checks 1 to 9, 16.
+-- The recovery line of the run: the table's checks, 16.
 unfoldable pub recoveryLineAnswer : List ℕ → ℕ → Answer
 recoveryLineAnswer table room = answer (tableChecks table) (u16s (recoveryLine (decode table))) room
 
@@ -59,7 +59,7 @@ saveCallChecks table process list =
 unfoldable pub saveAnswer : List ℕ → ℕ → List ℕ → ℕ → Answer
 saveAnswer table process list room = answer (saveCallChecks table process list) (encode (afterCheckpoint (decode table) process list)) room
 
--- The table after a rollback: checks 1 to 9, 16.
+-- The table after a rollback: the table's checks, 16.
 unfoldable pub fallBackAnswer : List ℕ → ℕ → Answer
 fallBackAnswer table room = answer (tableChecks table) (encode (afterRollback (decode table))) room
 
