@@ -12,9 +12,9 @@ use Prim.Native.Nat.{ℕ, zero, suc, _+_, _*_, _≤_, _<_, zero-le}
 use native.Mathlib.Nat.{le-antisymm, mul-le-mul-left, mul-suc, zero-add}
 use native.Mathlib.Numerals.{add-one}
 use native.Mathlib.Omega.{arith}
-use lib.ListN.{length, getD, length-append}
+use lib.ListN.{length, length-append}
 use Rattle.run_table.proofs.FormatLaws.{length-entries}
-use Rattle.run_table.proofs.ListLaws.{length-tabulate, rows-length, rows-more, tabulate-getD, tabulate-more}
+use Rattle.run_table.proofs.ListLaws.{length-tabulate, rows-length, rows-more, tabulate-more}
 use Rattle.run_table.proofs.NumberLaws.{length-putAt, length-u16s, putAt-more, putAt-none, u16s-append}
 use Rattle.run_table.specs.Format.{encode, receiptsAt, receiptsOf, sendsAt, sendsOf, tableLength}
 use Rattle.run_table.specs.Lists.{rows, tabulate}

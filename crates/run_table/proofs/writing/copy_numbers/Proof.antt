@@ -2,7 +2,7 @@
 -- Assumes nothing.
 use native.Mathlib.Omega.{arith}
 use mathlib.Core.Path.{ap, _∙_}
-use Prim.Native.Nat.{ℕ, _-_, _*_}
+use Prim.Native.Nat.{_-_, _*_}
 use Rattle.run_table.proofs.WriteLaws.{Written, numbers-put, two-bytes, written-all, written-more, written-none}
 use Rattle.run_table.specs.Numbers.{putAt, u16At, u16Bytes}
 use Rattle.run_table.proofs.writing.copy_numbers.Statement.{statement}

@@ -1,7 +1,6 @@
 -- `writing::put_head` meets its contract: the sizes, then the counts.
 -- Assumes nothing.
 use borrow.Author.Needs.{needs}
-use native.Mathlib.Omega.{arith}
 use Rattle.run_table.proofs.WriteLaws.{head-put}
 use Rattle.run_table.proofs.writing.put_head.Statement.{statement}
 use Rattle.run_table.proofs.writing.put_head.Tie as tie

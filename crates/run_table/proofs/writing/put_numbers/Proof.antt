@@ -1,8 +1,7 @@
 -- `writing::put_numbers` meets its contract: the loop puts one number after another.
 -- Assumes nothing.
 use native.Mathlib.Omega.{arith}
-use mathlib.Core.List.{List}
-use mathlib.Core.Path.{refl, ap, _∙_}
+use mathlib.Core.Path.{ap, _∙_}
 use Prim.Native.Nat.{_-_}
 use lib.ListN.{getD, length}
 use Rattle.run_table.proofs.ListLaws.{tabulate-getD}
