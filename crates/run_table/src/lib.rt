@@ -5,7 +5,6 @@ pub mod format;
 pub mod lookups;
 pub mod numbers;
 pub mod parts;
-pub mod writing;
 
 use lookups::Field;
 ghost use mathlib.Core.Path.{_≡_};

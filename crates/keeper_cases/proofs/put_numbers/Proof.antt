@@ -7,7 +7,7 @@ use Prim.Native.Nat.{ℕ, _-_}
 use denote.Ref.{now}
 use lib.ListN.{getD, length}
 use Rattle.run_table.proofs.ListLaws.{tabulate-getD}
-use Rattle.run_table.proofs.WriteLaws.{Written, written-none, written-more, written-all}
+use Rattle.table_writer.proofs.WriteLaws.{Written, written-none, written-more, written-all}
 use Rattle.run_table.specs.Numbers.{putAt, u16s}
 use Rattle.keeper_cases.proofs.put_numbers.Statement.{statement}
 use Rattle.keeper_cases.proofs.put_numbers.Tie as tie

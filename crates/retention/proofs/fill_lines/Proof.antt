@@ -17,7 +17,7 @@ use Rattle.retention.proofs.SheetLaws.{holder-front, holder-length, lin
 use Rattle.run_table.proofs.ArrayLaws.{array-length}
 use Rattle.run_table.proofs.ListLaws.{getD-tabulate}
 use Rattle.run_table.proofs.ReadLaws.{processes-few}
-use Rattle.run_table.proofs.WriteLaws.{Written, written-all, written-more, written-none, written-room}
+use Rattle.table_writer.proofs.WriteLaws.{Written, written-all, written-more, written-none, written-room}
 use Rattle.run_table.specs.Format.{decode}
 use Rattle.run_table.specs.Numbers.{putAt}
 use Rattle.retention.proofs.fill_lines.Statement.{statement}
