@@ -9,6 +9,7 @@ use libc::STDIN_FILENO;
 use test_kit::build;
 use test_kit::echo;
 use test_kit::end;
+use test_kit::first;
 use test_kit::length_of;
 use test_kit::script::line_at;
 use test_kit::script::size;
@@ -28,14 +29,6 @@ fn lookup(table: &[u8], p: usize, k: usize) {
     value(run_table::run_table_sent(table, k) as u64);
     value(run_table::run_table_receiver(table, k) as u64);
     value(run_table::run_table_received(table, k) as u64);
-}
-
-// The first len bytes of a buffer, or all of a shorter one.
-fn first(buffer: &[u8], len: usize) -> &[u8] {
-    if len <= buffer.len() {
-        return &buffer[0..len];
-    }
-    buffer
 }
 
 // Answers a line.

@@ -5,8 +5,8 @@ use mathlib.Core.Path.{_≡_, refl}
 use Prim.Native.Nat.{_-_, _≤_}
 use native.Mathlib.Omega.{arith}
 use lib.ListN.{length}
-use Rattle.test_kit.proofs.BufferLaws.{domino-put, each-all, each-more}
-use Rattle.test_kit.specs.Tables.{dominoMessage, each}
+use Rattle.test_kit.proofs.BufferLaws.{each-all, each-more}
+use Rattle.test_kit.specs.Tables.{dominoMessage, each, withDomino}
 use Rattle.test_kit.proofs.domino.Statement.{statement}
 use Rattle.test_kit.proofs.domino.Tie as tie
 
@@ -49,16 +49,21 @@ loop-less c = search needs
 
 loop-again : tie.Need-loop-again Inv-loop μ-loop
 loop-again c =
-    let put = rw (c .before .before .before .before .domino-place .ensures) at (c .before .before .message .ensures) in
-    (omega arith, omega arith, each-more _ _ _ _ (c .before .before .before .before .before .before .loop .inv .2) _ put)
+    let placed = c .before .before .before .before in
+    let put = rw (placed .domino-place .ensures) at (c .before .before .message .ensures) in
+    (omega arith, omega arith, each-more _ _ _ _ (placed .before .before .loop .inv .2) _ put)
 
 same-length : tie.Need-same-length Inv-loop μ-loop
 same-length c = search needs
 
 returns : tie.Need-returns Inv-loop μ-loop
+unfolding withDomino
 returns c =
-    domino-put _ _ _ _ _ _ (c .before .before .before .before .before .before .before .before .sizes .ensures) (c .before .before .before .before .count .ensures)
-    (each-all _ _ _ _ (c .before .loop .inv .2) _ (c .before .loop .inv .0) (c .loop-test .left))
+    let at-loop = c .before in
+    let counted = at-loop .before .before .before in
+    let sized = counted .before .before .before .before in
+    let all = each-all _ _ _ _ (at-loop .loop .inv .2) _ (at-loop .loop .inv .0) (c .loop-test .left) in
+    rw (counted .count .ensures, sized .sizes .ensures) at all
 
 pub domino-spec : {M : Type 1} → statement M
 domino-spec =
