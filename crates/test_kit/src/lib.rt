@@ -19,6 +19,9 @@ ghost use Rattle.run_table.specs.Format.{messagesIn, processesIn, tableLength};
 ghost use Rattle.test_kit.specs.Buffers.{AllAre, Filled, withNumber};
 ghost use Rattle.test_kit.specs.Tables.{dominoPlace, each, withCount, withDomino, withEntry, withMessage, withSizes};
 
+// The bytes of each buffer of the test programs: more than the largest table has.
+pub const SPACE: usize = 33000;
+
 // Writes a byte.
 pub fn byte(buffer: &mut [u8], at: usize, value: u8)
     ensures { λ _. ⌜ now (buffer .exit) ≡ set (now (buffer .entry)) at value ⌝ }
@@ -229,6 +232,20 @@ pub fn echo(text: &[u8], at: usize) {
         let end = line_end(text, at);
         word(&text[at..end]);
     }
+}
+
+// Prints the line of a script that starts at a place, where it is a comment.
+pub fn comment(text: &[u8], at: usize, code: u16) {
+    if starts(code, b'#', b' ') {
+        echo(text, at);
+        end();
+    }
+}
+
+// Prints a line that asks something, and what stands in front of the answer.
+pub fn asked(text: &[u8], at: usize) {
+    echo(text, at);
+    word(b" ->");
 }
 
 // Does what a line of a script says of the table in the buffer:

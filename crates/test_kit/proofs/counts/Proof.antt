@@ -20,17 +20,11 @@ loop-holds : tie.Need-loop-holds Inv-loop μ-loop
 unfolding each
 loop-holds c = (omega arith, refl, refl)
 
-count-requires : tie.Need-count-requires Inv-loop μ-loop
-count-requires c κs = search needs
-
-add-p : tie.Need-add-p Inv-loop μ-loop
-add-p c = search needs
-
-loop-less : tie.Need-loop-less Inv-loop μ-loop
-loop-less c = search needs
-
 loop-again : tie.Need-loop-again Inv-loop μ-loop
-loop-again c = (omega arith, omega arith, each-more _ _ _ _ (c .before .before .before .before .before .loop .inv .2) _ (c .before .before .count .ensures))
+loop-again c =
+    let put = c .before .before in
+    let at-loop = put .before .before .before in
+    (omega arith, omega arith, each-more _ _ _ _ (at-loop .loop .inv .2) _ (put .count .ensures))
 
 same-length : tie.Need-same-length Inv-loop μ-loop
 same-length c = c .before .loop .inv .1
@@ -45,9 +39,9 @@ counts-spec =
     Inv-loop
     μ-loop
     loop-holds
-    count-requires
-    add-p
-    loop-less
+    (λ c κs. search needs)
+    (λ c. search needs)
+    (λ c. search needs)
     loop-again
     same-length
     returns)

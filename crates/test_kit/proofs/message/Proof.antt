@@ -5,42 +5,6 @@ use Rattle.test_kit.proofs.BufferLaws.{message-put}
 use Rattle.test_kit.proofs.message.Statement.{statement}
 use Rattle.test_kit.proofs.message.Tie as tie
 
-u16-or-zero-requires : tie.Need-u16-or-zero-requires
-u16-or-zero-requires c κs = search needs
-
-cast-n : tie.Need-cast-n
-cast-n c = search needs
-
-u16-or-zero-requires-2 : tie.Need-u16-or-zero-requires-2
-u16-or-zero-requires-2 c κs = search needs
-
-cast-m : tie.Need-cast-m
-cast-m c = search needs
-
-mul-place : tie.Need-mul-place
-mul-place c = search needs
-
-sends-at-requires : tie.Need-sends-at-requires
-sends-at-requires c κs = search needs
-
-add-entry : tie.Need-add-entry
-add-entry c = search needs
-
-entry-requires : tie.Need-entry-requires
-entry-requires c κs = search needs
-
-receipts-at-requires : tie.Need-receipts-at-requires
-receipts-at-requires c κs = search needs
-
-add-entry-2 : tie.Need-add-entry-2
-add-entry-2 c = search needs
-
-entry-requires-2 : tie.Need-entry-requires-2
-entry-requires-2 c κs = search needs
-
-same-length : tie.Need-same-length
-same-length c = search needs
-
 returns : tie.Need-returns
 returns c =
     let second = c .before .before in
@@ -54,16 +18,16 @@ pub message-spec : {M : Type 1} → statement M
 message-spec =
     tie.close
     (tie.spec
-    u16-or-zero-requires
-    cast-n
-    u16-or-zero-requires-2
-    cast-m
-    mul-place
-    sends-at-requires
-    add-entry
-    entry-requires
-    receipts-at-requires
-    add-entry-2
-    entry-requires-2
-    same-length
+    (λ c κs. search needs)
+    (λ c. search needs)
+    (λ c κs. search needs)
+    (λ c. search needs)
+    (λ c. search needs)
+    (λ c κs. search needs)
+    (λ c. search needs)
+    (λ c κs. search needs)
+    (λ c κs. search needs)
+    (λ c. search needs)
+    (λ c κs. search needs)
+    (λ c. search needs)
     returns)
