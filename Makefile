@@ -45,6 +45,7 @@ check: need-rt
 
 format: need-rt
 	@rt fmt --check
+	@sh tests/crates/dependencies.sh
 
 # The second implementation: its own tests, and its answers to the scripts of the test programs.
 CARGO = cargo --quiet

@@ -2,7 +2,7 @@
 --     AnswerLaws    what a refusal and an answer leave
 --     RefusalLaws   the checks of a call on a table
 --     LineLaws      the answers of the line calls
---     MarkedCases   the marked cases of document 01
+--     MarkedCases   the marked cases
 --     SheetBytes    the keep sheet, read back from the buffer
 --     SheetLaws     the checks and the scratch of the keep sheet
 --     StepLaws      the answers of the steps

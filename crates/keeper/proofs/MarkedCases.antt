@@ -1,4 +1,4 @@
--- The marked cases of document 01 hold of the definitions: one statement, by computation.
+-- The marked cases hold of the definitions: one statement, by computation.
 -- Assumes nothing.
 use mathlib.Core.Bool.{true}
 use mathlib.Core.Path.{_≡_, refl}

@@ -1,4 +1,4 @@
--- What a call yields, and what it leaves in what was lent (document 01, "In checking order"). Assumes nothing.
+-- What a call yields, and what it leaves in what was lent (docs/MANUAL.md, "Refusals"). Assumes nothing.
 use mathlib.Core.List.{List, [], _∷_, _++_}
 use mathlib.Core.Path.{_≡_}
 use Prim.Native.Nat.{ℕ, zero, suc}

@@ -18,16 +18,16 @@ use Rattle.run_table.specs.Lists.{tabulate}
 use Rattle.run_table.specs.Numbers.{u16At, u16s}
 use Rattle.run_table.specs.Table.{Table, countOf, messageCount, mostCheckpoints, mostMessages, processCount}
 
--- The checks of a call on a table: the table's, 1 to 9, and then the call's own.
+-- The checks of a call on a table: the table's, and then the call's own.
 abbrev pub onTable : List ℕ → List Check → List Check
 onTable table own = tableChecks table ++ own
 
 -- ---- lines
--- The recovery line of the run: checks 1 to 9, 16.
+-- The recovery line of the run: the table's checks, 16.
 unfoldable pub recoveryLineAnswer : List ℕ → ℕ → Answer
 recoveryLineAnswer table room = answer (tableChecks table) (u16s (recoveryLine (decode table))) room
 
--- The checks of the line of a set: 1 to 9; 12, that the set has a bit at N or above.
+-- The checks of the line of a set: the table's; 12, that the set has a bit at N or above.
 unfoldable pub lineOfSetChecks : List ℕ → ℕ → List Check
 lineOfSetChecks table set = onTable table (record { caught = highBit set (processCount (decode table)); number = 12 } ∷ [])
 
@@ -41,7 +41,7 @@ HoldsLatest table ceiling buffer =
     Latest (decode table .messages) (at ceiling) (at (tabulate (processCount (decode table)) (λ p. u16At buffer (2 * p))))
 
 -- ---- the steps
--- The checks of a send: 1 to 9; 10 and 11; 14, that M is 4,096 already.
+-- The checks of a send: the table's; 10 and 11; 14, that M is 4,096 already.
 unfoldable pub sendCallChecks : List ℕ → ℕ → ℕ → List Check
 sendCallChecks table from to =
     onTable table (sendChecks (decode table) from to ++ (record { caught = leb mostMessages (messageCount (decode table)); number = 14 } ∷ []))
@@ -50,7 +50,7 @@ sendCallChecks table from to =
 unfoldable pub sendAnswer : List ℕ → ℕ → ℕ → ℕ → Answer
 sendAnswer table from to room = answer (sendCallChecks table from to) (encode (afterSend (decode table) from to)) room
 
--- The checks of a checkpoint: 1 to 9; 10 and 13; 14, that the count of the process is 4,096 already.
+-- The checks of a checkpoint: the table's; 10 and 13; 14, that the count of the process is 4,096 already.
 unfoldable pub saveCallChecks : List ℕ → ℕ → List ℕ → List Check
 saveCallChecks table process list =
     onTable table (checkpointChecks (decode table) process list ++ (record { caught = leb mostCheckpoints (countOf (decode table) process); number = 14 } ∷ []))
@@ -59,7 +59,7 @@ saveCallChecks table process list =
 unfoldable pub saveAnswer : List ℕ → ℕ → List ℕ → ℕ → Answer
 saveAnswer table process list room = answer (saveCallChecks table process list) (encode (afterCheckpoint (decode table) process list)) room
 
--- The table after a rollback: checks 1 to 9, 16.
+-- The table after a rollback: the table's checks, 16.
 unfoldable pub fallBackAnswer : List ℕ → ℕ → Answer
 fallBackAnswer table room = answer (tableChecks table) (encode (afterRollback (decode table))) room
 
@@ -69,7 +69,7 @@ pub record HoldsTable (t : Table) (buffer : List ℕ) (size : ℕ) : Type 0 wher
   pub reads : decode (take size buffer) ≡ t
 
 -- ---- the keep sheet
--- The checks of the keep sheet: 1 to 9; 15, that the scratch is shorter than N × N numbers.
+-- The checks of the keep sheet: the table's; 15, that the scratch is shorter than N × N numbers.
 unfoldable pub keepSheetChecks : List ℕ → ℕ → List Check
 keepSheetChecks table numbers =
     onTable table (record { caught = ltb numbers (processCount (decode table) * processCount (decode table)); number = 15 } ∷ [])

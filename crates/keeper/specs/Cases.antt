@@ -1,4 +1,4 @@
--- The marked cases of document 01, as one table. Assumes nothing.
+-- The marked cases of the format's document (README.md, "What is proved"), as one table. Assumes nothing.
 use mathlib.Core.Bool.{Bool, true, false, _&&_}
 use mathlib.Core.List.{List, [], _∷_, _++_}
 use Prim.Native.Nat.{ℕ}

@@ -1,6 +1,6 @@
 -- What each call of the keeper yields.
 --     Answers    a refusal or an answer, and what they leave in what was lent
---     Calls      the answer of each call, by document 01
+--     Calls      the answer of each call
 --     Cases      its marked cases
 pub mod Answers
 pub mod Calls

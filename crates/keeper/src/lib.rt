@@ -39,7 +39,7 @@ ghost use Rattle.process_set.specs.Sets.{member};
 ghost use Rattle.run_table.specs.Checks.{tableRefusal};
 ghost use Rattle.run_table.specs.Format.{decode};
 
-// The refusal of a table: the first of the checks 1 to 9 that catches, or 0.
+// The refusal of a table: the number of the first of its checks that catches, or 0.
 #[no_mangle]
 pub extern "C" fn keeper_check_table(table: &[u8]) -> u32
     ensures { λ r. ⌜ r ≡ tableRefusal (now (table .entry)) ⌝ }

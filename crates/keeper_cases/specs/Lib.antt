@@ -1,3 +1,3 @@
 -- What the program's functions say of its buffers.
---     Places      where answers and lines end there, and what is around them
+--     Places      what a call leaves there, and what is around it
 pub mod Places

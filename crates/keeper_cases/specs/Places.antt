@@ -1,27 +1,34 @@
--- Where answers and lines end in the guarded buffers, and what is around them. Assumes nothing.
-use mathlib.Core.Bool.{Bool, true, false, cond, _&&_, _||_}
+-- What a call leaves in the guarded buffers, and what is around it. Assumes nothing.
+use mathlib.Core.Bool.{Bool, true, false, cond, not, _&&_, _||_}
 use mathlib.Core.List.{List}
 use mathlib.Core.Logic.{_⊎_}
 use mathlib.Core.Path.{_≡_}
 use Prim.Native.Nat.{ℕ, _+_, _-_, _*_, _≤_, _<_}
 use lib.Dec.{eqb, leb, ltb}
 use lib.ListN.{length, getD}
+use Rattle.run_table.specs.Table.{mostProcesses}
 
--- The answer of a call that returned a number, in bytes: none under a refusal, or if it were longer than any answer.
-unfoldable pub answerEnd : ℕ → ℕ → ℕ
-answerEnd number written = cond (eqb number 0 && leb written 40000) (16 + written) 16
+-- The guards in front of a room; the bytes of the guarded buffer, and of the largest room in it; the numbers of the guarded scratch.
+abbrev pub guards : ℕ
+guards = 16
 
--- How many numbers the lines of n processes are, 32 at most.
-unfoldable pub lineNumbers : ℕ → ℕ
-lineNumbers n = cond (ltb 32 n) 0 (n * n)
+abbrev pub spaceSize : ℕ
+spaceSize = 33000
 
--- Where they end in the scratch: they are there after a sheet, and after the refusal of its buffer.
-unfoldable pub linesEnd : ℕ → ℕ → ℕ
-linesEnd number n = cond (eqb number 0 || eqb number 16) (16 + lineNumbers n) 16
+abbrev pub mostRoom : ℕ
+mostRoom = spaceSize - 2 * guards
 
--- How many positions a line of so many numbers, 16 at most, has behind its first two.
-unfoldable pub positionCount : ℕ → ℕ
-positionCount count = cond (ltb 16 count) 14 (count - 2)
+abbrev pub scratchSize : ℕ
+scratchSize = 1216
+
+-- Where the answer of a call that returned a number ends: there is none under a refusal, or if it were longer than its room.
+unfoldable pub answerEnd : ℕ → ℕ → ℕ → ℕ
+answerEnd number written room = cond (eqb number 0 && leb written room) (guards + written) guards
+
+-- How many numbers of the scratch hold lines, of n processes, 32 at most: n of n numbers after a keep sheet, and after the refusal of
+-- its buffer; none after another call.
+unfoldable pub lineNumbers : Bool → ℕ → ℕ → ℕ
+lineNumbers sheet number n = cond (not sheet || ltb mostProcesses n) 0 (cond (eqb number 0 || eqb number 16) (n * n) 0)
 
 -- The answer of a test whether every byte in front of a place and from another one on is a guard.
 pub record Guarded (buffer : List ℕ) (from to : ℕ) (answer : Bool) : Type 0 where

@@ -17,7 +17,7 @@ use native.Mathlib.Omega.{arith}
 use borrow.Author.Count.{below-more}
 use borrow.Author.Tests.{eq-eqb, eqb-false, eqb-true, ne-eqb, lt-ltb, le-ltb}
 use lib.Dec.{eqb, ltb}
-use lib.ListN.{length, getD, length-append, length-map, List·getD-append}
+use lib.ListN.{length, getD, length-append, length-map}
 use Rattle.consistency.specs.Lines.{Line}
 use Rattle.futures.specs.Sheet.{crosses}
 use Rattle.kept.specs.Kept.{First, checkpointsAt, crossesLine, isKept, leastBelow, lowestAt, lowestLine, shows, statesOf}
@@ -26,7 +26,7 @@ use Rattle.run_table.proofs.ListLaws.{anyBelow-found, anyBelow-more, anyBelow-n
 use Rattle.run_table.proofs.ListLaws.{rows-more, select-gap, select-more, select-skip, select-small}
 use Rattle.run_table.specs.Format.{countAt, processAt}
 use Rattle.run_table.specs.Lists.{anyBelow, rows, select, tabulate}
-use Rattle.run_table.specs.Numbers.{putAt, u16At}
+use Rattle.run_table.specs.Numbers.{u16At}
 use Rattle.run_table.specs.Table.{Message}
 
 -- ---- the least state from a start on, below a limit, that some line has at process i

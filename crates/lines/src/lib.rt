@@ -6,7 +6,7 @@ pub mod propagation;
 
 use process_set::bit;
 use run_table::parts;
-use run_table::writing::put_numbers;
+use table_writer::put_numbers;
 ghost use mathlib.Core.Path.{_≡_};
 ghost use Prim.Native.Nat.{_*_, _^_, _≤_, _<_};
 ghost use lib.ListN.{length, take};

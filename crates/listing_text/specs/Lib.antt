@@ -1,6 +1,6 @@
 -- What the text of a listing is.
 --     Text       decimal numbers, fields and rows; text in a buffer
---     Listing    the listing of a table, by document 01
+--     Listing    the listing of a table
 --     Rows       the rows as the code reads them off a scratch and a sheet
 pub mod Listing
 pub mod Rows

@@ -1,4 +1,4 @@
--- The listing (document 01, "The listing program"). Assumes nothing.
+-- The listing (docs/MANUAL.md, "The listing"). Assumes nothing.
 use mathlib.Core.List.{List, [], _∷_, _++_}
 use Prim.Native.Nat.{ℕ, zero, suc, _*_, _/_}
 use lib.ListN.{length}

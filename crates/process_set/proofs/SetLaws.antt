@@ -1,10 +1,9 @@
 -- Laws of process sets: which bits of a number are set, and what a mask and a comparison tell of them.
 -- Assumes nothing.
 use mathlib.Core.Path.{_≡_, refl, sym, ap, _∙_}
-use mathlib.Core.Bool.{Bool, true, false, not, _&&_, _||_, true≢false}
-use mathlib.Core.Logic.{⊎-elim}
+use mathlib.Core.Bool.{Bool, true, false, not, _&&_}
 use Prim.Native.Nat.{ℕ, zero, suc, _+_, _-_, _*_, _/_, _%_, _^_, _≤_, _<_}
-use native.Mathlib.Nat.{le-refl, le-trans, le-of-suc-le-suc, not-suc-le-zero, eq-or-lt-of-le, lt-of-lt-of-le, lt-of-not-le, not-le-of-lt}
+use native.Mathlib.Nat.{le-refl, le-trans, le-of-suc-le-suc, lt-of-lt-of-le, lt-of-not-le, not-le-of-lt}
 use native.Mathlib.Nat.{zero-mul, one-mul, pow-suc, pow-succ', div-eq-of-lt, div-lt-iff-lt-mul, le-div-iff-mul-le, mod-lt, mul-mod-left}
 use native.Mathlib.Omega.{arith}
 use lib.Dec.{eqb, leb, ltb, lit<}

@@ -36,7 +36,7 @@ use Rattle.run_table.proofs.ReadLaws.{receipts-size, receivers-known, senders-k
 use Rattle.run_table.specs.Arrays.{arrayOf}
 use Rattle.run_table.specs.Checks.{GoodMessage, tableRefusal}
 use Rattle.run_table.specs.Format.{countAt, countsPart, decode, messageAt, processAt, receiptsPart, sendsPart}
-use Rattle.run_table.specs.Lists.{rows, select, tabulate}
+use Rattle.run_table.specs.Lists.{select}
 use Rattle.run_table.specs.Numbers.{putAt}
 use Rattle.run_table.specs.Table.{Message, Table, countOf, messageCount, messageOf, processCount}
 

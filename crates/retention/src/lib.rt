@@ -10,7 +10,7 @@ use kept::messages;
 use lines::line_of_holder;
 use lines::propagation::propagating;
 use run_table::parts;
-use run_table::writing::store_numbers;
+use table_writer::store_numbers;
 ghost use mathlib.Core.Path.{_≡_};
 ghost use Prim.Native.Nat.{_+_, _*_, _≤_};
 ghost use lib.ListN.{length, take};

@@ -28,7 +28,7 @@ use Rattle.run_table.proofs.ArrayLaws.{array-at, array-front}
 use Rattle.run_table.proofs.CodingLaws.{entries-append}
 use Rattle.run_table.proofs.FormatLaws.{length-entries}
 use Rattle.run_table.proofs.NumberLaws.{length-putAt, length-u16s, putAt-none, u16s-append}
-use Rattle.run_table.proofs.PlaceLaws.{both-more}
+use Rattle.table_writer.proofs.PlaceLaws.{both-more}
 use Rattle.run_table.proofs.ReadLaws.{message-good, processes-few, received-read, receiver-read, receipts-size, sender-read, sends-size, sent-read}
 use Rattle.run_table.specs.Arrays.{arrayOf}
 use Rattle.run_table.specs.Checks.{tableRefusal}

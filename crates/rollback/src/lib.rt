@@ -2,8 +2,8 @@
 use run_table::format::sends_at;
 use run_table::numbers::u16_at;
 use run_table::parts;
-use run_table::writing::put_entry;
-use run_table::writing::put_head;
+use table_writer::put_entry;
+use table_writer::put_head;
 ghost use mathlib.Core.Path.{_≡_};
 ghost use Prim.Native.Nat.{_+_, _*_, _≤_};
 ghost use lib.ListN.{length};

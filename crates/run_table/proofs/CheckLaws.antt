@@ -111,7 +111,7 @@ split-check c a b n rest rest′ e later = ap (λ (x : Bool). firstCaught (recor
     go false true f = refl
     go false false f = f refl
 
--- checks 1 to 4, from the numbers that the code read
+-- the checks of the sizes, from the numbers that the code read
 module _ (bytes : List ℕ) where
   pub short : length bytes < 4 → tooShort bytes ≡ true
   unfolding tooShort

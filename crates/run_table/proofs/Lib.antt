@@ -9,8 +9,6 @@
 --     AcceptLaws    an accepted table's facts
 --     ReadLaws      what the code knows of an accepted table once it has read N and M
 --     ScanLaws      what the loop of check 5 finds, and a message's entry
---     WriteLaws     numbers that a loop writes, one after another; the parts of a table
---     PlaceLaws     bytes put at two places of one buffer
 pub mod AcceptLaws
 pub mod ArrayLaws
 pub mod CheckLaws
@@ -19,7 +17,5 @@ mod FaultLaws
 pub mod FormatLaws
 pub mod ListLaws
 pub mod NumberLaws
-pub mod PlaceLaws
 pub mod ReadLaws
 mod ScanLaws
-pub mod WriteLaws

@@ -101,7 +101,7 @@ pub record Limits (t : Table) : Type 0 where
   pub messages-limit : messageCount t ≤ mostMessages
   pub counts-limit : (p : ℕ) → p < processCount t → countOf t p ≤ mostCheckpoints
 
--- An accepted table: none of the checks 1 to 9 catches.
+-- An accepted table: none of its checks catches.
 pub record Accepted (bytes : List ℕ) : Type 0 where
   pub whole : length bytes ≡ tableLength (processCount (decode bytes)) (messageCount (decode bytes))
   pub well-formed : WellFormed (decode bytes)

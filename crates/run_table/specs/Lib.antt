@@ -3,7 +3,7 @@
 --     Numbers    16-bit numbers in bytes
 --     Table      messages and tables, free of bytes
 --     Format     the bytes of a table, read (decode) and written (encode)
---     Checks     checks 1 to 9, the refusal, and what an accepted table satisfies
+--     Checks     the checks of a table, the refusal, and what an accepted table satisfies
 --     Fields     the numbers of a message, by name
 --     Arrays     numbers of processes, as an array of the code
 --     Parts      what the loops of the code read off a part of a table's bytes

@@ -118,7 +118,7 @@ fn first_fault(counts: &[u8], sends: &[u8], receipts: &[u8], n: usize, m: usize)
     first
 }
 
-// The refusal of a table's bytes: the number of the first of the checks 1 to 9 that catches, or 0.
+// The refusal of a table's bytes: the number of the first of its checks that catches, or 0.
 pub fn check(table: &[u8]) -> u32
     ensures { λ r. ⌜ r ≡ tableRefusal (now (table .entry)) ⌝ }
 {

@@ -5,7 +5,6 @@ pub mod format;
 pub mod lookups;
 pub mod numbers;
 pub mod parts;
-pub mod writing;
 
 use lookups::Field;
 ghost use mathlib.Core.Path.{_≡_};
@@ -13,7 +12,7 @@ ghost use Rattle.run_table.specs.Checks.{tableRefusal};
 ghost use Rattle.run_table.specs.Format.{decode};
 ghost use Rattle.run_table.specs.Table.{countOf, messageCount, messageOf, processCount};
 
-// The refusal of a table: the number of the first of the checks 1 to 9 that catches, or 0.
+// The refusal of a table: the number of the first of its checks that catches, or 0.
 #[no_mangle]
 pub extern "C" fn run_table_check(table: &[u8]) -> u32
     ensures { λ r. ⌜ r ≡ tableRefusal (now (table .entry)) ⌝ }

@@ -1,20 +1,22 @@
 // Runs the table reader over the script on standard input and prints each line that asks something,
-// with what the library answers. The file stdout has what document 01 says of each.
+// with what the library answers. The file stdout has what docs/MANUAL.md says of each.
 //     check LEN          the refusal of the first LEN bytes
 //     whole              the refusal of as many bytes as the sizes give
 //     lookup LEN P K     N, M, the count of P and the four numbers of message K in the first LEN bytes
 //     # TEXT             printed as it stands
 // test_kit has the lines that build a table.
 use libc::STDIN_FILENO;
+use test_kit::SPACE;
+use test_kit::asked;
 use test_kit::build;
-use test_kit::echo;
+use test_kit::comment;
 use test_kit::end;
+use test_kit::first;
 use test_kit::length_of;
 use test_kit::script::line_at;
 use test_kit::script::size;
 use test_kit::script::starts;
 use test_kit::value;
-use test_kit::word;
 
 fn check(table: &[u8]) {
     value(run_table::run_table_check(table) as u64);
@@ -30,38 +32,23 @@ fn lookup(table: &[u8], p: usize, k: usize) {
     value(run_table::run_table_received(table, k) as u64);
 }
 
-// The first len bytes of a buffer, or all of a shorter one.
-fn first(buffer: &[u8], len: usize) -> &[u8] {
-    if len <= buffer.len() {
-        return &buffer[0..len];
-    }
-    buffer
-}
-
 // Answers a line.
 fn answer(text: &[u8], at: usize, buffer: &[u8], code: u16, numbers: &[u64; 16]) {
-    if starts(code, b'#', b' ') {
-        echo(text, at);
-        end();
-        return;
-    }
+    comment(text, at, code);
     if starts(code, b'c', b'h') {
-        echo(text, at);
-        word(b" ->");
+        asked(text, at);
         check(first(buffer, size(numbers, 0)));
         end();
         return;
     }
     if starts(code, b'w', b'h') {
-        echo(text, at);
-        word(b" ->");
+        asked(text, at);
         check(first(buffer, length_of(buffer)));
         end();
         return;
     }
     if starts(code, b'l', b'o') {
-        echo(text, at);
-        word(b" ->");
+        asked(text, at);
         lookup(
             first(buffer, size(numbers, 0)),
             size(numbers, 1),
@@ -86,6 +73,6 @@ fn run(text: &[u8], buffer: &mut [u8]) {
 fn main() {
     let mut text = [0u8; 16384];
     let len = io::read_full(STDIN_FILENO, &mut text);
-    let mut table = [0u8; 33000];
+    let mut table = [0u8; SPACE];
     run(&text[..len], &mut table);
 }

@@ -16,7 +16,7 @@ use Rattle.futures.specs.Steps.{afterCheckpoint, receivedAt}
 use Rattle.run_table.proofs.CodingLaws.{entries-append, entries-tabulate, even-number, odd-number}
 use Rattle.run_table.proofs.ListLaws.{tabulate-more}
 use Rattle.run_table.proofs.ReadLaws.{received-read, receiver-read, sender-read, sent-read}
-use Rattle.run_table.proofs.WriteLaws.{table-put}
+use Rattle.table_writer.proofs.WriteLaws.{table-put}
 use Rattle.run_table.specs.Checks.{tableRefusal}
 use Rattle.run_table.specs.Format.{checkpointAt, decode, encode, entriesOf, processAt, receiptsAt, receiptsOf, receiptsPart, sendsAt, sendsOf, sendsPart, tableLength}
 use Rattle.run_table.specs.Lists.{any, tabulate}

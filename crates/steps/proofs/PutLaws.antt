@@ -17,7 +17,7 @@ use Rattle.run_table.proofs.CodingLaws.{entries-append, receipts-numbers, sends
 use Rattle.run_table.proofs.FormatLaws.{decode-messages}
 use Rattle.run_table.proofs.NumberLaws.{length-u16s, putAt-more, u16s-append}
 use Rattle.run_table.proofs.ReadLaws.{messages-few, processes-few, receipts-size, sends-size}
-use Rattle.run_table.proofs.WriteLaws.{numbers-size, table-put}
+use Rattle.table_writer.proofs.WriteLaws.{numbers-size, table-put}
 use Rattle.run_table.specs.Arrays.{arrayOf}
 use Rattle.run_table.specs.Checks.{tableRefusal}
 use Rattle.run_table.specs.Format.{decode, encode, entriesOf, receiptsAt, receiptsOf, receiptsPart, sendsAt, sendsOf, sendsPart, tableLength}

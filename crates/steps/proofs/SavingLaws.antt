@@ -20,7 +20,7 @@ use Rattle.futures.proofs.StepLaws.{Waiting, good-position, rising, waiting-pos
 use Rattle.futures.specs.Steps.{badPosition, follows, notRising}
 use Rattle.run_table.proofs.CodingLaws.{even-number, odd-number}
 use Rattle.run_table.proofs.ListLaws.{any-last, any-none, any-some, none-of, or-none, tabulate-more}
-use Rattle.run_table.proofs.PlaceLaws.{number-within}
+use Rattle.table_writer.proofs.PlaceLaws.{number-within}
 use Rattle.run_table.proofs.ReadLaws.{received-read, receiver-read}
 use Rattle.run_table.specs.Checks.{tableRefusal}
 use Rattle.run_table.specs.Format.{checkpointAt, decode, processAt, receiptsPart}

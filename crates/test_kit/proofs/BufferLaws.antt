@@ -1,7 +1,8 @@
 -- What is written to a buffer, and what a test says of one.
---     number-out, number-in               a number beyond the end, and one that begins before it
---     sizes-put, message-put, domino-put  the tables that are built
---     filled-none, filled-more, filled-all    a loop that fills a buffer from the front
+--     number-out                          a number beyond the end
+--     message-put                         a message
+--     filled-none .. filled-all           a loop that fills a buffer from the front
+--     filled-list                         a list that is filled whole
 --     each-more, each-all                 a loop of changes
 --     Tested, tested-none .. tested-another   a loop that tests its bytes
 -- Assumes nothing.
@@ -15,38 +16,25 @@ use native.Mathlib.Numerals.{add-one}
 use native.Mathlib.Omega.{arith}
 use lib.ListN.{length, getD, set, length-set}
 use lib.Seq.{getD-set-other, getD-set-same, set-out}
-use Rattle.run_table.specs.Format.{messagesIn, processesIn}
+use Rattle.run_table.proofs.ListLaws.{tabulate-ext, tabulate-getD}
+use Rattle.run_table.specs.Format.{messagesIn, processesIn, receiptsAt, sendsAt}
+use Rattle.run_table.specs.Lists.{tabulate}
 use Rattle.run_table.specs.Numbers.{u16At}
 use Rattle.test_kit.specs.Buffers.{AllAre, Filled, withNumber}
-use Rattle.test_kit.specs.Tables.{dominoMessage, each, withDomino, withMessage, withSizes}
+use Rattle.test_kit.specs.Tables.{each, withEntry, withMessage}
 
--- ---- a number
-module _ (before after : List ℕ) (at value : ℕ) (low : after ≡ set before at (value % 256)) where
-  pub number-out : length after ≤ at → after ≡ withNumber before at value
-  unfolding withNumber
-  number-out h = sym (set-out after (at + 1) (value / 256 % 256) (omega arith)) ∙ ap (λ (b : List ℕ). set b (at + 1) (value / 256 % 256)) low
+-- ---- a number whose place is beyond the end
+pub number-out : (before after : List ℕ) (at value : ℕ) → after ≡ set before at (value % 256) → length after ≤ at → after ≡ withNumber before at value
+unfolding withNumber
+number-out before after at value low h =
+    sym (set-out after (at + 1) (value / 256 % 256) (omega arith)) ∙ ap (λ (b : List ℕ). set b (at + 1) (value / 256 % 256)) low
 
-  pub number-in : (later : List ℕ) → later ≡ set after (at + 1) (value / 256 % 256) → later ≡ withNumber before at value
-  unfolding withNumber
-  number-in later high = high ∙ ap (λ (b : List ℕ). set b (at + 1) (value / 256 % 256)) low
-
--- ---- the sizes and the counts; a message; a domino
-pub sizes-put : (b₀ b₁ b₂ b₃ : List ℕ) (n m count : ℕ) → b₁ ≡ withNumber b₀ 0 n → b₂ ≡ withNumber b₁ 2 m
-    → b₃ ≡ each n (λ p b. withNumber b (4 + 2 * p) count) b₂ → b₃ ≡ withSizes b₀ n m count
-unfolding withSizes
-sizes-put b₀ b₁ b₂ b₃ n m count w₁ w₂ w₃ =
-    w₃ ∙ ap (each n (λ p b. withNumber b (4 + 2 * p) count)) (w₂ ∙ ap (λ (b : List ℕ). withNumber b 2 m) w₁)
-
-module _ (b₀ b₁ b₂ b₃ b₄ : List ℕ) (n m k j y i r : ℕ) (read-n : n ≡ u16At b₀ 0) (read-m : m ≡ u16At b₀ 2) where
-  pub message-put : b₁ ≡ withNumber b₀ (4 + 2 * n + 4 * k) j → b₂ ≡ withNumber b₁ (4 + 2 * n + 4 * k + 2) y
-      → b₃ ≡ withNumber b₂ (4 + 2 * n + 4 * m + 4 * k) i → b₄ ≡ withNumber b₃ (4 + 2 * n + 4 * m + 4 * k + 2) r → b₄ ≡ withMessage b₀ k j y i r
-  unfolding withMessage processesIn messagesIn
-  message-put w₁ w₂ w₃ w₄ = rw (← read-n, ← read-m) (simp (w₃, w₂, w₁) at w₄)
-
-pub domino-put : (b₀ b₁ b₂ b₃ : List ℕ) (m : ℕ) (backward : Bool) → b₁ ≡ withSizes b₀ 2 m (m / 2 + 1) → b₂ ≡ withNumber b₁ 6 (m / 2)
-    → b₃ ≡ each m (dominoMessage m backward) b₂ → b₃ ≡ withDomino b₀ m backward
-unfolding withDomino
-domino-put b₀ b₁ b₂ b₃ m backward w₁ w₂ w₃ = w₃ ∙ ap (each m (dominoMessage m backward)) (w₂ ∙ ap (λ (b : List ℕ). withNumber b 6 (m / 2)) w₁)
+-- ---- a message, from what was read of the sizes and where its entries are put
+pub message-put : (b₀ b₁ b₂ : List ℕ) (n m sends receipts k j y i r : ℕ) → n ≡ u16At b₀ 0 → m ≡ u16At b₀ 2
+    → sends ≡ sendsAt n → receipts ≡ receiptsAt n m → b₁ ≡ withEntry b₀ (sends + 4 * k) j y
+    → b₂ ≡ withEntry b₁ (receipts + 4 * k) i r → b₂ ≡ withMessage b₀ k j y i r
+unfolding withMessage processesIn messagesIn
+message-put b₀ b₁ b₂ n m sends receipts k j y i r read-n read-m is-s is-r first second = cc
 
 -- ---- a loop that fills a buffer from the front
 pub filled-none : (f : ℕ → ℕ) (before : List ℕ) → Filled f 0 before before
@@ -67,6 +55,11 @@ module _ (f : ℕ → ℕ) (k : ℕ) (before after : List ℕ) (w : Filled f k b
 
   pub filled-all : (n : ℕ) → k ≤ n → n ≤ k → Filled f n before after
   filled-all n a b = subst (λ (j : ℕ). Filled f j before after) (le-antisymm a b) w
+
+pub filled-list : (f : ℕ → ℕ) (n : ℕ) (before after : List ℕ) → Filled f n before after → length after ≡ n → after ≡ tabulate n f
+filled-list f n before after w size =
+    let inside : (i : ℕ) → i < n → i < length before = λ i l. omega (arith, w .same-length) in
+    sym (tabulate-getD after 0) ∙ ap (λ (k : ℕ). tabulate k (λ i. getD after i 0)) size ∙ tabulate-ext n _ f (λ i l. w .front i l (inside i l))
 
 -- ---- a loop of changes
 module _ (change : ℕ → List ℕ → List ℕ) (before after : List ℕ) (k : ℕ) (done : after ≡ each k change before) where

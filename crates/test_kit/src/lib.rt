@@ -3,17 +3,24 @@
 pub mod script;
 
 use libc::STDOUT_FILENO;
+use run_table::format::COUNTS_AT;
+use run_table::format::receipts_at;
+use run_table::format::sends_at;
+use run_table::format::table_length;
 use run_table::numbers::u16_or_zero;
 use script::line_end;
 use script::size;
 use script::small;
 use script::starts;
 ghost use mathlib.Core.Path.{_≡_};
-ghost use Prim.Native.Nat.{_+_, _-_, _*_, _<_};
-ghost use lib.ListN.{getD, length, set};
+ghost use Prim.Native.Nat.{_<_};
+ghost use lib.ListN.{getD, length, set, take};
 ghost use Rattle.run_table.specs.Format.{messagesIn, processesIn, tableLength};
 ghost use Rattle.test_kit.specs.Buffers.{AllAre, Filled, withNumber};
-ghost use Rattle.test_kit.specs.Tables.{dominoPlace, each, withDomino, withMessage, withSizes};
+ghost use Rattle.test_kit.specs.Tables.{dominoPlace, each, withCount, withDomino, withEntry, withMessage, withSizes};
+
+// The bytes of each buffer of the test programs: more than the largest table has.
+pub const SPACE: usize = 33000;
 
 // Writes a byte.
 pub fn byte(buffer: &mut [u8], at: usize, value: u8)
@@ -36,37 +43,50 @@ pub fn number(buffer: &mut [u8], at: usize, value: u16)
     byte(buffer, at + 1, (value / 256 % 256) as u8);
 }
 
-// Writes N and M, and the counts, all alike. The messages are left as they are.
-pub fn sizes(buffer: &mut [u8], n: u16, m: u16, count: u16)
-    ensures { λ _. ⌜ now (buffer .exit) ≡ withSizes (now (buffer .entry)) n m count ⌝ }
+// Writes two numbers, one behind the other, as an entry of a message is.
+fn entry(buffer: &mut [u8], at: usize, first: u16, second: u16)
+    requires { ⌜ at < 1000000 ⌝ }
+    ensures { λ _. ⌜ now (buffer .exit) ≡ withEntry (now (buffer .entry)) at first second ⌝ }
 {
-    number(buffer, 0, n);
-    number(buffer, 2, m);
-    let mut p: u16 = 0;
-    while p < n {
-        number(buffer, 4 + 2 * (p as usize), count);
-        p += 1;
-    }
+    number(buffer, at, first);
+    number(buffer, at + 2, second);
 }
 
 // Writes the count of one process.
 pub fn count(buffer: &mut [u8], p: u16, value: u16)
-    ensures { λ _. ⌜ now (buffer .exit) ≡ withNumber (now (buffer .entry)) (4 + 2 * p) value ⌝ }
+    ensures { λ _. ⌜ now (buffer .exit) ≡ withCount (now (buffer .entry)) p value ⌝ }
 {
-    number(buffer, 4 + 2 * (p as usize), value);
+    number(buffer, COUNTS_AT + 2 * (p as usize), value);
+}
+
+// Writes the counts, all alike.
+fn counts(buffer: &mut [u8], n: u16, value: u16)
+    ensures { λ _. ⌜ now (buffer .exit) ≡ each n (λ p b. withCount b p value) (now (buffer .entry)) ⌝ }
+{
+    let mut p: u16 = 0;
+    while p < n {
+        count(buffer, p, value);
+        p += 1;
+    }
+}
+
+// Writes N and M, and the counts, all alike. The messages are left as they are.
+pub fn sizes(buffer: &mut [u8], n: u16, m: u16, value: u16)
+    ensures { λ _. ⌜ now (buffer .exit) ≡ withSizes (now (buffer .entry)) n m value ⌝ }
+{
+    entry(buffer, 0, n, m);
+    counts(buffer, n, value);
 }
 
 // Writes message k: from checkpoint y of j to checkpoint r of i.
 pub fn message(buffer: &mut [u8], k: u16, j: u16, y: u16, i: u16, r: u16)
     ensures { λ _. ⌜ now (buffer .exit) ≡ withMessage (now (buffer .entry)) k j y i r ⌝ }
 {
-    let sends_at = 4 + 2 * (u16_or_zero(buffer, 0) as usize);
-    let receipts_at = sends_at + 4 * (u16_or_zero(buffer, 2) as usize);
+    let n = u16_or_zero(buffer, 0) as usize;
+    let m = u16_or_zero(buffer, 2) as usize;
     let place = 4 * (k as usize);
-    number(buffer, sends_at + place, j);
-    number(buffer, sends_at + place + 2, y);
-    number(buffer, receipts_at + place, i);
-    number(buffer, receipts_at + place + 2, r);
+    entry(buffer, sends_at(n) + place, j, y);
+    entry(buffer, receipts_at(n, m) + place, i, r);
 }
 
 // Writes every message alike.
@@ -80,11 +100,24 @@ pub fn messages(buffer: &mut [u8], m: u16, j: u16, y: u16, i: u16, r: u16)
     }
 }
 
+// The first bytes of a buffer, or all of a shorter one.
+pub fn first(buffer: &[u8], len: usize) -> &[u8]
+    ensures { λ r. ⌜ now r ≡ take len (now (buffer .entry)) ⌝ }
+{
+    if buffer.len() <= len {
+        return buffer;
+    }
+    &buffer[0..len]
+}
+
 // The length that the sizes of a table give.
 pub fn length_of(buffer: &[u8]) -> usize
     ensures { λ r. ⌜ r ≡ tableLength (processesIn (now (buffer .entry))) (messagesIn (now (buffer .entry))) ⌝ }
 {
-    4 + 2 * (u16_or_zero(buffer, 0) as usize) + 8 * (u16_or_zero(buffer, 2) as usize)
+    table_length(
+        u16_or_zero(buffer, 0) as usize,
+        u16_or_zero(buffer, 2) as usize,
+    )
 }
 
 // Writes a domino of two processes and m messages: each one, once its receiver is put back, makes the
@@ -199,6 +232,20 @@ pub fn echo(text: &[u8], at: usize) {
         let end = line_end(text, at);
         word(&text[at..end]);
     }
+}
+
+// Prints the line of a script that starts at a place, where it is a comment.
+pub fn comment(text: &[u8], at: usize, code: u16) {
+    if starts(code, b'#', b' ') {
+        echo(text, at);
+        end();
+    }
+}
+
+// Prints a line that asks something, and what stands in front of the answer.
+pub fn asked(text: &[u8], at: usize) {
+    echo(text, at);
+    word(b" ->");
 }
 
 // Does what a line of a script says of the table in the buffer:

@@ -5,6 +5,7 @@ ghost use mathlib.Core.Path.{_≡_};
 ghost use Prim.Native.Nat.{_+_, _*_, _%_, _<_, _≤_};
 ghost use lib.Dec.{eqb};
 ghost use lib.ListN.{getD, length};
+ghost use Rattle.run_table.specs.Lists.{tabulate};
 ghost use Rattle.run_table.specs.Numbers.{u16At};
 
 // A line: its word, its numbers, how many they are, and where the next line starts.
@@ -100,6 +101,19 @@ pub fn small(numbers: &[u64; 16], i: usize) -> u16
     ensures { λ r. ⌜ r ≡ getD (now (numbers .entry)) i 0 % 65536 ⌝ }
 {
     (numbers[i] % 65536) as u16
+}
+
+// The numbers of a line, as 16 bits each.
+pub fn smalls(numbers: &[u64; 16]) -> [u16; 16]
+    ensures { λ r. ⌜ r ≡ tabulate 16 (λ i. getD (now (numbers .entry)) i 0 % 65536) ⌝ }
+{
+    let mut smalls = [0u16; 16];
+    let mut i = 0;
+    while i < 16 {
+        smalls[i] = small(numbers, i);
+        i += 1;
+    }
+    smalls
 }
 
 // Number i of a line, as a size.

@@ -29,12 +29,6 @@ module _ (buffer : List ℕ) (from to : ℕ) (a : Bool) (front : AllAre buffer 0
         (other .0, inl (other .2), other .3, other .4);
   }
 
-all-are-requires : tie.Need-all-are-requires
-all-are-requires c κs = search needs
-
-all-are-requires-2 : tie.Need-all-are-requires-2
-all-are-requires-2 c κs = search needs
-
 returns : tie.Need-returns
 returns c = both _ _ _ _ (c .before .before .all-are .ensures) (c .before .if1 .taken) _ (c .all-are2 .ensures)
 
@@ -42,4 +36,4 @@ returns-2 : tie.Need-returns-2
 returns-2 c = first-changed _ _ _ _ (c .before .all-are .ensures) (c .if1 .left)
 
 pub is-guarded-spec : {M : Type 1} → statement M
-is-guarded-spec = tie.close (tie.spec all-are-requires all-are-requires-2 returns returns-2)
+is-guarded-spec = tie.close (tie.spec (λ c κs. search needs) (λ c κs. search needs) returns returns-2)

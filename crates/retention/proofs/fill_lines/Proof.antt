@@ -4,7 +4,7 @@ use native.Mathlib.Omega.{arith}
 use borrow.Author.Needs.{needs}
 use mathlib.Core.Bool.{Bool, false}
 use mathlib.Core.List.{List}
-use mathlib.Core.Path.{_≡_, refl, ap, sym, _∙_}
+use mathlib.Core.Path.{_≡_, ap, sym, _∙_}
 use Prim.Native.Nat.{ℕ, _+_, _-_, _*_, _<_, _≤_}
 use native.Mathlib.Nat.{mul-suc}
 use native.Mathlib.Numerals.{add-one}
@@ -17,9 +17,8 @@ use Rattle.retention.proofs.SheetLaws.{holder-front, holder-length, lin
 use Rattle.run_table.proofs.ArrayLaws.{array-length}
 use Rattle.run_table.proofs.ListLaws.{getD-tabulate}
 use Rattle.run_table.proofs.ReadLaws.{processes-few}
-use Rattle.run_table.proofs.WriteLaws.{Written, written-all, written-more, written-none, written-room}
+use Rattle.table_writer.proofs.WriteLaws.{Written, written-all, written-more, written-none, written-room}
 use Rattle.run_table.specs.Format.{decode}
-use Rattle.run_table.specs.Lists.{rows}
 use Rattle.run_table.specs.Numbers.{putAt}
 use Rattle.retention.proofs.fill_lines.Statement.{statement}
 use Rattle.retention.proofs.fill_lines.Tie as tie

@@ -10,7 +10,7 @@ use lib.Seq.{length-take-le}
 use Rattle.futures.proofs.StepLaws.{rollback-fewer, rollback-processes}
 use Rattle.run_table.proofs.ArrayLaws.{array-length}
 use Rattle.run_table.proofs.ReadLaws.{messages-few, processes-few}
-use Rattle.run_table.proofs.WriteLaws.{table-put}
+use Rattle.table_writer.proofs.WriteLaws.{table-put}
 use Rattle.run_table.specs.Format.{decode}
 use Rattle.rollback.proofs.RollbackLaws.{counts-front}
 use Rattle.rollback.proofs.put_rollback.Statement.{statement}

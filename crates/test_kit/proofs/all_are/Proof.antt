@@ -18,17 +18,11 @@ loop-holds c = tested-none _ _ _
 returns : tie.Need-returns Inv-loop μ-loop
 returns c = tested-all _ _ _ _ (c .before .before .loop .inv) _ (λ k a b. omega (arith, c .if1 .taken))
 
-shared-slice-read-if2 : tie.Need-shared-slice-read-if2 Inv-loop μ-loop
-shared-slice-read-if2 c = omega arith
-
 returns-2 : tie.Need-returns-2 Inv-loop μ-loop
-returns-2 c = tested-another _ _ _ _ (c .before .before .before .before .loop .inv) _ (c .before .before .before .loop-test .taken) (c .before .before .if1 .left) (c .if2 .taken)
-
-add-i : tie.Need-add-i Inv-loop μ-loop
-add-i c = omega arith
-
-loop-less : tie.Need-loop-less Inv-loop μ-loop
-loop-less c = omega arith
+returns-2 c =
+    let inside = c .before .before in
+    let turn = inside .before in
+    tested-another _ _ _ _ (turn .before .loop .inv) _ (turn .loop-test .taken) (inside .if1 .left) (c .if2 .taken)
 
 loop-again : tie.Need-loop-again Inv-loop μ-loop
 loop-again c = tested-more _ _ _ _ (c .before .before .before .before .loop .inv) (c .if2 .left)
@@ -44,9 +38,9 @@ all-are-spec =
     μ-loop
     loop-holds
     returns
-    shared-slice-read-if2
+    (λ c. omega arith)
     returns-2
-    add-i
-    loop-less
+    (λ c. omega arith)
+    (λ c. omega arith)
     loop-again
     returns-3)

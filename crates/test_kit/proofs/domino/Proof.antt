@@ -5,8 +5,8 @@ use mathlib.Core.Path.{_≡_, refl}
 use Prim.Native.Nat.{_-_, _≤_}
 use native.Mathlib.Omega.{arith}
 use lib.ListN.{length}
-use Rattle.test_kit.proofs.BufferLaws.{domino-put, each-all, each-more}
-use Rattle.test_kit.specs.Tables.{dominoMessage, each}
+use Rattle.test_kit.proofs.BufferLaws.{each-all, each-more}
+use Rattle.test_kit.specs.Tables.{dominoMessage, each, withDomino}
 use Rattle.test_kit.proofs.domino.Statement.{statement}
 use Rattle.test_kit.proofs.domino.Tie as tie
 
@@ -16,49 +16,24 @@ Inv-loop buffer₀ m backward k₀ buffer k = (k ≤ m) × (length buffer ≡ le
 abbrev μ-loop : tie.MeasureT-loop
 μ-loop buffer₀ m backward k₀ buffer k = m - k
 
-add-sizes : tie.Need-add-sizes Inv-loop μ-loop
-add-sizes c = search needs
-
-sizes-requires : tie.Need-sizes-requires Inv-loop μ-loop
-sizes-requires c κs = search needs
-
-count-requires : tie.Need-count-requires Inv-loop μ-loop
-count-requires c κs = search needs
-
 loop-holds : tie.Need-loop-holds Inv-loop μ-loop
 unfolding each
 loop-holds c = (omega arith, refl, refl)
 
-domino-place-requires : tie.Need-domino-place-requires Inv-loop μ-loop
-domino-place-requires c κs = search needs
-
-sub-message : tie.Need-sub-message Inv-loop μ-loop
-sub-message c = search needs
-
-add-message : tie.Need-add-message Inv-loop μ-loop
-add-message c = search needs
-
-message-requires : tie.Need-message-requires Inv-loop μ-loop
-message-requires c κs = search needs
-
-add-k : tie.Need-add-k Inv-loop μ-loop
-add-k c = search needs
-
-loop-less : tie.Need-loop-less Inv-loop μ-loop
-loop-less c = search needs
-
 loop-again : tie.Need-loop-again Inv-loop μ-loop
 loop-again c =
-    let put = rw (c .before .before .before .before .domino-place .ensures) at (c .before .before .message .ensures) in
-    (omega arith, omega arith, each-more _ _ _ _ (c .before .before .before .before .before .before .loop .inv .2) _ put)
-
-same-length : tie.Need-same-length Inv-loop μ-loop
-same-length c = search needs
+    let placed = c .before .before .before .before in
+    let put = rw (placed .domino-place .ensures) at (c .before .before .message .ensures) in
+    (omega arith, omega arith, each-more _ _ _ _ (placed .before .before .loop .inv .2) _ put)
 
 returns : tie.Need-returns Inv-loop μ-loop
+unfolding withDomino
 returns c =
-    domino-put _ _ _ _ _ _ (c .before .before .before .before .before .before .before .before .sizes .ensures) (c .before .before .before .before .count .ensures)
-    (each-all _ _ _ _ (c .before .loop .inv .2) _ (c .before .loop .inv .0) (c .loop-test .left))
+    let at-loop = c .before in
+    let counted = at-loop .before .before .before in
+    let sized = counted .before .before .before .before in
+    let all = each-all _ _ _ _ (at-loop .loop .inv .2) _ (at-loop .loop .inv .0) (c .loop-test .left) in
+    rw (counted .count .ensures, sized .sizes .ensures) at all
 
 pub domino-spec : {M : Type 1} → statement M
 domino-spec =
@@ -66,16 +41,16 @@ domino-spec =
     (tie.spec
     Inv-loop
     μ-loop
-    add-sizes
-    sizes-requires
-    count-requires
+    (λ c. search needs)
+    (λ c κs. search needs)
+    (λ c κs. search needs)
     loop-holds
-    domino-place-requires
-    sub-message
-    add-message
-    message-requires
-    add-k
-    loop-less
+    (λ c κs. search needs)
+    (λ c. search needs)
+    (λ c. search needs)
+    (λ c κs. search needs)
+    (λ c. search needs)
+    (λ c. search needs)
     loop-again
-    same-length
+    (λ c. search needs)
     returns)

@@ -11,7 +11,8 @@ use Rattle.test_kit.proofs.messages.Statement.{statement}
 use Rattle.test_kit.proofs.messages.Tie as tie
 
 abbrev Inv-loop : tie.InvT-loop
-Inv-loop buffer₀ m j y i r k₀ buffer k = (k ≤ m) × (length buffer ≡ length buffer₀) × (buffer ≡ each k (λ k b. withMessage b k j y i r) buffer₀)
+Inv-loop buffer₀ m j y i r k₀ buffer k =
+    (k ≤ m) × (length buffer ≡ length buffer₀) × (buffer ≡ each k (λ k b. withMessage b k j y i r) buffer₀)
 
 abbrev μ-loop : tie.MeasureT-loop
 μ-loop buffer₀ m j y i r k₀ buffer k = m - k
@@ -20,17 +21,11 @@ loop-holds : tie.Need-loop-holds Inv-loop μ-loop
 unfolding each
 loop-holds c = (omega arith, refl, refl)
 
-message-requires : tie.Need-message-requires Inv-loop μ-loop
-message-requires c κs = search needs
-
-add-k : tie.Need-add-k Inv-loop μ-loop
-add-k c = search needs
-
-loop-less : tie.Need-loop-less Inv-loop μ-loop
-loop-less c = search needs
-
 loop-again : tie.Need-loop-again Inv-loop μ-loop
-loop-again c = (omega arith, omega arith, each-more _ _ _ _ (c .before .before .before .before .before .loop .inv .2) _ (c .before .before .message .ensures))
+loop-again c =
+    let put = c .before .before in
+    let at-loop = put .before .before .before in
+    (omega arith, omega arith, each-more _ _ _ _ (at-loop .loop .inv .2) _ (put .message .ensures))
 
 same-length : tie.Need-same-length Inv-loop μ-loop
 same-length c = c .before .loop .inv .1
@@ -45,9 +40,9 @@ messages-spec =
     Inv-loop
     μ-loop
     loop-holds
-    message-requires
-    add-k
-    loop-less
+    (λ c κs. search needs)
+    (λ c. search needs)
+    (λ c. search needs)
     loop-again
     same-length
     returns)

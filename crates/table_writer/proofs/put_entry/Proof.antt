@@ -1,9 +1,9 @@
--- `writing::put_entry` meets its contract: one number after the other.
+-- `put_entry` meets its contract: one number after the other.
 -- Assumes nothing.
 use borrow.Author.Needs.{needs}
-use Rattle.run_table.proofs.WriteLaws.{pair-put}
-use Rattle.run_table.proofs.writing.put_entry.Statement.{statement}
-use Rattle.run_table.proofs.writing.put_entry.Tie as tie
+use Rattle.table_writer.proofs.WriteLaws.{pair-put}
+use Rattle.table_writer.proofs.put_entry.Statement.{statement}
+use Rattle.table_writer.proofs.put_entry.Tie as tie
 
 returns : tie.Need-returns
 returns c =

@@ -1,16 +1,16 @@
--- `writing::store_numbers` meets its contract: the loop copies one number after another.
+-- `store_numbers` meets its contract: the loop copies one number after another.
 -- Assumes nothing.
 use native.Mathlib.Omega.{arith}
 use mathlib.Core.List.{[], _∷_}
 use mathlib.Core.Path.{refl, ap, _∙_}
 use Prim.Native.Nat.{_-_}
 use lib.ListN.{getD, length}
 use Rattle.run_table.proofs.ListLaws.{tabulate-getD}
 use Rattle.run_table.proofs.NumberLaws.{putAt-one}
-use Rattle.run_table.proofs.WriteLaws.{Written, numbers-stored, written-all, written-more, written-none}
+use Rattle.table_writer.proofs.WriteLaws.{Written, numbers-stored, written-all, written-more, written-none}
 use Rattle.run_table.specs.Numbers.{putAt}
-use Rattle.run_table.proofs.writing.store_numbers.Statement.{statement}
-use Rattle.run_table.proofs.writing.store_numbers.Tie as tie
+use Rattle.table_writer.proofs.store_numbers.Statement.{statement}
+use Rattle.table_writer.proofs.store_numbers.Tie as tie
 
 abbrev Inv-loop : tie.InvT-loop
 Inv-loop buffer₀ at numbers k₀ buffer k = Written 1 (λ k. getD numbers k 0 ∷ []) (length numbers) at buffer₀ buffer k

@@ -1,15 +1,14 @@
--- `writing::put_numbers` meets its contract: the loop puts one number after another.
+-- `put_numbers` meets its contract: the loop puts one number after another.
 -- Assumes nothing.
 use native.Mathlib.Omega.{arith}
-use mathlib.Core.List.{List}
-use mathlib.Core.Path.{refl, ap, _∙_}
+use mathlib.Core.Path.{ap, _∙_}
 use Prim.Native.Nat.{_-_}
 use lib.ListN.{getD, length}
 use Rattle.run_table.proofs.ListLaws.{tabulate-getD}
-use Rattle.run_table.proofs.WriteLaws.{Written, numbers-put, two-bytes, written-all, written-more, written-none}
+use Rattle.table_writer.proofs.WriteLaws.{Written, numbers-put, two-bytes, written-all, written-more, written-none}
 use Rattle.run_table.specs.Numbers.{putAt, u16Bytes, u16s}
-use Rattle.run_table.proofs.writing.put_numbers.Statement.{statement}
-use Rattle.run_table.proofs.writing.put_numbers.Tie as tie
+use Rattle.table_writer.proofs.put_numbers.Statement.{statement}
+use Rattle.table_writer.proofs.put_numbers.Tie as tie
 
 abbrev Inv-loop : tie.InvT-loop
 Inv-loop buffer₀ at numbers k₀ buffer k = Written 2 (λ k. u16Bytes (getD numbers k 0)) (length numbers) at buffer₀ buffer k

@@ -1,12 +1,12 @@
--- `writing::copy_numbers` meets its contract: the loop copies one number after another.
+-- `copy_numbers` meets its contract: the loop copies one number after another.
 -- Assumes nothing.
 use native.Mathlib.Omega.{arith}
 use mathlib.Core.Path.{ap, _∙_}
-use Prim.Native.Nat.{ℕ, _-_, _*_}
-use Rattle.run_table.proofs.WriteLaws.{Written, numbers-put, two-bytes, written-all, written-more, written-none}
+use Prim.Native.Nat.{_-_, _*_}
+use Rattle.table_writer.proofs.WriteLaws.{Written, numbers-put, two-bytes, written-all, written-more, written-none}
 use Rattle.run_table.specs.Numbers.{putAt, u16At, u16Bytes}
-use Rattle.run_table.proofs.writing.copy_numbers.Statement.{statement}
-use Rattle.run_table.proofs.writing.copy_numbers.Tie as tie
+use Rattle.table_writer.proofs.copy_numbers.Statement.{statement}
+use Rattle.table_writer.proofs.copy_numbers.Tie as tie
 
 abbrev Inv-loop : tie.InvT-loop
 Inv-loop buffer₀ at part n k₀ buffer k = Written 2 (λ k. u16Bytes (u16At part (2 * k))) n at buffer₀ buffer k

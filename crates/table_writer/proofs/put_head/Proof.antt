@@ -1,10 +1,9 @@
--- `writing::put_head` meets its contract: the sizes, then the counts.
+-- `put_head` meets its contract: the sizes, then the counts.
 -- Assumes nothing.
 use borrow.Author.Needs.{needs}
-use native.Mathlib.Omega.{arith}
-use Rattle.run_table.proofs.WriteLaws.{head-put}
-use Rattle.run_table.proofs.writing.put_head.Statement.{statement}
-use Rattle.run_table.proofs.writing.put_head.Tie as tie
+use Rattle.table_writer.proofs.WriteLaws.{head-put}
+use Rattle.table_writer.proofs.put_head.Statement.{statement}
+use Rattle.table_writer.proofs.put_head.Tie as tie
 
 returns : tie.Need-returns
 returns c =
