@@ -1,7 +1,6 @@
 -- The refusals of the calls on a table: the table's checks, and behind them the call's own.
 --     table-caught, own-caught    the call's refusal, where the table is refused and where it is accepted
---     on-table                    where no check of the call catches, none of the table's does and none of its own
---     front                       the same of the first part of a list
+--     table-accepted              where no check of the call catches, none of the table's does
 --     first-of, second-of, neither    a check of two tests
 --     read-le, read-lt, le-read, lt-read    a test of a number, by what was read
 -- Assumes nothing.
@@ -17,7 +16,8 @@ use Rattle.keeper.specs.Calls.{onTable}
 use Rattle.run_table.proofs.CheckLaws.{append-passed, append-stopped, table-refusals}
 use Rattle.run_table.specs.Checks.{Check, firstCaught, tableChecks, tableRefusal}
 
-pub front : (xs ys : List Check) → firstCaught (xs ++ ys) ≡ 0 → firstCaught xs ≡ 0
+-- where a list catches nothing, neither does its first part
+front : (xs ys : List Check) → firstCaught (xs ++ ys) ≡ 0 → firstCaught xs ≡ 0
 front xs ys none = go (firstCaught xs) refl
   where
     go : (k : ℕ) → firstCaught xs ≡ k → firstCaught xs ≡ 0
@@ -33,11 +33,9 @@ module _ (table : List ℕ) (own : List Check) where
   unfolding tableRefusal
   own-caught none e = sym (append-passed (tableChecks table) own (table-refusals table) none ∙ e)
 
-  pub on-table : firstCaught (onTable table own) ≡ 0 → (tableRefusal table ≡ 0) × (firstCaught own ≡ 0)
+  pub table-accepted : firstCaught (onTable table own) ≡ 0 → tableRefusal table ≡ 0
   unfolding tableRefusal
-  on-table quiet =
-      let none = front (tableChecks table) own quiet in
-      (none, sym (append-passed (tableChecks table) own (table-refusals table) none) ∙ quiet)
+  table-accepted none = front (tableChecks table) own none
 
 module _ (a b : Bool) where
   pub first-of : a ≡ true → (a || b) ≡ true

@@ -17,7 +17,7 @@ use Rattle.futures.proofs.StepLaws.{rollback-limits, rollback-processes, send-f
 use Rattle.futures.proofs.StepLaws.{step-taken, step-well-formed}
 use Rattle.futures.specs.Steps.{Step, afterCheckpoint, afterRollback, afterSend, badPosition, checkpoint, checkpointChecks, rollback, send, sendChecks, step}
 use Rattle.keeper.proofs.AnswerLaws.{Quiet, put-in-front}
-use Rattle.keeper.proofs.RefusalLaws.{on-table}
+use Rattle.keeper.proofs.RefusalLaws.{table-accepted}
 use Rattle.keeper.specs.Calls.{HoldsTable, saveCallChecks, sendCallChecks}
 use Rattle.run_table.proofs.AcceptLaws.{accepted, accepted-encode, reread}
 use Rattle.run_table.proofs.CheckLaws.{caughtBy, clear, passed, quiet}
@@ -64,7 +64,7 @@ module _ (table : List ℕ) where
     pub send-taken : Taken table (send j i) (afterSend t j i)
     unfolding sendCallChecks sendChecks tableChecks caughtBy step
     send-taken =
-        let none = on-table table _ (q .none) .0 in
+        let none = table-accepted table _ (q .none) in
         let room = leb-false mostMessages (messageCount t) (by-send 14) in
         record { none = none; gives = step-taken _ _ _ send-free; limits = send-limits t j i (accepted table none .limits) room }
 
@@ -85,7 +85,7 @@ module _ (table : List ℕ) where
     pub save-taken : Taken table (checkpoint i list) (afterCheckpoint t i list)
     unfolding saveCallChecks checkpointChecks tableChecks caughtBy step
     save-taken =
-        let none = on-table table _ (q .none) .0 in
+        let none = table-accepted table _ (q .none) in
         let room = leb-false mostCheckpoints (countOf t i) (by-save 14) in
         record { none = none; gives = step-taken _ _ _ save-free; limits = checkpoint-limits t i list (accepted table none .limits) room }
 

@@ -24,52 +24,34 @@ quiet : (c : tie.Else1) → Quiet (tableChecks (now (start c .args .table)))
 unfolding tableRefusal
 quiet c = record { refusals = table-refusals _; none = accepted c }
 
-returns : tie.Need-returns
+pub keeper-fall-back-spec : {M : Type 1} → statement M
 unfolding fallBackAnswer tableRefusal
-returns c = (refused _ _ _ (c .before .check .ensures) (c .if1 .taken), λ e. absurd (c .if1 .taken e))
-
-recovery-line-requires : tie.Need-recovery-line-requires
-recovery-line-requires c κs = accepted c
-
-count-remaining-requires : tie.Need-count-remaining-requires
-count-remaining-requires c κs = (accepted (c .before), c .recovery-line .ensures)
-
-rollback-size-requires : tie.Need-rollback-size-requires
-rollback-size-requires c κs = (accepted (c .before .before), c .count-remaining .ensures)
-
-returns-2 : tie.Need-returns-2
-unfolding fallBackAnswer
-returns-2 c = (too-short _ _ _ (quiet (c .before .before .before .before)) (c .before .rollback-size .ensures) (c .if2 .taken), sixteen)
-
-put-rollback-requires : tie.Need-put-rollback-requires
-put-rollback-requires c κs =
+keeper-fall-back-spec =
+    tie.close
+    (tie.spec
+    (λ c κs. search needs)
+    -- a check before 16
+    (λ c. (refused _ _ _ (c .before .check .ensures) (c .if1 .taken), λ e. absurd (c .if1 .taken e)))
+    -- asked by `recovery_line`, `count_remaining` and `rollback_size`
+    (λ c κs. accepted c)
+    (λ c κs. (accepted (c .before), c .recovery-line .ensures))
+    (λ c κs. (accepted (c .before .before), c .count-remaining .ensures))
+    -- 16
+    (λ c. (too-short _ _ _ (quiet (c .before .before .before .before)) (c .before .rollback-size .ensures) (c .if2 .taken), sixteen))
+    -- asked by `put_rollback`
+    (λ c κs.
     let sized = c .before .before in
     let lined = sized .before .before in
     let bytes = rollback-bytes (decode (now (start (lined .before) .args .table))) in
     let m = sized .before .count-remaining .ensures in
-    (accepted (lined .before), (lined .recovery-line .ensures, (m, omega (arith, c .before .if2 .left, sized .rollback-size .ensures, bytes))))
-
-returns-3 : tie.Need-returns-3
-unfolding fallBackAnswer
-returns-3 c =
+    (accepted (lined .before), (lined .recovery-line .ensures, (m, omega (arith, c .before .if2 .left, sized .rollback-size .ensures, bytes)))))
+    (λ c. search needs)
+    -- the answer
+    (λ c.
     let put = c .before .before in
     let sized = put .before .before .before in
     let judged = sized .before .before .before in
     let table = put .put-rollback .ensures in (
       answered _ _ _ (quiet judged) (sized .rollback-size .ensures) (put .before .before .if2 .left) table,
       λ _. table-holds (rollback-taken _ (accepted judged)) _ table (sized .rollback-size .ensures),
-    )
-
-pub keeper-fall-back-spec : {M : Type 1} → statement M
-keeper-fall-back-spec =
-    tie.close
-    (tie.spec
-    (λ c κs. search needs)
-    returns
-    recovery-line-requires
-    count-remaining-requires
-    rollback-size-requires
-    returns-2
-    put-rollback-requires
-    (λ c. search needs)
-    returns-3)
+    )))

@@ -8,7 +8,7 @@ use denote.Ref.{now}
 use lib.ListN.{length, take}
 use Rattle.futures.specs.Sheet.{holderLines, sheet}
 use Rattle.keeper.proofs.AnswerLaws.{Quiet, answered, refused, sixteen, too-short}
-use Rattle.keeper.proofs.RefusalLaws.{on-table}
+use Rattle.keeper.proofs.RefusalLaws.{table-accepted}
 use Rattle.keeper.proofs.SheetBytes.{sheet-holds}
 use Rattle.keeper.proofs.SheetLaws.{scratch-filled, scratch-kept, scratch-long}
 use Rattle.keeper.specs.Calls.{keepSheetAnswer, keepSheetChecks}
@@ -30,7 +30,7 @@ quiet c = record { refusals = refl; none = sym (c .before .sheet-refusal .ensure
 
 accepted : (c : tie.Else1) → tableRefusal (now (start c .args .table)) ≡ 0
 unfolding keepSheetChecks
-accepted c = on-table _ _ (quiet c .none) .0
+accepted c = table-accepted _ _ (quiet c .none)
 
 -- the scratch has the lines, from where it was filled
 abbrev t : tie.After-fill-lines → Table
@@ -46,50 +46,46 @@ filled c = c .before .before .before .before
 size : (c : tie.After-sheet-size) → c .sheet-size .result ≡ length (sheet (t (filled (c .before .before .before))))
 size c = c .sheet-size .ensures _ (c .before .before .before .count-checkpoints .ensures) (c .before .count-messages .ensures)
 
-returns : tie.Need-returns
+pub keeper-keep-sheet-spec : {M : Type 1} → statement M
 unfolding keepSheetAnswer
-returns c =
+keeper-keep-sheet-spec =
+    tie.close
+    (tie.spec
+    (λ c κs. search needs)
+    -- a check before 16
+    (λ c.
     let found = c .before .sheet-refusal .ensures in
-    (refused _ _ _ found (c .if1 .taken), (scratch-kept _ _ _ found (c .if1 .taken), λ e. absurd (c .if1 .taken e)))
-
-fill-lines-requires : tie.Need-fill-lines-requires
-fill-lines-requires c κs = (accepted (c .before), scratch-long _ _ (quiet (c .before)))
-
-count-checkpoints-requires : tie.Need-count-checkpoints-requires
-count-checkpoints-requires c κs =
+    (refused _ _ _ found (c .if1 .taken), (scratch-kept _ _ _ found (c .if1 .taken), λ e. absurd (c .if1 .taken e))))
+    -- asked by `fill_lines`, `count_checkpoints`, `count_messages` and `sheet_size`
+    (λ c κs. (accepted (c .before), scratch-long _ _ (quiet (c .before))))
+    (λ c κs.
     let full = c .before .before .before in
-    (accepted (full .before .before), lines full)
-
-count-messages-requires : tie.Need-count-messages-requires
-count-messages-requires c κs =
+    (accepted (full .before .before), lines full))
+    (λ c κs.
     let full = filled (c .before) in
-    (accepted (full .before .before), lines full)
-
-sheet-size-requires : tie.Need-sheet-size-requires
-sheet-size-requires c κs =
+    (accepted (full .before .before), lines full))
+    (λ c κs.
     let counted = c .before .before in
     let few = kept-few _ (accepted (filled counted .before .before)) in
-    (omega (arith, counted .count-checkpoints .ensures, few .0), omega (arith, c .count-messages .ensures, few .1))
-
-returns-2 : tie.Need-returns-2
-unfolding keepSheetAnswer
-returns-2 c =
+    (omega (arith, counted .count-checkpoints .ensures, few .0), omega (arith, c .count-messages .ensures, few .1)))
+    (λ c. search needs)
+    -- 16
+    (λ c.
     let full = filled (c .before .before .before .before) in
     let calm = quiet (full .before .before) in
-    (too-short _ _ _ calm (size (c .before)) (c .if2 .taken), (scratch-filled _ _ calm _ (full .fill-lines .ensures), sixteen))
-
-put-sheet-requires : tie.Need-put-sheet-requires
-put-sheet-requires c κs =
+    (too-short _ _ _ calm (size (c .before)) (c .if2 .taken), (scratch-filled _ _ calm _ (full .fill-lines .ensures), sixteen)))
+    -- asked by `put_sheet`
+    (λ c κs.
     let sized = c .before .before .before in
     let counted = sized .before .before .before in
     let full = filled counted in
     let k = counted .count-checkpoints .ensures in
     let q = sized .before .count-messages .ensures in
-    (accepted (full .before .before), (lines full, (k, (q, omega (arith, c .before .before .if2 .left, size sized, sheet-length (t full))))))
-
-returns-3 : tie.Need-returns-3
-unfolding keepSheetAnswer
-returns-3 c =
+    (accepted (full .before .before), (lines full, (k, (q, omega (arith, c .before .before .if2 .left, size sized, sheet-length (t full)))))))
+    (λ c. search needs)
+    (λ c. search needs)
+    -- the answer
+    (λ c.
     let put = c .before .before in
     let sized = put .before .before .before .before in
     let full = filled (sized .before .before .before) in
@@ -97,21 +93,4 @@ returns-3 c =
     let sheet = put .put-sheet .ensures in (
       answered _ _ _ calm (size sized) (put .before .before .before .if2 .left) sheet,
       (scratch-filled _ _ calm _ (full .fill-lines .ensures), λ _. sheet-holds _ (accepted (full .before .before)) _ _ sheet),
-    )
-
-pub keeper-keep-sheet-spec : {M : Type 1} → statement M
-keeper-keep-sheet-spec =
-    tie.close
-    (tie.spec
-    (λ c κs. search needs)
-    returns
-    fill-lines-requires
-    count-checkpoints-requires
-    count-messages-requires
-    sheet-size-requires
-    (λ c. search needs)
-    returns-2
-    put-sheet-requires
-    (λ c. search needs)
-    (λ c. search needs)
-    returns-3)
+    )))

@@ -6,7 +6,7 @@ use denote.Ref.{now}
 use Rattle.consistency.proofs.CeilingLaws.{set-length}
 use Rattle.keeper.proofs.AnswerLaws.{Quiet, answered, refused, sixteen, too-short}
 use Rattle.keeper.proofs.LineLaws.{line-room, set-holds}
-use Rattle.keeper.proofs.RefusalLaws.{on-table}
+use Rattle.keeper.proofs.RefusalLaws.{table-accepted}
 use Rattle.keeper.specs.Calls.{lineOfSetAnswer, lineOfSetChecks}
 use Rattle.run_table.proofs.CheckLaws.{areRefusals}
 use Rattle.run_table.specs.Checks.{tableChecks, tableRefusal}
@@ -23,35 +23,30 @@ quiet c = record { refusals = refl; none = sym (c .before .set-refusal .ensures)
 
 accepted : (c : tie.Else1) → tableRefusal (now (start c .args .table)) ≡ 0
 unfolding lineOfSetChecks
-accepted c = on-table _ _ (quiet c .none) .0
+accepted c = table-accepted _ _ (quiet c .none)
 
-returns : tie.Need-returns
+pub keeper-line-of-set-spec : {M : Type 1} → statement M
 unfolding lineOfSetAnswer
-returns c = (refused _ _ _ (c .before .set-refusal .ensures) (c .if1 .taken), λ e. absurd (c .if1 .taken e))
-
-line-size-requires : tie.Need-line-size-requires
-line-size-requires c κs = accepted c
-
-returns-2 : tie.Need-returns-2
-unfolding lineOfSetAnswer
-returns-2 c = (too-short _ _ _ (quiet (c .before .before)) (c .before .line-size .ensures _ (set-length _ _)) (c .if2 .taken), sixteen)
-
-put-line-of-set-requires : tie.Need-put-line-of-set-requires
-put-line-of-set-requires c κs =
+keeper-line-of-set-spec =
+    tie.close
+    (tie.spec
+    (λ c κs. search needs)
+    -- a check before 16
+    (λ c. (refused _ _ _ (c .before .set-refusal .ensures) (c .if1 .taken), λ e. absurd (c .if1 .taken e)))
+    -- asked by `line_size`
+    (λ c κs. accepted c)
+    -- 16
+    (λ c. (too-short _ _ _ (quiet (c .before .before)) (c .before .line-size .ensures _ (set-length _ _)) (c .if2 .taken), sixteen))
+    -- asked by `put_line_of_set`
+    (λ c κs.
     let sized = c .before .before in
-    (accepted (sized .before), line-room _ (sized .line-size .ensures) (c .before .if2 .left))
-
-returns-3 : tie.Need-returns-3
-unfolding lineOfSetAnswer
-returns-3 c =
+    (accepted (sized .before), line-room _ (sized .line-size .ensures) (c .before .if2 .left)))
+    (λ c. search needs)
+    -- the answer
+    (λ c.
     let put = c .before .before in
     let sized = put .before .before .before in
     let line = put .put-line-of-set .ensures in (
       answered _ _ _ (quiet (sized .before)) (sized .line-size .ensures _ (set-length _ _)) (put .before .before .if2 .left) line,
       λ _. set-holds _ (accepted (sized .before)) _ _ _ line,
-    )
-
-pub keeper-line-of-set-spec : {M : Type 1} → statement M
-keeper-line-of-set-spec =
-    tie.close
-    (tie.spec (λ c κs. search needs) returns line-size-requires returns-2 put-line-of-set-requires (λ c. search needs) returns-3)
+    )))

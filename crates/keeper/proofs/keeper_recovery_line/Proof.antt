@@ -8,9 +8,9 @@ use Rattle.consistency.specs.Ceilings.{recoveryLine}
 use Rattle.keeper.proofs.AnswerLaws.{Quiet, answered, refused, sixteen, too-short}
 use Rattle.keeper.proofs.LineLaws.{line-room, recovery-put, set-holds}
 use Rattle.keeper.specs.Calls.{recoveryLineAnswer}
+use Rattle.process_set.specs.Sets.{allProcesses}
 use Rattle.run_table.proofs.CheckLaws.{table-refusals}
 use Rattle.run_table.specs.Checks.{tableChecks, tableRefusal}
-use Rattle.process_set.specs.Sets.{allProcesses}
 use Rattle.keeper.proofs.keeper_recovery_line.Statement.{statement}
 use Rattle.keeper.proofs.keeper_recovery_line.Tie as tie
 
@@ -25,33 +25,28 @@ quiet : (c : tie.Else1) → Quiet (tableChecks (now (start c .args .table)))
 unfolding tableRefusal
 quiet c = record { refusals = table-refusals _; none = accepted c }
 
-returns : tie.Need-returns
-unfolding recoveryLineAnswer tableRefusal
-returns c = (refused _ _ _ (c .before .check .ensures) (c .if1 .taken), λ e. absurd (c .if1 .taken e))
-
-line-size-requires : tie.Need-line-size-requires
-line-size-requires c κs = accepted c
-
-returns-2 : tie.Need-returns-2
-unfolding recoveryLineAnswer recoveryLine
-returns-2 c = (too-short _ _ _ (quiet (c .before .before)) (c .before .line-size .ensures _ (set-length _ _)) (c .if2 .taken), sixteen)
-
-put-line-of-set-requires : tie.Need-put-line-of-set-requires
-put-line-of-set-requires c κs =
+pub keeper-recovery-line-spec : {M : Type 1} → statement M
+unfolding recoveryLineAnswer tableRefusal recoveryLine allProcesses
+keeper-recovery-line-spec =
+    tie.close
+    (tie.spec
+    (λ c κs. search needs)
+    -- a check before 16
+    (λ c. (refused _ _ _ (c .before .check .ensures) (c .if1 .taken), λ e. absurd (c .if1 .taken e)))
+    -- asked by `line_size`
+    (λ c κs. accepted c)
+    -- 16
+    (λ c. (too-short _ _ _ (quiet (c .before .before)) (c .before .line-size .ensures _ (set-length _ _)) (c .if2 .taken), sixteen))
+    -- asked by `put_line_of_set`
+    (λ c κs.
     let sized = c .before .before in
-    (accepted (sized .before), line-room _ (sized .line-size .ensures) (c .before .if2 .left))
-
-returns-3 : tie.Need-returns-3
-unfolding recoveryLineAnswer recoveryLine allProcesses
-returns-3 c =
+    (accepted (sized .before), line-room _ (sized .line-size .ensures) (c .before .if2 .left)))
+    (λ c. search needs)
+    -- the answer
+    (λ c.
     let put = c .before .before in
     let sized = put .before .before .before in
     let line = recovery-put _ (accepted (sized .before)) _ _ (put .put-line-of-set .ensures) in (
       answered _ _ _ (quiet (sized .before)) (sized .line-size .ensures _ (set-length _ _)) (put .before .before .if2 .left) line,
       λ _. set-holds _ (accepted (sized .before)) _ _ _ line,
-    )
-
-pub keeper-recovery-line-spec : {M : Type 1} → statement M
-keeper-recovery-line-spec =
-    tie.close
-    (tie.spec (λ c κs. search needs) returns line-size-requires returns-2 put-line-of-set-requires (λ c. search needs) returns-3)
+    )))

@@ -6,7 +6,7 @@ use mathlib.Core.Path.{_≡_, refl, sym, _∙_}
 use denote.Ref.{now}
 use Rattle.futures.specs.Steps.{sendChecks}
 use Rattle.keeper.proofs.AnswerLaws.{Quiet, answered, refused, sixteen, too-short}
-use Rattle.keeper.proofs.RefusalLaws.{on-table}
+use Rattle.keeper.proofs.RefusalLaws.{table-accepted}
 use Rattle.keeper.proofs.StepLaws.{send-bytes, send-known, send-taken, table-holds}
 use Rattle.keeper.specs.Calls.{sendAnswer, sendCallChecks}
 use Rattle.run_table.proofs.CheckLaws.{areRefusals}
@@ -25,37 +25,32 @@ quiet c = record { refusals = refl; none = sym (c .before .send-refusal .ensures
 
 accepted : (c : tie.Else1) → tableRefusal (now (start c .args .table)) ≡ 0
 unfolding sendCallChecks
-accepted c = on-table _ _ (quiet c .none) .0
+accepted c = table-accepted _ _ (quiet c .none)
 
-returns : tie.Need-returns
+pub keeper-send-spec : {M : Type 1} → statement M
 unfolding sendAnswer
-returns c = (refused _ _ _ (c .before .send-refusal .ensures) (c .if1 .taken), λ e. absurd (c .if1 .taken e))
-
-send-size-requires : tie.Need-send-size-requires
-send-size-requires c κs = accepted c
-
-returns-2 : tie.Need-returns-2
-unfolding sendAnswer
-returns-2 c = (too-short _ _ _ (quiet (c .before .before)) (c .before .send-size .ensures _ _) (c .if2 .taken), sixteen)
-
-put-send-requires : tie.Need-put-send-requires
-put-send-requires c κs =
+keeper-send-spec =
+    tie.close
+    (tie.spec
+    (λ c κs. search needs)
+    -- a check before 16
+    (λ c. (refused _ _ _ (c .before .send-refusal .ensures) (c .if1 .taken), λ e. absurd (c .if1 .taken e)))
+    -- asked by `send_size`
+    (λ c κs. accepted c)
+    -- 16
+    (λ c. (too-short _ _ _ (quiet (c .before .before)) (c .before .send-size .ensures _ _) (c .if2 .taken), sixteen))
+    -- asked by `put_send`
+    (λ c κs.
     let sized = c .before .before in
     let bytes = send-bytes (decode (now (start (sized .before) .args .table))) 0 0 in
     let is = sized .send-size .ensures 0 0 in
-    (accepted (sized .before), (send-known _ _ _ (quiet (sized .before)), omega (arith, c .before .if2 .left, is, bytes)))
-
-returns-3 : tie.Need-returns-3
-unfolding sendAnswer
-returns-3 c =
+    (accepted (sized .before), (send-known _ _ _ (quiet (sized .before)), omega (arith, c .before .if2 .left, is, bytes))))
+    (λ c. search needs)
+    -- the answer
+    (λ c.
     let put = c .before .before in
     let sized = put .before .before .before in
     let table = put .put-send .ensures in (
       answered _ _ _ (quiet (sized .before)) (sized .send-size .ensures _ _) (put .before .before .if2 .left) table,
       λ _. table-holds (send-taken _ _ _ (quiet (sized .before))) _ table (sized .send-size .ensures _ _),
-    )
-
-pub keeper-send-spec : {M : Type 1} → statement M
-keeper-send-spec =
-    tie.close
-    (tie.spec (λ c κs. search needs) returns send-size-requires returns-2 put-send-requires (λ c. search needs) returns-3)
+    )))

@@ -37,56 +37,39 @@ listed c =
     let good = c .before .before in
     neither _ _ (sym (good .before .bad-position .ensures) ∙ good .if3 .left) (sym (c .before .not-rising .ensures) ∙ c .if4 .left)
 
-returns : tie.Need-returns
-unfolding saveCallChecks
-returns c = table-caught _ _ (c .before .check .ensures) (c .if1 .taken)
-
-returns-2 : tie.Need-returns-2
-unfolding saveCallChecks checkpointChecks
-returns-2 c = own-caught _ _ (accepted (c .before .before)) (stopped _ _ (read-le (c .before .process-count .ensures) (c .if2 .taken)))
-
-returns-3 : tie.Need-returns-3
-unfolding saveCallChecks checkpointChecks
-returns-3 c =
-    let first = c .before .before in
-    own-caught _ _ (accepted (first .before .before))
-    (passed _ _ _ (known first) (stopped _ _ (first-of _ _ (sym (c .before .bad-position .ensures) ∙ c .if3 .taken))))
-
-returns-4 : tie.Need-returns-4
-unfolding saveCallChecks checkpointChecks
-returns-4 c =
-    let good = c .before .before in
-    let first = good .before .before in
-    own-caught _ _ (accepted (first .before .before))
-    (passed _ _ _ (known first)
-    (stopped _ _ (second-of _ _ (sym (good .before .bad-position .ensures) ∙ good .if3 .left) (sym (c .before .not-rising .ensures) ∙ c .if4 .taken))))
-
-returns-5 : tie.Need-returns-5
-unfolding saveCallChecks checkpointChecks
-returns-5 c =
-    let list = c .before .before in
-    own-caught _ _ (accepted (process list .before .before))
-    (passed _ _ _ (known (process list)) (passed _ _ _ (listed list) (stopped _ _ (le-read (c .before .count .ensures) (c .if5 .taken)))))
-
-returns-6 : tie.Need-returns-6
-unfolding saveCallChecks checkpointChecks
-returns-6 c =
-    let list = c .before .before in
-    own-caught _ _ (accepted (process list .before .before))
-    (passed _ _ _ (known (process list)) (passed _ _ _ (listed list) (passed _ _ _ (lt-read (c .before .count .ensures) (c .if5 .left)) clear)))
-
 pub save-refusal-spec : {M : Type 1} → statement M
+unfolding saveCallChecks checkpointChecks
 save-refusal-spec =
     tie.close
     (tie.spec
     (λ c κs. search needs)
-    returns
+    -- the table's
+    (λ c. table-caught _ _ (c .before .check .ensures) (c .if1 .taken))
     (λ c κs. search needs)
-    returns-2
+    -- 10
+    (λ c. own-caught _ _ (accepted (c .before .before)) (stopped _ _ (read-le (c .before .process-count .ensures) (c .if2 .taken))))
     (λ c κs. search needs)
-    returns-3
+    -- 13, by a position
+    (λ c.
+    let first = c .before .before in
+    own-caught _ _ (accepted (first .before .before))
+    (passed _ _ _ (known first) (stopped _ _ (first-of _ _ (sym (c .before .bad-position .ensures) ∙ c .if3 .taken)))))
     (λ c κs. search needs)
-    returns-4
+    -- 13, by the order
+    (λ c.
+    let good = c .before .before in
+    let first = good .before .before in
+    own-caught _ _ (accepted (first .before .before))
+    (passed _ _ _ (known first)
+    (stopped _ _ (second-of _ _ (sym (good .before .bad-position .ensures) ∙ good .if3 .left) (sym (c .before .not-rising .ensures) ∙ c .if4 .taken)))))
     (λ c κs. search needs)
-    returns-5
-    returns-6)
+    -- 14
+    (λ c.
+    let list = c .before .before in
+    own-caught _ _ (accepted (process list .before .before))
+    (passed _ _ _ (known (process list)) (passed _ _ _ (listed list) (stopped _ _ (le-read (c .before .count .ensures) (c .if5 .taken))))))
+    -- none
+    (λ c.
+    let list = c .before .before in
+    own-caught _ _ (accepted (process list .before .before))
+    (passed _ _ _ (known (process list)) (passed _ _ _ (listed list) (passed _ _ _ (lt-read (c .before .count .ensures) (c .if5 .left)) clear)))))

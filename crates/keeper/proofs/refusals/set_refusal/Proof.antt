@@ -23,18 +23,17 @@ twelve : (c : tie.After-has-high-bit)
     highBit (args .set) (processCount (decode (now (args .table)))) ≡ c .has-high-bit .result)
 twelve c = sym (c .has-high-bit .ensures ∙ ap (highBit _) (c .before .process-count .ensures))
 
-returns : tie.Need-returns
-unfolding lineOfSetChecks
-returns c = table-caught _ _ (c .before .check .ensures) (c .if1 .taken)
-
-returns-2 : tie.Need-returns-2
-unfolding lineOfSetChecks
-returns-2 c = own-caught _ _ (accepted (c .before .before .before)) (stopped _ _ (twelve (c .before) ∙ c .if2 .taken))
-
-returns-3 : tie.Need-returns-3
-unfolding lineOfSetChecks
-returns-3 c = own-caught _ _ (accepted (c .before .before .before)) (passed _ _ _ (twelve (c .before) ∙ c .if2 .left) clear)
-
 pub set-refusal-spec : {M : Type 1} → statement M
+unfolding lineOfSetChecks
 set-refusal-spec =
-    tie.close (tie.spec (λ c κs. search needs) returns (λ c κs. search needs) (λ c κs. search needs) returns-2 returns-3)
+    tie.close
+    (tie.spec
+    (λ c κs. search needs)
+    -- the table's
+    (λ c. table-caught _ _ (c .before .check .ensures) (c .if1 .taken))
+    (λ c κs. search needs)
+    (λ c κs. search needs)
+    -- 12
+    (λ c. own-caught _ _ (accepted (c .before .before .before)) (stopped _ _ (twelve (c .before) ∙ c .if2 .taken)))
+    -- none
+    (λ c. own-caught _ _ (accepted (c .before .before .before)) (passed _ _ _ (twelve (c .before) ∙ c .if2 .left) clear)))

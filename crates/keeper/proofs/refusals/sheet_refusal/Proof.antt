@@ -22,23 +22,21 @@ accepted c = sym (c .before .check .ensures) ∙ c .if1 .left
 few : (c : tie.After-process-count) → c .process-count .result ≤ 32
 few c = omega (arith, c .process-count .ensures, processes-few _ (accepted (c .before)))
 
-returns : tie.Need-returns
-unfolding keepSheetChecks
-returns c = table-caught _ _ (c .before .check .ensures) (c .if1 .taken)
-
-mul-if2 : tie.Need-mul-if2
-mul-if2 c = omega (arith, mul-le-mul (few c) (few c))
-
-returns-2 : tie.Need-returns-2
-returns-2 c =
-    let read = c .before in
-    short-scratch _ _ (accepted (read .before)) (omega (arith, c .if2 .taken, ap (λ (n : ℕ). n * n) (read .process-count .ensures)))
-
-returns-3 : tie.Need-returns-3
-returns-3 c =
-    let read = c .before in
-    sym (long-scratch _ _ (accepted (read .before)) (omega (arith, c .if2 .left, ap (λ (n : ℕ). n * n) (read .process-count .ensures))) .none)
-
 pub sheet-refusal-spec : {M : Type 1} → statement M
+unfolding keepSheetChecks
 sheet-refusal-spec =
-    tie.close (tie.spec (λ c κs. search needs) returns (λ c κs. search needs) mul-if2 returns-2 returns-3)
+    tie.close
+    (tie.spec
+    (λ c κs. search needs)
+    -- the table's
+    (λ c. table-caught _ _ (c .before .check .ensures) (c .if1 .taken))
+    (λ c κs. search needs)
+    (λ c. omega (arith, mul-le-mul (few c) (few c)))
+    -- 15
+    (λ c.
+    let read = c .before in
+    short-scratch _ _ (accepted (read .before)) (omega (arith, c .if2 .taken, ap (λ (n : ℕ). n * n) (read .process-count .ensures))))
+    -- none
+    (λ c.
+    let read = c .before in
+    sym (long-scratch _ _ (accepted (read .before)) (omega (arith, c .if2 .left, ap (λ (n : ℕ). n * n) (read .process-count .ensures))) .none)))

@@ -7,12 +7,10 @@ use Rattle.run_table.proofs.ReadLaws.{processes-few}
 use Rattle.keeper.proofs.sizes.line_size.Statement.{statement}
 use Rattle.keeper.proofs.sizes.line_size.Tie as tie
 
-mul-result : tie.Need-mul-result
-mul-result c = omega (arith, c .process-count .ensures, processes-few _ (c .before .before .pre))
-
-returns : tie.Need-returns
-returns c line is = omega (arith, c .process-count .ensures, length-u16s line)
-
 pub line-size-spec : {M : Type 1} → statement M
 line-size-spec =
-    tie.close (tie.spec (λ c κs. search needs) mul-result returns)
+    tie.close
+    (tie.spec
+    (λ c κs. search needs)
+    (λ c. omega (arith, c .process-count .ensures, processes-few _ (c .before .before .pre)))
+    (λ c line is. omega (arith, c .process-count .ensures, length-u16s line)))

@@ -10,17 +10,15 @@ use Rattle.run_table.specs.Format.{decode}
 use Rattle.keeper.proofs.sizes.rollback_size.Statement.{statement}
 use Rattle.keeper.proofs.sizes.rollback_size.Tie as tie
 
-table-length-requires : tie.Need-table-length-requires
-table-length-requires c κs =
-    let start = c .before .before in
-    let few = rollback-fewer (decode (now (start .args .table))) in
-    (omega (arith, c .process-count .ensures, processes-few _ (start .pre .0)), omega (arith, start .pre .1, few, messages-few _ (start .pre .0)))
-
-returns : tie.Need-returns
-returns c =
-    let start = c .before .before .before in
-    omega (arith, c .table-length .ensures, c .before .process-count .ensures, start .pre .1, rollback-bytes (decode (now (start .args .table))))
-
 pub rollback-size-spec : {M : Type 1} → statement M
 rollback-size-spec =
-    tie.close (tie.spec (λ c κs. search needs) table-length-requires returns)
+    tie.close
+    (tie.spec
+    (λ c κs. search needs)
+    (λ c κs.
+    let start = c .before .before in
+    let few = rollback-fewer (decode (now (start .args .table))) in
+    (omega (arith, c .process-count .ensures, processes-few _ (start .pre .0)), omega (arith, start .pre .1, few, messages-few _ (start .pre .0))))
+    (λ c.
+    let start = c .before .before .before in
+    omega (arith, c .table-length .ensures, c .before .process-count .ensures, start .pre .1, rollback-bytes (decode (now (start .args .table))))))

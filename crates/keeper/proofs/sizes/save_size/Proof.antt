@@ -6,9 +6,8 @@ use Rattle.run_table.proofs.ReadLaws.{whole}
 use Rattle.keeper.proofs.sizes.save_size.Statement.{statement}
 use Rattle.keeper.proofs.sizes.save_size.Tie as tie
 
-returns : tie.Need-returns
-returns c process list = whole _ (c .pre) ∙ sym (save-bytes _ process list)
-
 pub save-size-spec : {M : Type 1} → statement M
 save-size-spec =
-    tie.close (tie.spec returns)
+    tie.close
+    (tie.spec
+    (λ c process list. whole _ (c .pre) ∙ sym (save-bytes _ process list)))

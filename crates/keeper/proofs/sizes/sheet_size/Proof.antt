@@ -6,9 +6,12 @@ use Rattle.retention.proofs.SheetLaws.{sheet-length}
 use Rattle.keeper.proofs.sizes.sheet_size.Statement.{statement}
 use Rattle.keeper.proofs.sizes.sheet_size.Tie as tie
 
-returns : tie.Need-returns
-returns c t kept logged = omega (arith, kept, logged, sheet-length t)
-
 pub sheet-size-spec : {M : Type 1} → statement M
 sheet-size-spec =
-    tie.close (tie.spec (λ c. search needs) (λ c. search needs) (λ c. search needs) (λ c. search needs) returns)
+    tie.close
+    (tie.spec
+    (λ c. search needs)
+    (λ c. search needs)
+    (λ c. search needs)
+    (λ c. search needs)
+    (λ c t kept logged. omega (arith, kept, logged, sheet-length t)))
