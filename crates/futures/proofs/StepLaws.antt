@@ -42,7 +42,7 @@ use Rattle.run_table.proofs.FormatLaws.{count-beyond, message-beyond}
 use Rattle.run_table.proofs.ListLaws.{and-left, and-right, any-none, getD-tabulate, length-tabulate, or-false-left, or-false-right}
 use Rattle.run_table.specs.Checks.{Check, GoodMessage, Limits, WellFormed, firstCaught}
 use Rattle.run_table.specs.Lists.{any}
-use Rattle.run_table.specs.Table.{Message, Table, countOf, messageCount, messageOf, noMessage, processCount}
+use Rattle.run_table.specs.Table.{Message, Table, countOf, messageCount, messageOf, mostCheckpoints, mostMessages, noMessage, processCount}
 
 -- A message with another receipt number.
 abbrev pub withReceipt : Message → ℕ → Message
@@ -532,23 +532,23 @@ step-well-formed t w (checkpoint i list) = step-cases (checkpointChecks t i list
 step-well-formed t w rollback = rollback-well-formed t w
 
 -- ---- limits
-pub send-limits : (t : Table) (j i : ℕ) → Limits t → messageCount t < 4096 → Limits (afterSend t j i)
+pub send-limits : (t : Table) (j i : ℕ) → Limits t → messageCount t < mostMessages → Limits (afterSend t j i)
 send-limits t j i limits room = record {
   processes-limit = omega (arith, send-processes t j i, limits .processes-limit);
   messages-limit = omega (arith, send-messages t j i);
   counts-limit = λ p l. omega (arith, send-count t j i p, limits .counts-limit p (omega (arith, send-processes t j i)));
 }
 
-pub checkpoint-limits : (t : Table) (i : ℕ) (list : List ℕ) → Limits t → countOf t i < 4096 → Limits (afterCheckpoint t i list)
+pub checkpoint-limits : (t : Table) (i : ℕ) (list : List ℕ) → Limits t → countOf t i < mostCheckpoints → Limits (afterCheckpoint t i list)
 checkpoint-limits t i list limits room = record {
   processes-limit = omega (arith, checkpoint-processes t i list, limits .processes-limit);
   messages-limit = omega (arith, checkpoint-messages t i list, limits .messages-limit);
   counts-limit = λ p l. by-place p (omega (arith, checkpoint-processes t i list)) (ℕ-discrete p i);
 }
   where
-    by-place : (p : ℕ) → p < processCount t → Dec (p ≡ i) → countOf (afterCheckpoint t i list) p ≤ 4096
+    by-place : (p : ℕ) → p < processCount t → Dec (p ≡ i) → countOf (afterCheckpoint t i list) p ≤ mostCheckpoints
     by-place p l (yes e) =
-        subst⁻¹ (λ (q : ℕ). countOf (afterCheckpoint t i list) q ≤ 4096) e (omega (arith, checkpoint-count-here t i list (omega arith)))
+        subst⁻¹ (λ (q : ℕ). countOf (afterCheckpoint t i list) q ≤ mostCheckpoints) e (omega (arith, checkpoint-count-here t i list (omega arith)))
     by-place p l (no e) = omega (arith, checkpoint-count-other t i list p e, limits .counts-limit p l)
 
 pub rollback-limits : (t : Table) → WellFormed t → Limits t → Limits (afterRollback t)

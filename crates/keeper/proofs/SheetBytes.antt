@@ -24,7 +24,7 @@ use Rattle.run_table.proofs.ReadLaws.{messages-few, processes-few}
 use Rattle.run_table.specs.Checks.{tableRefusal}
 use Rattle.run_table.specs.Format.{decode}
 use Rattle.run_table.specs.Numbers.{putAt, u16At}
-use Rattle.run_table.specs.Table.{Table, countOf, messageCount, processCount}
+use Rattle.run_table.specs.Table.{Table, countOf, messageCount, mostCheckpoints, mostProcesses, processCount}
 
 module _ (table : List ℕ) (none : tableRefusal table ≡ 0) (before after : List ℕ) (put : after ≡ putAt before 0 (sheet (decode table))) where
   abbrev t : Table
@@ -64,7 +64,7 @@ module _ (table : List ℕ) (none : tableRefusal table ≡ 0) (before after : Li
   read-logged = read 1 (length qs) (omega (arith, size)) refl (omega (arith, kept-few table none .1))
 
   -- a checkpoint of the list has small numbers
-  small : (x : Kept) → Listed x ks → (x .process < 32) × (x .state < 4096)
+  small : (x : Kept) → Listed x ks → (x .process < mostProcesses) × (x .state < mostCheckpoints)
   small x h =
       let below : x .state < countOf t (x .process) = keeps-checkpoint t (x .process) (x .state) .0 (checkpoints-listed t (x .process) (x .state) .0 h) .0 in
       let known : x .process < processCount t = known-process t (x .process) (x .state) below in

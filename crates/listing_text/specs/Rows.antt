@@ -1,4 +1,4 @@
--- The rows of a listing, from what the calls left in a scratch and in a sheet's bytes. Assumes nothing.
+-- Of the code: the rows of a listing, from what the calls left in a scratch and in a sheet's bytes. Assumes nothing.
 use mathlib.Core.List.{List}
 use mathlib.Core.Path.{_≡_}
 use Prim.Native.Nat.{ℕ, _+_, _*_}

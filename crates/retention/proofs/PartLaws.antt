@@ -28,7 +28,7 @@ use Rattle.run_table.proofs.ReadLaws.{messages-few}
 use Rattle.run_table.specs.Checks.{tableRefusal}
 use Rattle.run_table.specs.Format.{countsPart, decode, processAt, receiptsPart, sendsPart}
 use Rattle.run_table.specs.Numbers.{putAt, u16s}
-use Rattle.run_table.specs.Table.{Table, messageCount, processCount}
+use Rattle.run_table.specs.Table.{Table, messageCount, mostMessages, processCount}
 
 -- ---- one part
 -- the part with the states of the kept checkpoints, or else the one with their processes
@@ -85,14 +85,14 @@ module _ (part : Part) (bytes s : List ℕ) (at : ℕ) (before : List ℕ) (read
 
       pub positions-needs : (n * n ≤ length s)
           × ((n ≤ 32)
-          × ((m ≤ 4096)
+          × ((m ≤ mostMessages)
           × ((length sends ≡ 4 * m)
           × ((length receipts ≡ 4 * m)
           × (((k : ℕ) → k < m → processAt sends k < n)
           × (((k : ℕ) → k < m → processAt receipts k < n) × (at + 2 * length (positionsOf n (entryAt s n) sends receipts m) ≤ length before)))))))
       positions-needs =
           let needed = messages-needs bytes (ready .accepted) s (ready .lines) n m sends receipts read-n read-m read-s read-r in
-          let few : m ≤ 4096 = omega (arith, messages-few bytes (ready .accepted)) in
+          let few : m ≤ mostMessages = omega (arith, messages-few bytes (ready .accepted)) in
           let more = needed .1 .1 .1 in
           (needed .0, (needed .1 .0, (few, (needed .1 .1 .0, (more .0, (more .1 .0, (more .1 .1, room-for _ positions-are)))))))
 

@@ -38,7 +38,7 @@ use Rattle.run_table.specs.Checks.{GoodMessage, tableRefusal}
 use Rattle.run_table.specs.Format.{countAt, countsPart, decode, messageAt, processAt, receiptsPart, sendsPart}
 use Rattle.run_table.specs.Lists.{select}
 use Rattle.run_table.specs.Numbers.{putAt}
-use Rattle.run_table.specs.Table.{Message, Table, countOf, messageCount, messageOf, processCount}
+use Rattle.run_table.specs.Table.{Message, Table, countOf, messageCount, messageOf, mostMessages, processCount}
 
 -- ---- the lines of single holders
 module _ (t : Table) where
@@ -108,7 +108,7 @@ module _ (t : Table) where
         select-ext _ _ (messageCount t) (λ k l. ap (isKept N line) (read k l) ∙ kept-is (messageOf t k) (good k l))
 
 -- at most N × N checkpoints, and M messages
-pub kept-few : (bytes : List ℕ) → tableRefusal bytes ≡ 0 → (length (keptCheckpoints (decode bytes)) ≤ 1024) × (length (keptMessages (decode bytes)) ≤ 4096)
+pub kept-few : (bytes : List ℕ) → tableRefusal bytes ≡ 0 → (length (keptCheckpoints (decode bytes)) ≤ 1024) × (length (keptMessages (decode bytes)) ≤ mostMessages)
 unfolding keptMessages
 kept-few bytes none =
     let t = decode bytes in

@@ -1,4 +1,4 @@
--- A receipt number beside a line. Assumes nothing.
+-- Of the code: a receipt number beside a line. Assumes nothing.
 use mathlib.Core.Bool.{cond}
 use Prim.Native.Nat.{ℕ}
 use lib.Dec.{ltb}

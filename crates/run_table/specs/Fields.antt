@@ -1,4 +1,4 @@
--- The numbers of a message, by name. Assumes nothing.
+-- Of the code: the numbers of a message, by name. Assumes nothing.
 use Prim.Native.Nat.{ℕ}
 use Rattle.run_table.specs.Table.{Message}
 use Rattle.run_table.specs.declared.lookups.Field.{Field}

@@ -1,4 +1,4 @@
--- The receipts after a checkpoint, as the code writes them from the part of a table. Assumes nothing.
+-- Of the code: the receipts after a checkpoint, as they are written from the part of a table. Assumes nothing.
 use mathlib.Core.Bool.{cond}
 use mathlib.Core.List.{List, [], _∷_, _++_}
 use Prim.Native.Nat.{ℕ, zero, suc}

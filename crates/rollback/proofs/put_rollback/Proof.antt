@@ -13,6 +13,7 @@ use Rattle.run_table.proofs.ReadLaws.{messages-few, processes-few}
 use Rattle.table_writer.proofs.WriteLaws.{table-put}
 use Rattle.run_table.specs.Format.{decode}
 use Rattle.rollback.proofs.RollbackLaws.{counts-front}
+use Rattle.run_table.specs.Table.{mostMessages, mostProcesses}
 use Rattle.rollback.proofs.put_rollback.Statement.{statement}
 use Rattle.rollback.proofs.put_rollback.Tie as tie
 
@@ -24,10 +25,10 @@ abbrev start : tie.After-counts-left → tie.Start
 start c = c .before .before .before .before
 
 -- N and m are small, and the counts are an array
-few : (c : tie.After-counts-left) → c .before .process-count .result ≤ 32
+few : (c : tie.After-counts-left) → c .before .process-count .result ≤ mostProcesses
 few c = omega (arith, processes-few _ (start c .pre .0), c .before .process-count .ensures)
 
-fewer : (c : tie.After-counts-left) → start c .args .m ≤ 4096
+fewer : (c : tie.After-counts-left) → start c .args .m ≤ mostMessages
 fewer c = omega (arith, start c .pre .1 .1 .0, rollback-fewer (decode (now (start c .args .table))), messages-few _ (start c .pre .0))
 
 long : (c : tie.After-counts-left) → length (c .counts-left .result) ≡ 32
