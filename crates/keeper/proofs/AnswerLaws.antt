@@ -14,7 +14,7 @@ use borrow.Author.Tests.{le-ltb, lt-ltb}
 use lib.Dec.{ltb}
 use lib.ListN.{length, drop}
 use Rattle.keeper.specs.Answers.{Yields, answer, bufferAfter, lengthAfter, numberOf, unless}
-use Rattle.run_table.proofs.CheckLaws.{append-passed, append-stopped, areRefusals, clear, passed, stopped}
+use Rattle.run_table.proofs.CheckLaws.{append-passed, areRefusals, caught-first, clear, passed, stopped}
 use Rattle.run_table.specs.Checks.{Check, firstCaught}
 use Rattle.run_table.specs.Numbers.{putAt}
 
@@ -22,11 +22,6 @@ use Rattle.run_table.specs.Numbers.{putAt}
 pub put-in-front : (buffer bytes : List ℕ) → putAt buffer 0 bytes ≡ bytes ++ drop (length bytes) buffer
 unfolding putAt
 put-in-front buffer bytes = rw zero-add
-
--- the number of a check that catches stays, whatever checks stand behind
-pub caught-first : (xs ys : List Check) (r : ℕ) → r ≡ firstCaught xs → (r ≡ 0 → ⊥) → r ≡ firstCaught (xs ++ ys)
-caught-first xs ys zero e nonzero = absurd (nonzero refl)
-caught-first xs ys (suc n) e nonzero = sym (append-stopped xs ys n (sym e))
 
 -- 16 is no success
 pub sixteen : {P : Type 0} → _≡_ {A = ℕ} 16 0 → P

@@ -5,24 +5,15 @@
 --     read-le, read-lt, le-read, lt-read    a test of a number, by what was read
 -- Assumes nothing.
 use mathlib.Core.Bool.{Bool, true, false, _||_}
-use mathlib.Core.List.{List, _++_}
-use mathlib.Core.Path.{_≡_, refl, sym, _∙_}
-use Prim.Native.Nat.{ℕ, zero, suc, _≤_, _<_}
+use mathlib.Core.List.{List}
+use mathlib.Core.Path.{_≡_, sym, _∙_}
+use Prim.Native.Nat.{ℕ, _≤_, _<_}
 use native.Mathlib.Omega.{arith}
 use borrow.Author.Tests.{le-leb, lt-leb}
 use lib.Dec.{leb}
-use Rattle.keeper.proofs.AnswerLaws.{caught-first}
 use Rattle.keeper.specs.Calls.{onTable}
-use Rattle.run_table.proofs.CheckLaws.{append-passed, append-stopped, table-refusals}
+use Rattle.run_table.proofs.CheckLaws.{append-passed, caught-first, none-first, table-refusals}
 use Rattle.run_table.specs.Checks.{Check, firstCaught, tableChecks, tableRefusal}
-
--- where a list catches nothing, neither does its first part
-front : (xs ys : List Check) → firstCaught (xs ++ ys) ≡ 0 → firstCaught xs ≡ 0
-front xs ys none = go (firstCaught xs) refl
-  where
-    go : (k : ℕ) → firstCaught xs ≡ k → firstCaught xs ≡ 0
-    go zero e = e
-    go (suc n) e = absurd (omega (arith, append-stopped xs ys n e))
 
 module _ (table : List ℕ) (own : List Check) where
   pub table-caught : {r : ℕ} → r ≡ tableRefusal table → (r ≡ 0 → ⊥) → r ≡ firstCaught (onTable table own)
@@ -35,7 +26,7 @@ module _ (table : List ℕ) (own : List Check) where
 
   pub table-accepted : firstCaught (onTable table own) ≡ 0 → tableRefusal table ≡ 0
   unfolding tableRefusal
-  table-accepted none = front (tableChecks table) own none
+  table-accepted none = none-first (tableChecks table) own none
 
 module _ (a b : Bool) where
   pub first-of : a ≡ true → (a || b) ≡ true

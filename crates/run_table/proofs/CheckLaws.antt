@@ -1,13 +1,13 @@
 -- Laws of the checks.
 --     passed, stopped, clear      the first check of a list that catches
 --     cleared, caughtBy, quiet    none of a list catches: its first check, and the check of any number
---     append-stopped, append-passed    further checks behind a list
+--     append-stopped, append-passed, caught-first, none-first    further checks behind a list
 --     parts-refusal               checks 5 to 9 on the parts of a table are the document's, on the decoded table
 -- Assumes nothing.
 use mathlib.Core.Bool.{Bool, true, false, cond, not, _&&_, _||_}
 use mathlib.Core.List.{List, [], _∷_, _++_}
 use mathlib.Core.Path.{_≡_, refl, sym, ap, _∙_}
-use Prim.Native.Nat.{ℕ, suc, _+_, _-_, _*_, _<_, _≤_}
+use Prim.Native.Nat.{ℕ, zero, suc, _+_, _-_, _*_, _<_, _≤_}
 use native.Mathlib.Omega.{arith}
 use borrow.Author.Tests.{leb-false, lt-ltb, ltb-true, le-ltb, eq-eqb, ne-eqb}
 use lib.Dec.{eqb, leb, ltb}
@@ -53,6 +53,18 @@ append-stopped (c ∷ rest) ys n e = go (c .caught) e (append-stopped rest ys n)
         → cond b (c .number) (firstCaught (rest ++ ys)) ≡ suc n
     go true e later = e
     go false e later = later e
+
+-- the number of a check that catches stays, whatever checks stand behind; where a list catches nothing, neither does its first part
+pub caught-first : (xs ys : List Check) (r : ℕ) → r ≡ firstCaught xs → (r ≡ 0 → ⊥) → r ≡ firstCaught (xs ++ ys)
+caught-first xs ys zero e nonzero = absurd (nonzero refl)
+caught-first xs ys (suc n) e nonzero = sym (append-stopped xs ys n (sym e))
+
+pub none-first : (xs ys : List Check) → firstCaught (xs ++ ys) ≡ 0 → firstCaught xs ≡ 0
+none-first xs ys none = go (firstCaught xs) refl
+  where
+    go : (k : ℕ) → firstCaught xs ≡ k → firstCaught xs ≡ 0
+    go zero e = e
+    go (suc n) e = absurd (omega (arith, append-stopped xs ys n e))
 
 unfoldable pub areRefusals : List Check → Bool
 areRefusals [] = true
