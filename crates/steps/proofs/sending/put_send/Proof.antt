@@ -34,7 +34,7 @@ array-read-sent : tie.Need-array-read-sent
 array-read-sent c = omega (arith, start c .pre .1 .0, known c .read-n, n-few (known c))
 
 sub-sent : tie.Need-sub-sent
-sub-sent c = count-positive (known c) _ (start c .pre .1 .0)
+sub-sent c = omega (arith, count-positive (known c) _ (start c .pre .1 .0))
 
 array-share-prefix-counts : tie.Need-array-share-prefix-counts
 array-share-prefix-counts c = omega (arith, n-few (known (c .before)), array-long (known (c .before)))
