@@ -2,7 +2,7 @@
 -- checking order, whatever the numbers are.
 --     place-stops, place-passes, place-none    the first place at which a check catches
 --     place-within, number-there               it is no further than the list's end, and the refusal is the number that stands there, 0 behind the last
---     Looked, looked-none, looked-more, looked-all    the loop over the messages
+--     Looked, looked-none, looked-more, looked-past, looked-all    the loop over the messages
 -- Assumes nothing.
 use mathlib.Core.Bool.{Bool, true, false, cond, _||_}
 use mathlib.Core.List.{List, [], _∷_, _++_, map}
@@ -11,7 +11,7 @@ use Prim.Native.Nat.{ℕ, suc, min, _+_, _≤_, _<_, zero-le}
 use native.Mathlib.Nat.{le-antisymm}
 use native.Mathlib.Numerals.{add-one}
 use native.Mathlib.Omega.{arith}
-use lib.ListN.{length, getD}
+use lib.ListN.{length, getD, length-map}
 use Rattle.run_table.specs.Checks.{Check, firstCaught}
 use Rattle.run_table.specs.Lists.{anyBelow}
 use Rattle.run_table.specs.Parts.{MessageCheck, checksAt, checksBelow, firstPlace}
@@ -92,6 +92,12 @@ module _ (checks : List MessageCheck) (m : ℕ) where
           is-next ∙ ap₂ min (w .found) is-fault ∙ sym (pick-or (λ c. c .catches k) (λ c. anyBelow k (c .catches)) checks)
           ∙ ap (λ (j : ℕ). firstPlace (checksBelow checks j)) (sym (add-one k));
     }
+
+    -- no check catches message k
+    pub looked-past : k < m → (fault : ℕ) → fault ≡ firstPlace (checksAt checks k) → fault ≡ length checks → Looked checks m (k + 1) first
+    looked-past l fault is-fault none =
+        let whole : length (checksBelow checks k) ≡ length checks = length-map checks (λ c. record { caught = anyBelow k (c .catches); number = c .number }) in
+        looked-more l fault first is-fault (omega (arith, w .found, place-within (checksBelow checks k), whole))
 
     pub looked-all : m ≤ k → first ≡ firstPlace (checksBelow checks m)
     looked-all l = w .found ∙ ap (λ (j : ℕ). firstPlace (checksBelow checks j)) (le-antisymm (w .within) l)

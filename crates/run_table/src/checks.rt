@@ -110,6 +110,9 @@ fn first_fault(counts: &[u8], sends: &[u8], receipts: &[u8], n: usize, m: usize)
     while k < m {
         let fault = fault_at(counts, sends, receipts, n, k);
         k += 1;
+        if fault == 5 {
+            continue;
+        }
         if first <= fault {
             continue;
         }
