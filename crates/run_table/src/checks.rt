@@ -10,7 +10,7 @@ use crate::format::table_length;
 use crate::numbers::u16_at;
 ghost use mathlib.Core.Path.{_≡_};
 ghost use mathlib.Core.Bool.{false};
-ghost use Prim.Native.Nat.{_+_, _*_, _<_};
+ghost use Prim.Native.Nat.{_+_, _*_, _<_, _≤_};
 ghost use lib.ListN.{length};
 ghost use Rattle.run_table.specs.Checks.{tableRefusal};
 ghost use Rattle.run_table.specs.Lists.{anyBelow};
@@ -97,6 +97,24 @@ fn fault_at(counts: &[u8], sends: &[u8], receipts: &[u8], n: usize, k: usize) ->
     5
 }
 
+// How many of the first m messages no check catches, up to the first that one does. An accepted table, the
+// usual case, is gone through here alone; its caller needs only that none before the number is caught.
+fn first_caught(counts: &[u8], sends: &[u8], receipts: &[u8], n: usize, m: usize) -> usize
+    requires { ⌜ length (now counts) ≡ 2 * n ⌝ }
+    requires { ⌜ length (now sends) ≡ 4 * m ⌝ }
+    requires { ⌜ length (now receipts) ≡ 4 * m ⌝ }
+    ensures { λ r. ⌜ (r ≤ m) × (5 ≡ firstPlace (checksBelow (messageChecks n (now (counts .entry)) (now (sends .entry)) (now (receipts .entry))) r)) ⌝ }
+{
+    let mut k = 0;
+    while k < m {
+        if fault_at(counts, sends, receipts, n, k) != 5 {
+            return k;
+        }
+        k += 1;
+    }
+    k
+}
+
 // The place of the first check that catches one of m messages; 5 where none does. One look at each
 // message is enough: the smallest of their places is that of the check that comes first.
 fn first_fault(counts: &[u8], sends: &[u8], receipts: &[u8], n: usize, m: usize) -> usize
@@ -106,13 +124,10 @@ fn first_fault(counts: &[u8], sends: &[u8], receipts: &[u8], n: usize, m: usize)
     ensures { λ r. ⌜ r ≡ firstPlace (checksBelow (messageChecks n (now (counts .entry)) (now (sends .entry)) (now (receipts .entry))) m) ⌝ }
 {
     let mut first = 5;
-    let mut k = 0;
+    let mut k = first_caught(counts, sends, receipts, n, m);
     while k < m {
         let fault = fault_at(counts, sends, receipts, n, k);
         k += 1;
-        if fault == 5 {
-            continue;
-        }
         if first <= fault {
             continue;
         }

@@ -1,8 +1,8 @@
--- `checks::first_fault` meets its contract: the loop looks at one message after another.
+-- `checks::first_fault` meets its contract: the loop looks at one message after another, from the first that a check catches on.
 -- Assumes nothing.
 use native.Mathlib.Omega.{arith}
 use Prim.Native.Nat.{_-_}
-use Rattle.run_table.proofs.FaultLaws.{Looked, looked-none, looked-more, looked-past, looked-all}
+use Rattle.run_table.proofs.FaultLaws.{Looked, looked-more, looked-all}
 use Rattle.run_table.specs.Parts.{messageChecks}
 use Rattle.run_table.proofs.checks.first_fault.Statement.{statement}
 use Rattle.run_table.proofs.checks.first_fault.Tie as tie
@@ -14,22 +14,17 @@ abbrev μ-loop : tie.MeasureT-loop
 μ-loop counts sends receipts n m first₀ k₀ first k = m - k
 
 loop-holds : tie.Need-loop-holds Inv-loop μ-loop
-loop-holds c = looked-none _ _
+loop-holds c = record { within = c .first-caught .ensures .0; found = c .first-caught .ensures .1 }
 
 loop-again : tie.Need-loop-again Inv-loop μ-loop
 loop-again c =
     let turn = c .before .before in
-    looked-past _ _ _ _ (turn .before .loop .inv) (turn .loop-test .taken) _ (c .before .fault-at .ensures) (c .if1 .taken)
+    looked-more _ _ _ _ (turn .before .loop .inv) (turn .loop-test .taken) _ _ (c .before .fault-at .ensures) (omega (arith, c .if1 .taken))
 
 loop-again-2 : tie.Need-loop-again-2 Inv-loop μ-loop
 loop-again-2 c =
-    let asked = c .before .before in
-    looked-more _ _ _ _ (asked .before .before .loop .inv) (asked .before .loop-test .taken) _ _ (asked .fault-at .ensures) (omega (arith, c .if2 .taken))
-
-loop-again-3 : tie.Need-loop-again-3 Inv-loop μ-loop
-loop-again-3 c =
-    let asked = c .before .before in
-    looked-more _ _ _ _ (asked .before .before .loop .inv) (asked .before .loop-test .taken) _ _ (asked .fault-at .ensures) (omega (arith, c .if2 .left))
+    let turn = c .before .before in
+    looked-more _ _ _ _ (turn .before .loop .inv) (turn .loop-test .taken) _ _ (c .before .fault-at .ensures) (omega (arith, c .if1 .left))
 
 returns : tie.Need-returns Inv-loop μ-loop
 returns c = looked-all _ _ _ _ (c .before .loop .inv) (c .loop-test .left)
@@ -40,6 +35,7 @@ first-fault-spec =
     (tie.spec
     Inv-loop
     μ-loop
+    (λ c κs. omega arith)
     loop-holds
     (λ c κs. omega arith)
     (λ c. omega arith)
@@ -47,6 +43,4 @@ first-fault-spec =
     loop-again
     (λ c. omega arith)
     loop-again-2
-    (λ c. omega arith)
-    loop-again-3
     returns)
