@@ -279,9 +279,6 @@ module _ (l : List ℕ) (m : Message) where
   pub putBack-receiver : putBack l m .receiver ≡ m .receiver
   putBack-receiver = putBack-cases (λ x. x .receiver ≡ m .receiver) refl (λ _. refl)
 
-  pub putBack-received : (putBack l m .received ≡ 0) ⊎ (putBack l m .received ≡ m .received)
-  putBack-received = putBack-cases (λ x. (x .received ≡ 0) ⊎ (x .received ≡ m .received)) (inl refl) (λ _. inr refl)
-
   pub putBack-under : putBack l m .received ≤ at l (m .receiver)
   putBack-under = putBack-cases (λ x. x .received ≤ at l (m .receiver)) (omega arith) (λ h. h)
 

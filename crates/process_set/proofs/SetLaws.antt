@@ -37,9 +37,6 @@ top-member set j l h =
     let quotient : set / 2 ^ j ≡ 1 = omega arith in
     rw quotient
 
-pub member-zero : (p : ℕ) → member 0 p ≡ false
-member-zero p = no-member-from 0 0 p (pow-pos 0) (omega arith)
-
 -- Divided by a lower power of two, a power of two is still even.
 no-lower-member : (m p : ℕ) → member (2 ^ (suc m + p)) p ≡ false
 unfolding member
@@ -82,10 +79,6 @@ unfolding member
 mask-is-member set p = rw (and-bit set p) (digit-is-one (set / 2 ^ p % 2) (2 ^ p) (mod-lt (set / 2 ^ p) (lit< tt)) (pow-pos p))
 
 -- ---- a member from n on
-
-pub no-high-bit : (set n : ℕ) → highBit set n ≡ false → (p : ℕ) → n ≤ p → p < 32 → member set p ≡ false
-unfolding highBit
-no-high-bit set n e p l h = rw (le-leb n p l) at (none-below (λ q. leb n q && member set q) 32 e p h)
 
 pub no-high-bit-from-32 : (set n : ℕ) → 32 ≤ n → highBit set n ≡ false
 unfolding highBit

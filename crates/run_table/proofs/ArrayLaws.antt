@@ -1,19 +1,21 @@
--- An array of 32 numbers that begins with a list.
+-- An array of 32 numbers that begins with a list; lists that are filled from the front.
 --     array-length, array-at          its length, and its entries
 --     array-front                     its first numbers are the list
 --     array-set                       one entry set
---     Filled                          such an array, as a loop fills it from the front: the invariant
---     filled-none, filled-more, filled-all, filled-array    how it begins, goes on and ends
+--     filled-none, filled-more, filled-all, filled-list    a list that a loop fills from the front
+--     Filling                         an array of zeros that a loop fills for n processes: the invariant
+--     filling-none, filling-more, filling-all, filling-array    how it begins, goes on and ends
 -- Assumes nothing.
 use mathlib.Core.List.{List}
-use mathlib.Core.Path.{_≡_, sym, ap₂, _∙_, subst⁻¹}
+use mathlib.Core.Path.{_≡_, refl, sym, ap₂, _∙_, subst, subst⁻¹}
 use Prim.Native.Nat.{ℕ, _+_, _≤_, _<_, zero-le}
 use native.Mathlib.Decide.{decLt, ℕ-discrete}
+use native.Mathlib.Nat.{le-antisymm, not-suc-le-zero}
 use native.Mathlib.Omega.{arith}
-use lib.ListN.{length, getD, set, take, replicate, length-replicate, length-set, getD-replicate, List·getD-eq-default}
+use lib.ListN.{length, getD, set, take, replicate, length-set, getD-replicate, List·getD-eq-default}
 use lib.Seq.{ext-getD, getD-set-same, getD-set-other, getD-take, length-take-le}
 use Rattle.run_table.proofs.ListLaws.{getD-tabulate, length-tabulate, set-tabulate}
-use Rattle.run_table.specs.Arrays.{arrayOf}
+use Rattle.run_table.specs.Arrays.{Filled, arrayOf}
 use Rattle.run_table.specs.Lists.{tabulate}
 
 module _ (l : List ℕ) where
@@ -41,49 +43,53 @@ unfolding arrayOf
 array-set l i v b small =
     set-tabulate 32 _ _ i v (omega arith) (sym (getD-set-same l i v 0 b)) (λ p other. sym (getD-set-other l i p v 0 other))
 
--- ---- an array that a loop fills
--- The first p of n entries hold f, and the others 0.
-pub record Filled (f : ℕ → ℕ) (n p : ℕ) (l : List ℕ) : Type 0 where
+-- ---- a list that a loop fills from the front
+pub filled-none : (f : ℕ → ℕ) (before : List ℕ) → Filled f 0 before before
+filled-none f before = record { same-length = refl; front = λ i l. absurd (not-suc-le-zero l); rest = λ i l. refl }
+
+module _ (f : ℕ → ℕ) (k : ℕ) (before after : List ℕ) (w : Filled f k before after) where
+  pub filled-more : (v : ℕ) (later : List ℕ) → v ≡ f k → later ≡ set after k v → Filled f (k + 1) before later
+  filled-more v later e put = rw put record {
+    same-length = length-set after k v ∙ w .same-length;
+    front = λ i l inside. by-place i l inside (ℕ-discrete i k);
+    rest = λ i l. getD-set-other after k i v 0 (λ same. omega arith) ∙ w .rest i (omega arith);
+  }
+    where
+      by-place : (i : ℕ) → i < k + 1 → i < length before → Dec (i ≡ k) → getD (set after k v) i 0 ≡ f i
+      by-place i l inside (yes same) =
+          subst⁻¹ (λ (x : ℕ). getD (set after k v) x 0 ≡ f x) same (getD-set-same after k v 0 (omega (arith, w .same-length)) ∙ e)
+      by-place i l inside (no other) = getD-set-other after k i v 0 other ∙ w .front i (omega arith) inside
+
+  pub filled-all : (n : ℕ) → k ≤ n → n ≤ k → Filled f n before after
+  filled-all n a b = subst (λ (j : ℕ). Filled f j before after) (le-antisymm a b) w
+
+  -- the whole list, where what the loop left alone is f's already
+  pub filled-list : ((i : ℕ) → k ≤ i → i < length before → getD before i 0 ≡ f i) → after ≡ tabulate (length before) f
+  filled-list left =
+      ext-getD 0 after (tabulate (length before) f) (w .same-length ∙ sym (length-tabulate (length before) f))
+      (λ i l. inside i (omega (arith, w .same-length)) (decLt i k))
+    where
+      inside : (i : ℕ) → i < length before → Dec (i < k) → getD after i 0 ≡ getD (tabulate (length before) f) i 0
+      inside i l (yes c) = w .front i c l ∙ sym (getD-tabulate (length before) f i 0 l)
+      inside i l (no c) = w .rest i (omega arith) ∙ left i (omega arith) l ∙ sym (getD-tabulate (length before) f i 0 l)
+
+-- ---- an array of zeros that a loop fills for n processes
+pub record Filling (f : ℕ → ℕ) (n p : ℕ) (l : List ℕ) : Type 0 where
   pub within : p ≤ n
-  pub size : length l ≡ 32
-  pub done : (q : ℕ) → q < p → getD l q 0 ≡ f q
-  pub rest : (q : ℕ) → p ≤ q → getD l q 0 ≡ 0
+  pub filled : Filled f p (replicate 32 0) l
 
-pub filled-none : (f : ℕ → ℕ) (n : ℕ) → Filled f n 0 (replicate 32 0)
-filled-none f n = record {
-  within = zero-le;
-  size = length-replicate {A = ℕ} 32 0;
-  done = λ q l. absurd (omega arith);
-  rest = λ q _. zeros q (decLt q 32);
-}
-  where
-    zeros : (q : ℕ) → Dec (q < 32) → _≡_ {A = ℕ} (getD (replicate 32 0) q 0) 0
-    zeros q (yes l) = getD-replicate 32 q 0 0 l
-    zeros q (no l) = List·getD-eq-default (replicate 32 0) 0 (subst⁻¹ (λ (x : ℕ). x ≤ q) (length-replicate {A = ℕ} 32 0) (omega arith))
+pub filling-none : (f : ℕ → ℕ) (n : ℕ) → Filling f n 0 (replicate 32 0)
+filling-none f n = record { within = zero-le; filled = filled-none f (replicate 32 0) }
 
-pub filled-more : (f : ℕ → ℕ) (n p : ℕ) (l : List ℕ) (v : ℕ) → n ≤ 32 → Filled f n p l → p < n → v ≡ f p → Filled f n (p + 1) (set l p v)
-filled-more f n p l v small h b e = record {
-  within = omega arith;
-  size = length-set l p v ∙ h .size;
-  done = λ q k. by-place q k (ℕ-discrete q p);
-  rest = λ q k. getD-set-other l p q v 0 (λ same. omega arith) ∙ h .rest q (omega arith);
-}
-  where
-    here : getD (set l p v) p 0 ≡ f p
-    here = getD-set-same l p v 0 (omega (arith, h .size)) ∙ e
+module _ (f : ℕ → ℕ) (n p : ℕ) (l : List ℕ) (h : Filling f n p l) where
+  pub filling-more : (v : ℕ) → p < n → v ≡ f p → Filling f n (p + 1) (set l p v)
+  filling-more v b e = record { within = omega arith; filled = filled-more f p (replicate 32 0) l (h .filled) v (set l p v) e refl }
 
-    by-place : (q : ℕ) → q < p + 1 → Dec (q ≡ p) → getD (set l p v) q 0 ≡ f q
-    by-place q k (yes same) = subst⁻¹ (λ (x : ℕ). getD (set l p v) x 0 ≡ f x) same here
-    by-place q k (no other) = getD-set-other l p q v 0 other ∙ h .done q (omega arith)
-
-pub filled-all : (f : ℕ → ℕ) (n p : ℕ) (l : List ℕ) → Filled f n p l → n ≤ p → ((q : ℕ) → n ≤ q → f q ≡ 0) → l ≡ tabulate 32 f
-filled-all f n p l h b beyond = ext-getD 0 l (tabulate 32 f) (h .size ∙ sym (length-tabulate 32 f)) (λ q k. by-place q (omega (arith, h .size)) (decLt q p))
-  where
-    by-place : (q : ℕ) → q < 32 → Dec (q < p) → getD l q 0 ≡ getD (tabulate 32 f) q 0
-    by-place q k (yes c) = h .done q c ∙ sym (getD-tabulate 32 f q 0 k)
-    by-place q k (no c) = h .rest q (omega arith) ∙ sym (beyond q (omega (arith, h .within))) ∙ sym (getD-tabulate 32 f q 0 k)
+  pub filling-all : n ≤ p → ((q : ℕ) → n ≤ q → f q ≡ 0) → l ≡ tabulate 32 f
+  filling-all b beyond =
+      filled-list f p (replicate 32 0) l (h .filled) (λ q c inside. getD-replicate 32 q 0 0 inside ∙ sym (beyond q (omega (arith, h .within))))
 
 -- the array of a list, where the loop went over its entries
-pub filled-array : (list : List ℕ) (n p : ℕ) (l : List ℕ) → Filled (λ q. getD list q 0) n p l → n ≤ p → n ≡ length list → l ≡ arrayOf list
+pub filling-array : (list : List ℕ) (n p : ℕ) (l : List ℕ) → Filling (λ q. getD list q 0) n p l → n ≤ p → n ≡ length list → l ≡ arrayOf list
 unfolding arrayOf
-filled-array list n p l h b e = filled-all (λ q. getD list q 0) n p l h b (λ q c. List·getD-eq-default list 0 (omega arith))
+filling-array list n p l h b e = filling-all (λ q. getD list q 0) n p l h b (λ q c. List·getD-eq-default list 0 (omega arith))

@@ -5,7 +5,7 @@
 --     Format     the bytes of a table, read (decode) and written (encode)
 --     Checks     the checks of a table, the refusal, and what an accepted table satisfies
 --     Fields     the numbers of a message, by name
---     Arrays     numbers of processes, as an array of the code
+--     Arrays     numbers of processes, as an array of the code; a list that is filled from the front
 --     Parts      what the loops of the code read off a part of a table's bytes
 pub mod Arrays
 pub mod Checks

@@ -97,13 +97,14 @@ fn fault_at(counts: &[u8], sends: &[u8], receipts: &[u8], n: usize, k: usize) ->
     5
 }
 
-// How many of the first m messages no check catches, up to the first that one does. An accepted table, the
-// usual case, is gone through here alone; its caller needs only that none before the number is caught.
+// The first of m messages that a check catches, or m. An accepted table, the usual case, is gone through
+// here alone.
 fn first_caught(counts: &[u8], sends: &[u8], receipts: &[u8], n: usize, m: usize) -> usize
     requires { ⌜ length (now counts) ≡ 2 * n ⌝ }
     requires { ⌜ length (now sends) ≡ 4 * m ⌝ }
     requires { ⌜ length (now receipts) ≡ 4 * m ⌝ }
-    ensures { λ r. ⌜ (r ≤ m) × (5 ≡ firstPlace (checksBelow (messageChecks n (now (counts .entry)) (now (sends .entry)) (now (receipts .entry))) r)) ⌝ }
+    ensures before { λ r. ⌜ (r ≤ m) × (5 ≡ firstPlace (checksBelow (messageChecks n (now (counts .entry)) (now (sends .entry)) (now (receipts .entry))) r)) ⌝ }
+    ensures caught { λ r. ⌜ (r < m → firstPlace (checksAt (messageChecks n (now (counts .entry)) (now (sends .entry)) (now (receipts .entry))) r) ≡ 5 → ⊥) ⌝ }
 {
     let mut k = 0;
     while k < m {

@@ -1,26 +1,23 @@
 -- What is written to a buffer, and what a test says of one.
 --     number-out                          a number beyond the end
 --     message-put                         a message
---     filled-none .. filled-all           a loop that fills a buffer from the front
---     filled-list                         a list that is filled whole
+--     checksum-more                       a checksum of one byte more
 --     each-more, each-all                 a loop of changes
 --     Tested, tested-none .. tested-another   a loop that tests its bytes
 -- Assumes nothing.
 use mathlib.Core.Bool.{true, false, false≢true}
 use mathlib.Core.List.{List}
-use mathlib.Core.Path.{_≡_, refl, sym, ap, _∙_, subst, subst⁻¹}
+use mathlib.Core.Path.{_≡_, sym, ap, _∙_}
 use Prim.Native.Nat.{ℕ, _+_, _*_, _/_, _%_, _≤_, _<_}
 use native.Mathlib.Decide.{ℕ-discrete}
-use native.Mathlib.Nat.{le-antisymm, not-suc-le-zero}
+use native.Mathlib.Nat.{le-antisymm}
 use native.Mathlib.Numerals.{add-one}
 use native.Mathlib.Omega.{arith}
-use lib.ListN.{length, getD, set, length-set}
-use lib.Seq.{getD-set-other, getD-set-same, set-out}
-use Rattle.run_table.proofs.ListLaws.{tabulate-ext, tabulate-getD}
+use lib.ListN.{length, getD, set}
+use lib.Seq.{set-out}
 use Rattle.run_table.specs.Format.{messagesIn, processesIn, receiptsAt, sendsAt}
-use Rattle.run_table.specs.Lists.{tabulate}
 use Rattle.run_table.specs.Numbers.{u16At}
-use Rattle.test_kit.specs.Buffers.{AllAre, Filled, withNumber}
+use Rattle.test_kit.specs.Buffers.{AllAre, checksumOf, withNumber}
 use Rattle.test_kit.specs.Tables.{each, withEntry, withMessage}
 
 -- ---- a number whose place is beyond the end
@@ -36,30 +33,10 @@ pub message-put : (b₀ b₁ b₂ : List ℕ) (n m sends receipts k j y i r : �
 unfolding withMessage processesIn messagesIn
 message-put b₀ b₁ b₂ n m sends receipts k j y i r read-n read-m is-s is-r first second = cc
 
--- ---- a loop that fills a buffer from the front
-pub filled-none : (f : ℕ → ℕ) (before : List ℕ) → Filled f 0 before before
-filled-none f before = record { same-length = refl; front = λ i l. absurd (not-suc-le-zero l); rest = λ i l. refl }
-
-module _ (f : ℕ → ℕ) (k : ℕ) (before after : List ℕ) (w : Filled f k before after) where
-  pub filled-more : (v : ℕ) (later : List ℕ) → v ≡ f k → later ≡ set after k v → Filled f (k + 1) before later
-  filled-more v later e put = rw put record {
-    same-length = length-set after k v ∙ w .same-length;
-    front = λ i l inside. by-place i l inside (ℕ-discrete i k);
-    rest = λ i l. getD-set-other after k i v 0 (λ same. omega arith) ∙ w .rest i (omega arith);
-  }
-    where
-      by-place : (i : ℕ) → i < k + 1 → i < length before → Dec (i ≡ k) → getD (set after k v) i 0 ≡ f i
-      by-place i l inside (yes same) =
-          subst⁻¹ (λ (x : ℕ). getD (set after k v) x 0 ≡ f x) same (getD-set-same after k v 0 (omega (arith, w .same-length)) ∙ e)
-      by-place i l inside (no other) = getD-set-other after k i v 0 other ∙ w .front i (omega arith) inside
-
-  pub filled-all : (n : ℕ) → k ≤ n → n ≤ k → Filled f n before after
-  filled-all n a b = subst (λ (j : ℕ). Filled f j before after) (le-antisymm a b) w
-
-pub filled-list : (f : ℕ → ℕ) (n : ℕ) (before after : List ℕ) → Filled f n before after → length after ≡ n → after ≡ tabulate n f
-filled-list f n before after w size =
-    let inside : (i : ℕ) → i < n → i < length before = λ i l. omega (arith, w .same-length) in
-    sym (tabulate-getD after 0) ∙ ap (λ (k : ℕ). tabulate k (λ i. getD after i 0)) size ∙ tabulate-ext n _ f (λ i l. w .front i l (inside i l))
+-- ---- a checksum
+pub checksum-more : (bytes : List ℕ) (i sum : ℕ) → sum ≡ checksumOf bytes i → (31 * sum + getD bytes i 0) % 1000003 ≡ checksumOf bytes (i + 1)
+unfolding checksumOf
+checksum-more bytes i sum e = rw (add-one, e)
 
 -- ---- a loop of changes
 module _ (change : ℕ → List ℕ → List ℕ) (before after : List ℕ) (k : ℕ) (done : after ≡ each k change before) where

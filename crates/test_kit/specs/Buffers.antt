@@ -2,20 +2,19 @@
 use mathlib.Core.Bool.{Bool, true, false}
 use mathlib.Core.List.{List}
 use mathlib.Core.Path.{_≡_}
-use Prim.Native.Nat.{ℕ, _+_, _/_, _%_, _≤_, _<_}
+use Prim.Native.Nat.{ℕ, zero, suc, _+_, _*_, _/_, _%_, _≤_, _<_}
 use lib.ListN.{length, getD, set}
 
 -- A 16-bit number at a place, low byte first.
 unfoldable pub withNumber : List ℕ → ℕ → ℕ → List ℕ
 withNumber buffer at value = set (set buffer at (value % 256)) (at + 1) (value / 256 % 256)
 
--- The first n bytes of a buffer are those of f, and the others are as they were.
-pub record Filled (f : ℕ → ℕ) (n : ℕ) (before after : List ℕ) : Type 0 where
-  pub same-length : length after ≡ length before
-  pub front : (i : ℕ) → i < n → i < length before → getD after i 0 ≡ f i
-  pub rest : (i : ℕ) → n ≤ i → getD after i 0 ≡ getD before i 0
-
 -- The answer of a test whether every byte from one place to another has a value.
 pub record AllAre (buffer : List ℕ) (from to value : ℕ) (answer : Bool) : Type 0 where
   pub all : answer ≡ true → (i : ℕ) → from ≤ i → i < to → i < length buffer → getD buffer i 0 ≡ value
   pub another : answer ≡ false → (i : ℕ) × (from ≤ i) × (i < to) × (i < length buffer) × (getD buffer i 0 ≡ value → ⊥)
+
+-- A checksum of the first n bytes.
+unfoldable pub checksumOf : List ℕ → ℕ → ℕ
+checksumOf bytes zero = 0
+checksumOf bytes (suc n) = (31 * checksumOf bytes n + getD bytes n 0) % 1000003

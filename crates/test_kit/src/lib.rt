@@ -15,8 +15,9 @@ use script::starts;
 ghost use mathlib.Core.Path.{_≡_};
 ghost use Prim.Native.Nat.{_<_};
 ghost use lib.ListN.{getD, length, set, take};
+ghost use Rattle.run_table.specs.Arrays.{Filled};
 ghost use Rattle.run_table.specs.Format.{messagesIn, processesIn, tableLength};
-ghost use Rattle.test_kit.specs.Buffers.{AllAre, Filled, withNumber};
+ghost use Rattle.test_kit.specs.Buffers.{AllAre, checksumOf, withNumber};
 ghost use Rattle.test_kit.specs.Tables.{dominoPlace, each, withCount, withDomino, withEntry, withMessage, withSizes};
 
 // The bytes of each buffer of the test programs: more than the largest table has.
@@ -200,7 +201,9 @@ pub fn numbers(bytes: &[u8]) {
 }
 
 // A checksum of some bytes.
-fn checksum(bytes: &[u8]) -> u64 {
+fn checksum(bytes: &[u8]) -> u64
+    ensures { λ r. ⌜ r ≡ checksumOf (now (bytes .entry)) (length (now (bytes .entry))) ⌝ }
+{
     let mut sum: u64 = 0;
     let mut i = 0;
     while i < bytes.len() {

@@ -8,7 +8,7 @@ use lib.ListN.{getD}
 use Rattle.futures.proofs.StepLaws.{rollback-processes}
 use Rattle.futures.specs.Steps.{afterRollback}
 use Rattle.rollback.proofs.RollbackLaws.{count-left, line-small}
-use Rattle.run_table.proofs.ArrayLaws.{Filled, filled-array, filled-more, filled-none}
+use Rattle.run_table.proofs.ArrayLaws.{Filling, filling-array, filling-more, filling-none}
 use Rattle.run_table.proofs.ReadLaws.{processes-few}
 use Rattle.run_table.specs.Format.{decode}
 use Rattle.run_table.specs.Table.{processCount}
@@ -16,7 +16,7 @@ use Rattle.rollback.proofs.counts_left.Statement.{statement}
 use Rattle.rollback.proofs.counts_left.Tie as tie
 
 abbrev Inv-loop : tie.InvT-loop
-Inv-loop table line n counts₀ p₀ counts p = Filled (λ q. getD (afterRollback (decode table) .counts) q 0) n p counts
+Inv-loop table line n counts₀ p₀ counts p = Filling (λ q. getD (afterRollback (decode table) .counts) q 0) n p counts
 
 abbrev μ-loop : tie.MeasureT-loop
 μ-loop table line n counts₀ p₀ counts p = n - p
@@ -26,7 +26,7 @@ few : (c : tie.After-process-count Inv-loop μ-loop) → c .process-count .resul
 few c = omega (arith, processes-few _ (c .before .before .pre .0), c .process-count .ensures)
 
 loop-holds : tie.Need-loop-holds Inv-loop μ-loop
-loop-holds c = filled-none _ _
+loop-holds c = filling-none _ _
 
 mul-counts : tie.Need-mul-counts Inv-loop μ-loop
 mul-counts c = omega (arith, few (c .before .before))
@@ -50,14 +50,14 @@ loop-again : tie.Need-loop-again Inv-loop μ-loop
 loop-again c =
     let sized = c .before .before in
     let start = sized .before .before in
-    filled-more _ _ _ _ _ (few sized) (c .before .loop .inv) (c .loop-test .taken)
+    filling-more _ _ _ _ (c .before .loop .inv) _ (c .loop-test .taken)
     (count-left _ (start .pre .0) _ (start .pre .1) _ (omega (arith, sized .process-count .ensures, c .loop-test .taken)))
 
 returns : tie.Need-returns Inv-loop μ-loop
 unfolding processCount
 returns c =
     let sized = c .before .before in
-    filled-array _ _ _ _ (c .before .loop .inv) (c .loop-test .left) (sized .process-count .ensures ∙ sym (rollback-processes _))
+    filling-array _ _ _ _ (c .before .loop .inv) (c .loop-test .left) (sized .process-count .ensures ∙ sym (rollback-processes _))
 
 pub counts-left-spec : {M : Type 1} → statement M
 counts-left-spec =

@@ -7,30 +7,30 @@ use lib.ListN.{getD}
 use Rattle.kept.proofs.KeptLaws.{lowest-first}
 use Rattle.kept.specs.Kept.{lowestAt, lowestLine}
 use Rattle.kept.specs.Scratch.{entryAt}
-use Rattle.run_table.proofs.ArrayLaws.{Filled, filled-array, filled-more, filled-none}
+use Rattle.run_table.proofs.ArrayLaws.{Filling, filling-array, filling-more, filling-none}
 use Rattle.run_table.proofs.ListLaws.{getD-tabulate, length-tabulate}
 use Rattle.run_table.specs.Lists.{tabulate}
 use Rattle.kept.proofs.messages.lowest_line.Statement.{statement}
 use Rattle.kept.proofs.messages.lowest_line.Tie as tie
 
 abbrev Inv-loop : tie.InvT-loop
-Inv-loop scratch n lowest₀ i₀ lowest i = Filled (λ i. getD (tabulate n (lowestAt n (entryAt scratch n))) i 0) n i lowest
+Inv-loop scratch n lowest₀ i₀ lowest i = Filling (λ i. getD (tabulate n (lowestAt n (entryAt scratch n))) i 0) n i lowest
 
 abbrev μ-loop : tie.MeasureT-loop
 μ-loop scratch n lowest₀ i₀ lowest i = n - i
 
 loop-holds : tie.Need-loop-holds Inv-loop μ-loop
-loop-holds c = filled-none _ _
+loop-holds c = filling-none _ _
 
 loop-again : tie.Need-loop-again Inv-loop μ-loop
 loop-again c =
     let turn = c .before in
-    filled-more _ _ _ _ _ (omega arith) (turn .before .loop .inv) (turn .loop-test .taken)
+    filling-more _ _ _ _ (turn .before .loop .inv) _ (turn .loop-test .taken)
     (lowest-first _ _ _ _ (c .next-kept .ensures) ∙ sym (getD-tabulate _ _ _ 0 (turn .loop-test .taken)))
 
 returns : tie.Need-returns Inv-loop μ-loop
 unfolding lowestLine
-returns c = filled-array _ _ _ _ (c .before .loop .inv) (c .loop-test .left) (sym (length-tabulate _ _))
+returns c = filling-array _ _ _ _ (c .before .loop .inv) (c .loop-test .left) (sym (length-tabulate _ _))
 
 pub lowest-line-spec : {M : Type 1} → statement M
 lowest-line-spec =

@@ -4,20 +4,20 @@ use native.Mathlib.Omega.{arith}
 use mathlib.Core.Path.{subst⁻¹}
 use Prim.Native.Nat.{ℕ, _-_, _<_}
 use Rattle.lines.proofs.LineReads.{height-read, height-beyond}
-use Rattle.run_table.proofs.ArrayLaws.{Filled, filled-none, filled-more, filled-all}
+use Rattle.run_table.proofs.ArrayLaws.{Filling, filling-all, filling-more, filling-none}
 use Rattle.lines.specs.Arrays.{heightAt}
 use Rattle.run_table.specs.Format.{countAt}
 use Rattle.lines.proofs.ceilings.ceiling.Statement.{statement}
 use Rattle.lines.proofs.ceilings.ceiling.Tie as tie
 
 abbrev Inv-loop : tie.InvT-loop
-Inv-loop counts n set line₀ p₀ line p = Filled (heightAt n set counts) n p line
+Inv-loop counts n set line₀ p₀ line p = Filling (heightAt n set counts) n p line
 
 abbrev μ-loop : tie.MeasureT-loop
 μ-loop counts n set line₀ p₀ line p = n - p
 
 loop-holds : tie.Need-loop-holds Inv-loop μ-loop
-loop-holds c = filled-none _ _
+loop-holds c = filling-none _ _
 
 height-requires : tie.Need-height-requires Inv-loop μ-loop
 unfolding countAt
@@ -26,11 +26,11 @@ height-requires c κs = subst⁻¹ (λ (x : ℕ). 0 < x) (c .before .u16-at .ens
 loop-again : tie.Need-loop-again Inv-loop μ-loop
 loop-again c =
     let turn = c .before .before .before in
-    filled-more _ _ _ _ _ (turn .before .before .before .pre .0) (turn .before .loop .inv) (turn .loop-test .taken)
+    filling-more _ _ _ _ (turn .before .loop .inv) _ (turn .loop-test .taken)
     (height-read _ _ _ _ _ _ _ (turn .loop-test .taken) (c .before .before .u16-at .ensures) (c .before .is-member .ensures) (c .height .ensures))
 
 returns : tie.Need-returns Inv-loop μ-loop
-returns c = filled-all _ _ _ _ (c .before .loop .inv) (c .loop-test .left) (height-beyond _ _ _)
+returns c = filling-all _ _ _ _ (c .before .loop .inv) (c .loop-test .left) (height-beyond _ _ _)
 
 pub ceiling-spec : {M : Type 1} → statement M
 ceiling-spec =

@@ -1,6 +1,7 @@
 -- `checks::first_caught` meets its contract: the loop leaves at the first message that a check catches.
 -- Assumes nothing.
 use native.Mathlib.Omega.{arith}
+use mathlib.Core.Path.{_∙_}
 use Prim.Native.Nat.{_-_}
 use Rattle.run_table.proofs.FaultLaws.{Looked, looked-none, looked-past}
 use Rattle.run_table.specs.Parts.{messageChecks}
@@ -19,7 +20,7 @@ loop-holds c = looked-none _ _
 returns : tie.Need-returns Inv-loop μ-loop
 returns c =
     let seen = c .before .before .before .loop .inv in
-    (seen .within, seen .found)
+    ((seen .within, seen .found), λ _ none. c .if1 .taken (c .before .fault-at .ensures ∙ none))
 
 loop-again : tie.Need-loop-again Inv-loop μ-loop
 loop-again c =
@@ -27,7 +28,9 @@ loop-again c =
     looked-past _ _ _ _ (turn .before .loop .inv) (turn .loop-test .taken) _ (c .before .fault-at .ensures) (c .if1 .left)
 
 returns-2 : tie.Need-returns-2 Inv-loop μ-loop
-returns-2 c = (c .before .loop .inv .within, c .before .loop .inv .found)
+returns-2 c =
+    let seen = c .before .loop .inv in
+    ((seen .within, seen .found), λ l _. omega (arith, l, c .loop-test .left))
 
 pub first-caught-spec : {M : Type 1} → statement M
 first-caught-spec =

@@ -14,7 +14,9 @@ abbrev μ-loop : tie.MeasureT-loop
 μ-loop counts sends receipts n m first₀ k₀ first k = m - k
 
 loop-holds : tie.Need-loop-holds Inv-loop μ-loop
-loop-holds c = record { within = c .first-caught .ensures .0; found = c .first-caught .ensures .1 }
+loop-holds c =
+    let seen = c .first-caught .ensures .0 in
+    record { within = seen .0; found = seen .1 }
 
 loop-again : tie.Need-loop-again Inv-loop μ-loop
 loop-again c =

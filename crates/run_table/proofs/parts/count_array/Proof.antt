@@ -7,7 +7,7 @@ use mathlib.Core.Path.{_≡_, ap, _∙_}
 use Prim.Native.Nat.{ℕ, _-_, _*_, _≤_}
 use denote.Ref.{now}
 use lib.ListN.{getD, length}
-use Rattle.run_table.proofs.ArrayLaws.{Filled, filled-array, filled-more, filled-none}
+use Rattle.run_table.proofs.ArrayLaws.{Filling, filling-array, filling-more, filling-none}
 use Rattle.run_table.proofs.ReadLaws.{count-is, counts-size, processes-few}
 use Rattle.run_table.specs.Format.{countAt, decode}
 use Rattle.run_table.specs.Numbers.{u16At}
@@ -16,7 +16,7 @@ use Rattle.run_table.proofs.parts.count_array.Statement.{statement}
 use Rattle.run_table.proofs.parts.count_array.Tie as tie
 
 abbrev Inv-loop : tie.InvT-loop
-Inv-loop table n part counts₀ p₀ counts p = Filled (λ q. getD (decode table .counts) q 0) n p counts
+Inv-loop table n part counts₀ p₀ counts p = Filling (λ q. getD (decode table .counts) q 0) n p counts
 
 abbrev μ-loop : tie.MeasureT-loop
 μ-loop table n part counts₀ p₀ counts p = n - p
@@ -29,7 +29,7 @@ size : (c : tie.After-counts Inv-loop μ-loop) → length (now (c .counts .resul
 size c = omega (arith, ap length (c .counts .ensures), counts-size _ (c .before .before .before .pre), c .before .process-count .ensures)
 
 loop-holds : tie.Need-loop-holds Inv-loop μ-loop
-loop-holds c = filled-none _ _
+loop-holds c = filling-none _ _
 
 mul-u16-at : tie.Need-mul-u16-at Inv-loop μ-loop
 mul-u16-at c = omega (arith, few (c .before .before))
@@ -48,7 +48,7 @@ unfolding countAt countOf
 loop-again c =
     let turn = c .before in
     let read = turn .before .before in
-    filled-more _ _ _ _ _ (few read) (turn .before .loop .inv) (turn .loop-test .taken)
+    filling-more _ _ _ _ (turn .before .loop .inv) _ (turn .loop-test .taken)
     (c .u16-at .ensures ∙ ap (λ (part : List ℕ). u16At part (2 * turn .before .loop .p)) (read .counts .ensures)
     ∙ count-is _ (read .before .before .before .pre) _ (omega (arith, read .before .process-count .ensures, turn .loop-test .taken)))
 
@@ -56,7 +56,7 @@ returns : tie.Need-returns Inv-loop μ-loop
 unfolding processCount
 returns c =
     let read = c .before .before in
-    filled-array _ _ _ _ (c .before .loop .inv) (c .loop-test .left) (read .before .process-count .ensures)
+    filling-array _ _ _ _ (c .before .loop .inv) (c .loop-test .left) (read .before .process-count .ensures)
 
 pub count-array-spec : {M : Type 1} → statement M
 count-array-spec =
