@@ -14,11 +14,11 @@ use mathlib.Core.Path.{_≡_}
 use Prim.Native.Nat.{ℕ, _<_}
 use lib.ListN.{length, getD}
 use Rattle.futures.proofs.NeedLaws.{checkpoint-all-back, checkpoint-need-kept, kept-on-held, kept-open, message-all-back, message-need-kept, on-held-kept, open-kept}
-use Rattle.futures.proofs.SheetLaws.{checkpoints-listed, listed-at, messages-listed}
+use Rattle.futures.proofs.KeptLaws.{checkpoints-listed, listed-at, messages-listed}
 use Rattle.futures.proofs.WitnessLaws.{checkpoint-kept-needed, message-kept-needed}
 use Rattle.futures.specs.Demand3.{Demand3, Listed}
 use Rattle.futures.specs.Futures.{CheckpointNeeded, FollowedTo, Future, MessageNeeded, NeedsCheckpoint, NeedsMessage, StillThere, endOf}
-use Rattle.futures.specs.Sheet.{Kept, keepsCheckpoint, keepsMessage, keptCheckpoints, keptMessages}
+use Rattle.futures.specs.Sheet.{Checkpoint, keepsCheckpoint, keepsMessage, keptCheckpoints, keptMessages}
 use Rattle.run_table.specs.Checks.{WellFormed}
 use Rattle.run_table.specs.Table.{Table, countOf, messageCount, messageOf}
 
@@ -46,30 +46,30 @@ demand-3 t w = record {
 
 -- ---- what this means for whoever discards
 pub nothing-off-the-sheet-is-needed : (t : Table) → WellFormed t → (future : Future)
-    → ((i c : ℕ) → (Listed {A = Kept} (record { process = i; state = c }) (keptCheckpoints t) → ⊥) → NeedsCheckpoint t future i c → ⊥)
+    → ((i c : ℕ) → (Listed {A = Checkpoint} (record { process = i; number = c }) (keptCheckpoints t) → ⊥) → NeedsCheckpoint t future i c → ⊥)
     × ((k : ℕ) → (Listed k (keptMessages t) → ⊥) → NeedsMessage t future k → ⊥)
 unfolding CheckpointNeeded MessageNeeded
 nothing-off-the-sheet-is-needed t w future =
     (λ i c off needs. off (demand-3 t w .checkpoints i c .1 (future, needs)), λ k off needs. off (demand-3 t w .messages k .1 (future, needs)))
 
 module _ (t : Table) (w : WellFormed t) where
-  entry-needed : (x : Kept) → Listed x (keptCheckpoints t) → CheckpointNeeded t (x .process) (x .state)
-  entry-needed x h = demand-3 t w .checkpoints (x .process) (x .state) .0 h
+  entry-needed : (x : Checkpoint) → Listed x (keptCheckpoints t) → CheckpointNeeded t (x .process) (x .number)
+  entry-needed x h = demand-3 t w .checkpoints (x .process) (x .number) .0 h
 
   pub each-entry-has-a-future :
-      ((n : ℕ) (d : Kept) → n < length (keptCheckpoints t) → CheckpointNeeded t (getD (keptCheckpoints t) n d .process) (getD (keptCheckpoints t) n d .state))
+      ((n : ℕ) (d : Checkpoint) → n < length (keptCheckpoints t) → CheckpointNeeded t (getD (keptCheckpoints t) n d .process) (getD (keptCheckpoints t) n d .number))
       × ((n : ℕ) (d : ℕ) → n < length (keptMessages t) → MessageNeeded t (getD (keptMessages t) n d))
   each-entry-has-a-future = (
     λ n d l. entry-needed (getD (keptCheckpoints t) n d) (listed-at (keptCheckpoints t) n d l),
     λ n d l. demand-3 t w .messages (getD (keptMessages t) n d) .0 (listed-at (keptMessages t) n d l),
   )
 
-  pub no-smaller-sheet-serves : (checkpoints : List Kept) (messages : List ℕ)
-      → ((i c : ℕ) → CheckpointNeeded t i c → Listed {A = Kept} (record { process = i; state = c }) checkpoints)
+  pub no-smaller-sheet-serves : (checkpoints : List Checkpoint) (messages : List ℕ)
+      → ((i c : ℕ) → CheckpointNeeded t i c → Listed {A = Checkpoint} (record { process = i; number = c }) checkpoints)
       → ((k : ℕ) → MessageNeeded t k → Listed k messages)
-      → ((x : Kept) → Listed x (keptCheckpoints t) → Listed x checkpoints) × ((k : ℕ) → Listed k (keptMessages t) → Listed k messages)
+      → ((x : Checkpoint) → Listed x (keptCheckpoints t) → Listed x checkpoints) × ((k : ℕ) → Listed k (keptMessages t) → Listed k messages)
   no-smaller-sheet-serves checkpoints messages all-checkpoints all-messages =
-      (λ x h. all-checkpoints (x .process) (x .state) (entry-needed x h), λ k h. all-messages k (demand-3 t w .messages k .0 h))
+      (λ x h. all-checkpoints (x .process) (x .number) (entry-needed x h), λ k h. all-messages k (demand-3 t w .messages k .0 h))
 
 -- So a log or a checkpoint may be discarded once and for all: no later sheet asks for it again.
 pub discarded-stays-discarded : (t : Table) → WellFormed t → (future : Future)

@@ -36,7 +36,7 @@ use Rattle.consistency.proofs.CeilingLaws.{ceiling-at, set-latest, set-length}
 use Rattle.consistency.proofs.LineLaws.{latest-same}
 use Rattle.consistency.specs.Ceilings.{ceilingOf, lineOf, recoveryLine}
 use Rattle.consistency.specs.Lines.{AtOrBelow, Latest, Orphan, at}
-use Rattle.futures.specs.Steps.{Step, afterCheckpoint, afterRollback, afterSend, badPosition, checkpoint, checkpointChecks, follows, notRising, putBack, receivedAt, remaining, rollback, send, sendChecks, stays, step, unlessCaught, waitsFor}
+use Rattle.futures.specs.Steps.{Step, afterCheckpoint, afterRollback, afterSend, badPosition, checkpoint, checkpointChecks, notRisingAfter, notRising, putBack, receivedAt, remaining, rollback, send, sendChecks, stays, step, unlessCaught, waitsFor}
 use Rattle.run_table.proofs.CheckLaws.{clear, cleared, passed}
 use Rattle.run_table.proofs.FormatLaws.{count-beyond, message-beyond}
 use Rattle.run_table.proofs.ListLaws.{and-left, and-right, any-none, getD-tabulate, length-tabulate, or-false-left, or-false-right}
@@ -134,18 +134,18 @@ listed-fails test (x ∷ rest) e k h = go (eqb k x) refl h (listed-fails test re
     go false other h later = later h
 
 -- where a list goes on from k without a step back, its entries are above k, and it is rising
-follows-above : (k : ℕ) (rest : List ℕ) → follows k rest ≡ false → (b : ℕ) → b < length rest → k < getD rest b 0
-unfolding follows
+follows-above : (k : ℕ) (rest : List ℕ) → notRisingAfter k rest ≡ false → (b : ℕ) → b < length rest → k < getD rest b 0
+unfolding notRisingAfter
 follows-above k [] e b l = absurd (not-suc-le-zero l)
-follows-above k (next ∷ rest) e zero l = leb-false next k (or-false-left (leb next k) (follows next rest) e)
+follows-above k (next ∷ rest) e zero l = leb-false next k (or-false-left (leb next k) (notRisingAfter next rest) e)
 follows-above k (next ∷ rest) e (suc b) l =
-    let here : k < next = leb-false next k (or-false-left (leb next k) (follows next rest) e) in
-    omega (arith, follows-above next rest (or-false-right (leb next k) (follows next rest) e) b (le-of-suc-le-suc l))
+    let here : k < next = leb-false next k (or-false-left (leb next k) (notRisingAfter next rest) e) in
+    omega (arith, follows-above next rest (or-false-right (leb next k) (notRisingAfter next rest) e) b (le-of-suc-le-suc l))
 
-follows-rising : (k : ℕ) (rest : List ℕ) → follows k rest ≡ false → notRising rest ≡ false
-unfolding follows notRising
+follows-rising : (k : ℕ) (rest : List ℕ) → notRisingAfter k rest ≡ false → notRising rest ≡ false
+unfolding notRisingAfter notRising
 follows-rising k [] e = refl
-follows-rising k (next ∷ rest) e = or-false-right (leb next k) (follows next rest) e
+follows-rising k (next ∷ rest) e = or-false-right (leb next k) (notRisingAfter next rest) e
 
 pub rising : (list : List ℕ) → notRising list ≡ false → (a b : ℕ) → a < b → b < length list → getD list a 0 < getD list b 0
 unfolding notRising

@@ -22,7 +22,7 @@ use Rattle.consistency.proofs.CeilingLaws.{ceiling-at, ceiling-length, line-of-
 use Rattle.consistency.specs.Ceilings.{Holders, ceilingOf, lineOf, recoveryLine, single}
 use Rattle.consistency.specs.Lines.{at}
 use Rattle.consistency.specs.Lowering.{lineUnder}
-use Rattle.futures.proofs.SheetLaws.{Across, HolderWith, keeps-checkpoint, keeps-message}
+use Rattle.futures.proofs.KeptLaws.{Across, HolderWith, keeps-checkpoint, keeps-message}
 use Rattle.futures.proofs.StepLaws.{checkpoint-count-here, checkpoint-count-other, checkpoint-message, checkpoint-messages, checkpoint-processes, checkpoint-quiet, receivedAt-unlisted, step-taken}
 use Rattle.futures.specs.Futures.{CheckpointNeeded, FollowedTo, Future, MessageNeeded, NeedsCheckpoint, NeedsMessage, StepKeeps, StillThere, endOf, moved, placeOf}
 use Rattle.futures.specs.Sheet.{holderLine, keepsCheckpoint, keepsMessage}

@@ -6,7 +6,7 @@ use mathlib.Core.Path.{_≡_}
 use Prim.Native.Nat.{ℕ, _<_}
 use lib.ListN.{length, getD}
 use Rattle.futures.specs.Futures.{CheckpointNeeded, MessageNeeded}
-use Rattle.futures.specs.Sheet.{Kept, keptCheckpoints, keptMessages}
+use Rattle.futures.specs.Sheet.{Checkpoint, keptCheckpoints, keptMessages}
 use Rattle.run_table.specs.Table.{Table}
 
 -- An entry is listed where it stands at some position of the list.
@@ -15,5 +15,5 @@ Listed x l = (n : ℕ) × (n < length l) × (getD l n x ≡ x)
 
 -- Checkpoint c of process i is listed just when some future needs it, and the message at position k just when some future needs it.
 pub record Demand3 (t : Table) : Type 0 where
-  pub checkpoints : (i c : ℕ) → Listed {A = Kept} (record { process = i; state = c }) (keptCheckpoints t) ↔ CheckpointNeeded t i c
+  pub checkpoints : (i c : ℕ) → Listed {A = Checkpoint} (record { process = i; number = c }) (keptCheckpoints t) ↔ CheckpointNeeded t i c
   pub messages : (k : ℕ) → Listed k (keptMessages t) ↔ MessageNeeded t k

@@ -31,21 +31,21 @@ crosses l m = ltb (m .sent) (l (m .sender)) && ltb (l (m .receiver)) (m .receive
 unfoldable pub keepsMessage : Table → Message → Bool
 keepsMessage t m = eqb (m .received) 0 || anyBelow (processCount t) (λ k. crosses (at (holderLine t k)) m)
 
--- A checkpoint of a process.
-pub record Kept : Type 0 where
+-- A checkpoint: its process and its number.
+pub record Checkpoint : Type 0 where
   pub process : ℕ
-  pub state : ℕ
+  pub number : ℕ
 
--- The kept checkpoints, by process and then state.
-unfoldable pub keptCheckpoints : Table → List Kept
-keptCheckpoints t = rows (λ i. map (λ c. record { process = i; state = c }) (select (keepsCheckpoint t i) (countOf t i))) (processCount t)
+-- The kept checkpoints, by process and then number.
+unfoldable pub keptCheckpoints : Table → List Checkpoint
+keptCheckpoints t = rows (λ i. map (λ c. record { process = i; number = c }) (select (keepsCheckpoint t i) (countOf t i))) (processCount t)
 
 -- The positions of the kept messages, rising.
 unfoldable pub keptMessages : Table → List ℕ
 keptMessages t = select (λ k. keepsMessage t (messageOf t k)) (messageCount t)
 
--- The bytes of the sheet: K and Q; the two parallel arrays of K, process and state; the Q positions.
+-- The bytes of the sheet: K and Q; the two parallel arrays of K, process and number (state); the Q positions.
 unfoldable pub sheet : Table → List ℕ
 sheet t =
     u16s (length (keptCheckpoints t) ∷ length (keptMessages t)
-    ∷ (map (λ k. k .process) (keptCheckpoints t) ++ (map (λ k. k .state) (keptCheckpoints t) ++ keptMessages t)))
+    ∷ (map (λ k. k .process) (keptCheckpoints t) ++ (map (λ k. k .number) (keptCheckpoints t) ++ keptMessages t)))

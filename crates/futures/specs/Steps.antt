@@ -43,13 +43,13 @@ unfoldable pub badPosition : Table → ℕ → ℕ → Bool
 badPosition t i k = leb (messageCount t) k || not (waitsFor i (messageOf t k))
 
 -- A position that is not above the one before it.
-unfoldable pub follows : ℕ → List ℕ → Bool
-follows k [] = false
-follows k (next ∷ rest) = leb next k || follows next rest
+unfoldable pub notRisingAfter : ℕ → List ℕ → Bool
+notRisingAfter k [] = false
+notRisingAfter k (next ∷ rest) = leb next k || notRisingAfter next rest
 
 unfoldable pub notRising : List ℕ → Bool
 notRising [] = false
-notRising (k ∷ rest) = follows k rest
+notRising (k ∷ rest) = notRisingAfter k rest
 
 -- 10. The process is N or above. 13. The list has a position of M or above, or not above the one before it, or of a message not
 -- waiting for that process.

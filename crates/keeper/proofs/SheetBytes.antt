@@ -1,6 +1,6 @@
 -- The keep sheet as it is read back from the buffer: demand 3, of bytes.
 --     read-kept, read-logged                        K and Q
---     read-process, read-state, read-position       an entry
+--     read-process, read-checkpoint, read-position       an entry
 --     sheet-holds                                   what the bytes list is exactly what some future needs
 -- Assumes nothing.
 use mathlib.Core.List.{List, _∷_, _++_, map}
@@ -11,13 +11,13 @@ use lib.ListN.{length, getD, drop, length-append, length-map, List·getD-append,
 use lib.Seq.{getD-append-add}
 use Rattle.futures.proofs.Demand3.{demand-3}
 use Rattle.futures.proofs.FutureLaws.{known-process}
-use Rattle.futures.proofs.SheetLaws.{any-default, checkpoints-listed, keeps-checkpoint, listed-at, messages-listed}
+use Rattle.futures.proofs.KeptLaws.{any-default, checkpoints-listed, keeps-checkpoint, listed-at, messages-listed}
 use Rattle.futures.specs.Demand3.{Demand3, Listed}
 use Rattle.futures.specs.Futures.{CheckpointNeeded, MessageNeeded}
-use Rattle.futures.specs.Sheet.{Kept, keptCheckpoints, keptMessages, sheet}
+use Rattle.futures.specs.Sheet.{Checkpoint, keptCheckpoints, keptMessages, sheet}
 use Rattle.keeper.proofs.AnswerLaws.{put-in-front}
 use Rattle.keeper.specs.Calls.{HoldsSheet, ListsCheckpoint, ListsMessage}
-use Rattle.retention.proofs.SheetLaws.{kept-few}
+use Rattle.sheet_writer.proofs.SheetReads.{kept-few}
 use Rattle.run_table.proofs.AcceptLaws.{accepted}
 use Rattle.run_table.proofs.NumberLaws.{u16At-u16s}
 use Rattle.run_table.proofs.ReadLaws.{messages-few, processes-few}
@@ -30,23 +30,23 @@ module _ (table : List ℕ) (none : tableRefusal table ≡ 0) (before after : Li
   abbrev t : Table
   t = decode table
 
-  abbrev ks : List Kept
+  abbrev ks : List Checkpoint
   ks = keptCheckpoints t
 
   abbrev qs : List ℕ
   qs = keptMessages t
 
   abbrev ps : List ℕ
-  ps = map (λ (k : Kept). k .process) ks
+  ps = map (λ (k : Checkpoint). k .process) ks
 
   abbrev ss : List ℕ
-  ss = map (λ (k : Kept). k .state) ks
+  ss = map (λ (k : Checkpoint). k .number) ks
 
   abbrev ns : List ℕ
   ns = length ks ∷ length qs ∷ (ps ++ (ss ++ qs))
 
   sizes : (length ps ≡ length ks) × (length ss ≡ length ks)
-  sizes = (length-map ks (λ (k : Kept). k .process), length-map ks (λ (k : Kept). k .state))
+  sizes = (length-map ks (λ (k : Checkpoint). k .process), length-map ks (λ (k : Checkpoint). k .number))
 
   size : length ns ≡ 2 + length ks + length ks + length qs
   size = omega (arith, sizes .0, sizes .1, length-append ps (ss ++ qs), length-append ss qs)
@@ -64,27 +64,27 @@ module _ (table : List ℕ) (none : tableRefusal table ≡ 0) (before after : Li
   read-logged = read 1 (length qs) (omega (arith, size)) refl (omega (arith, kept-few table none .1))
 
   -- a checkpoint of the list has small numbers
-  small : (x : Kept) → Listed x ks → (x .process < mostProcesses) × (x .state < mostCheckpoints)
+  small : (x : Checkpoint) → Listed x ks → (x .process < mostProcesses) × (x .number < mostCheckpoints)
   small x h =
-      let below : x .state < countOf t (x .process) = keeps-checkpoint t (x .process) (x .state) .0 (checkpoints-listed t (x .process) (x .state) .0 h) .0 in
-      let known : x .process < processCount t = known-process t (x .process) (x .state) below in
+      let below : x .number < countOf t (x .process) = keeps-checkpoint t (x .process) (x .number) .0 (checkpoints-listed t (x .process) (x .number) .0 h) .0 in
+      let known : x .process < processCount t = known-process t (x .process) (x .number) below in
       (omega (arith, processes-few table none), omega (arith, accepted table none .limits .counts-limit (x .process) known))
 
-  module _ (n : ℕ) (d : Kept) (l : n < length ks) where
+  module _ (n : ℕ) (d : Checkpoint) (l : n < length ks) where
     pub read-process : u16At after (4 + 2 * n) ≡ getD ks n d .process
     read-process =
         ap (u16At after) (omega arith)
         ∙ read (suc (suc n)) (getD ks n d .process) (omega (arith, size))
         (List·getD-append ps (ss ++ qs) 0 n (omega (arith, sizes .0)) ∙ any-default ps n 0 (d .process) (omega (arith, sizes .0))
-        ∙ List·getD-map (λ (k : Kept). k .process) ks n d)
+        ∙ List·getD-map (λ (k : Checkpoint). k .process) ks n d)
         (omega (arith, small (getD ks n d) (listed-at ks n d l) .0))
 
-    pub read-state : u16At after (4 + 2 * u16At after 0 + 2 * n) ≡ getD ks n d .state
-    read-state =
+    pub read-checkpoint : u16At after (4 + 2 * u16At after 0 + 2 * n) ≡ getD ks n d .number
+    read-checkpoint =
         ap (u16At after) (omega (arith, read-kept, sizes .0))
-        ∙ read (suc (suc (length ps + n))) (getD ks n d .state) (omega (arith, size, sizes .0))
-        (getD-append-add ps (ss ++ qs) n 0 ∙ List·getD-append ss qs 0 n (omega (arith, sizes .1)) ∙ any-default ss n 0 (d .state) (omega (arith, sizes .1))
-        ∙ List·getD-map (λ (k : Kept). k .state) ks n d)
+        ∙ read (suc (suc (length ps + n))) (getD ks n d .number) (omega (arith, size, sizes .0))
+        (getD-append-add ps (ss ++ qs) n 0 ∙ List·getD-append ss qs 0 n (omega (arith, sizes .1)) ∙ any-default ss n 0 (d .number) (omega (arith, sizes .1))
+        ∙ List·getD-map (λ (k : Checkpoint). k .number) ks n d)
         (omega (arith, small (getD ks n d) (listed-at ks n d l) .1))
 
   module _ (n : ℕ) (d : ℕ) (l : n < length qs) where
@@ -98,18 +98,18 @@ module _ (table : List ℕ) (none : tableRefusal table ≡ 0) (before after : Li
   abbrev demand : Demand3 t
   demand = demand-3 t (accepted table none .well-formed)
 
-  abbrev entry : ℕ → ℕ → Kept
-  entry i c = record { process = i; state = c }
+  abbrev entry : ℕ → ℕ → Checkpoint
+  entry i c = record { process = i; number = c }
 
   checkpoint-there : (i c : ℕ) → ListsCheckpoint after i c → CheckpointNeeded t i c
   unfolding ListsCheckpoint
   checkpoint-there i c h =
       let n = h .0 in
       let l : n < length ks = subst (λ (k : ℕ). n < k) read-kept (h .1) in
-      let x : Kept = getD ks n (entry i c) in
-      let needed : CheckpointNeeded t (x .process) (x .state) = demand .checkpoints (x .process) (x .state) .0 (listed-at ks n (entry i c) l) in
-      subst (λ (k : ℕ). CheckpointNeeded t i k) (sym (read-state n (entry i c) l) ∙ h .3)
-      (subst (λ (p : ℕ). CheckpointNeeded t p (x .state)) (sym (read-process n (entry i c) l) ∙ h .2) needed)
+      let x : Checkpoint = getD ks n (entry i c) in
+      let needed : CheckpointNeeded t (x .process) (x .number) = demand .checkpoints (x .process) (x .number) .0 (listed-at ks n (entry i c) l) in
+      subst (λ (k : ℕ). CheckpointNeeded t i k) (sym (read-checkpoint n (entry i c) l) ∙ h .3)
+      (subst (λ (p : ℕ). CheckpointNeeded t p (x .number)) (sym (read-process n (entry i c) l) ∙ h .2) needed)
 
   checkpoint-back : (i c : ℕ) → CheckpointNeeded t i c → ListsCheckpoint after i c
   unfolding ListsCheckpoint Listed
@@ -117,8 +117,8 @@ module _ (table : List ℕ) (none : tableRefusal table ≡ 0) (before after : Li
       let h : Listed (entry i c) ks = demand .checkpoints i c .1 needed in (
         h .0,
         subst⁻¹ (λ (k : ℕ). h .0 < k) read-kept (h .1),
-        read-process (h .0) (entry i c) (h .1) ∙ ap (λ (k : Kept). k .process) (h .2),
-        read-state (h .0) (entry i c) (h .1) ∙ ap (λ (k : Kept). k .state) (h .2),
+        read-process (h .0) (entry i c) (h .1) ∙ ap (λ (k : Checkpoint). k .process) (h .2),
+        read-checkpoint (h .0) (entry i c) (h .1) ∙ ap (λ (k : Checkpoint). k .number) (h .2),
       )
 
   message-there : (k : ℕ) → ListsMessage after k → MessageNeeded t k

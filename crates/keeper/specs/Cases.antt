@@ -76,7 +76,7 @@ markedCases =
     ∷ record { table = tableA; call = keepSheet; expected = answered (3 ∷ 0 ∷ 2 ∷ 0 ∷ 0 ∷ 0 ∷ 1 ∷ 0 ∷ 1 ∷ 0 ∷ 1 ∷ 0 ∷ 1 ∷ 0 ∷ 2 ∷ 0 ∷ 0 ∷ 0 ∷ 4 ∷ 0 ∷ []) }
     -- A3: A after a fall back
     ∷ record { table = tableA; call = fallBack; expected = answered (u16s (2 ∷ 2 ∷ 2 ∷ 2 ∷ 0 ∷ 0 ∷ 1 ∷ 0 ∷ 1 ∷ 0 ∷ 0 ∷ 1 ∷ [])) }
-    -- B: its line, and its state 0
+    -- B: its line, and its checkpoint 0
     ∷ record { table = tableB; call = recoveryLine; expected = answered (u16s (0 ∷ [])) }
     ∷ record { table = tableB; call = keepSheet; expected = answered (u16s (1 ∷ 0 ∷ 0 ∷ 0 ∷ [])) }
     -- C: its hold lines and its sheet

@@ -17,11 +17,11 @@ use lib.Seq.{getD-drop, take-append-seam}
 use Rattle.consistency.proofs.CeilingLaws.{set-length}
 use Rattle.consistency.specs.Ceilings.{recoveryLine}
 use Rattle.consistency.specs.Lines.{at}
-use Rattle.futures.specs.Sheet.{Kept, holderLine, holderLines, keptCheckpoints, keptMessages, sheet}
+use Rattle.futures.specs.Sheet.{Checkpoint, holderLine, holderLines, keptCheckpoints, keptMessages, sheet}
 use Rattle.keeper.proofs.AnswerLaws.{Quiet, answered, put-in-front, refused, too-short}
 use Rattle.keeper.proofs.RefusalLaws.{table-caught}
-use Rattle.keeper.proofs.SheetBytes.{read-kept, read-logged, read-position, read-process, read-state}
-use Rattle.keeper.proofs.SheetLaws.{long-scratch, scratch-filled}
+use Rattle.keeper.proofs.SheetBytes.{read-kept, read-logged, read-position, read-process, read-checkpoint}
+use Rattle.keeper.proofs.SheetAnswer.{long-scratch, scratch-filled}
 use Rattle.keeper.specs.Answers.{Yields, answer, bufferAfter, lengthAfter, numberOf, unless}
 use Rattle.keeper.specs.Calls.{keepSheetAnswer, keepSheetChecks, scratchAfter}
 use Rattle.listing_text.proofs.RowLaws.{line-in}
@@ -29,8 +29,8 @@ use Rattle.listing_text.proofs.TextLaws.{Parts, each-rows, overlay-fron
 use Rattle.listing_text.specs.Listing.{checkpointRow, holdRow, lineRow, listing, listingAnswer, listingOf, listingUnless, messageRow, refusedRow, share, shareRow}
 use Rattle.listing_text.specs.Rows.{Answered, checkpointAt, checkpointRows, holdRows, lineAt, messageRows}
 use Rattle.listing_text.specs.Text.{Laid, each, overlay}
-use Rattle.retention.proofs.SheetLaws.{entry-is, holder-length, kept-few, lines-length, lines-stand, sheet-length}
-use Rattle.kept.specs.Scratch.{entryAt}
+use Rattle.sheet_writer.proofs.SheetReads.{entry-is, holder-length, kept-few, lines-length, lines-stand, sheet-length}
+use Rattle.sheet_entries.specs.Scratch.{linesIn}
 use Rattle.run_table.proofs.AcceptLaws.{accepted}
 use Rattle.run_table.proofs.ArrayLaws.{array-front, array-length}
 use Rattle.run_table.proofs.CheckLaws.{areRefusals, clear, passed, stopped}
@@ -134,7 +134,7 @@ module _ (table : List ℕ) (none : tableRefusal table ≡ 0) where
     lines-fit = omega (arith, ap length (h .lines-are), lines-length t₂, length-take (processCount t₂ * processCount t₂) scratch)
 
     line-read : (k : ℕ) → k < processCount t₂ → lineAt scratch (processCount t₂) k ≡ holderLine t₂ k
-    unfolding lineAt entryAt
+    unfolding lineAt linesIn
     line-read k l =
         let n₀ : ℕ = processCount t₂ in
         let inside : n₀ ≤ length (drop (n₀ * k) scratch) = omega (arith, lines-fit, line-in n₀ k l, length-drop (n₀ * k) scratch) in
@@ -160,8 +160,8 @@ module _ (table : List ℕ) (none : tableRefusal table ≡ 0) where
     sheet-room : 4 + 4 * length (keptCheckpoints t₂) + 2 * length (keptMessages t₂) ≤ length bytes
     sheet-room = omega (arith, sheet-length t₂, ap length (h .sheet-is), length-take (length (sheet t₂)) bytes)
 
-    no-checkpoint : Kept
-    no-checkpoint = record { process = 0; state = 0 }
+    no-checkpoint : Checkpoint
+    no-checkpoint = record { process = 0; number = 0 }
 
     checkpoints-read : (k : ℕ) → k ≡ u16At bytes 0 → checkpointRows bytes k ≡ each checkpointRow (keptCheckpoints t₂)
     unfolding checkpointRows checkpointAt
@@ -169,8 +169,8 @@ module _ (table : List ℕ) (none : tableRefusal table ≡ 0) where
         ap (rows (λ e. checkpointRow (checkpointAt bytes k e))) (is ∙ kept-read)
         ∙ rows-ext _ _ (length (keptCheckpoints t₂))
         (λ e l.
-        ap₂ (λ (p c : ℕ). checkpointRow (record { process = p; state = c })) (read-process table none bytes bytes put e no-checkpoint l)
-        (ap (λ (x : ℕ). u16At bytes (4 + 2 * x + 2 * e)) is ∙ read-state table none bytes bytes put e no-checkpoint l))
+        ap₂ (λ (p c : ℕ). checkpointRow (record { process = p; number = c })) (read-process table none bytes bytes put e no-checkpoint l)
+        (ap (λ (x : ℕ). u16At bytes (4 + 2 * x + 2 * e)) is ∙ read-checkpoint table none bytes bytes put e no-checkpoint l))
         ∙ sym (each-rows checkpointRow no-checkpoint (keptCheckpoints t₂))
 
     messages-read : (k q : ℕ) → k ≡ u16At bytes 0 → q ≡ u16At bytes 2 → messageRows bytes k q ≡ each messageRow (keptMessages t₂)

@@ -11,16 +11,16 @@ use native.Mathlib.Omega.{arith}
 use lib.ListN.{take, drop}
 use Rattle.listing_text.specs.Listing.{checkpointRow}
 use Rattle.listing_text.specs.Rows.{checkpointAt, lineAt}
-use Rattle.kept.proofs.ScratchLaws.{cell-below}
+use Rattle.sheet_entries.proofs.ScratchLaws.{cell-below}
 use Rattle.run_table.proofs.ListLaws.{tabulate-getD, tabulate-more}
 use Rattle.run_table.specs.Lists.{sum, tabulate}
 use Rattle.run_table.specs.Numbers.{u16At}
 use Rattle.run_table.specs.Table.{Table, countOf, processCount}
 
-pub checkpoint-read : (sheet : List ℕ) (k e process state : ℕ) → process ≡ u16At sheet (4 + 2 * e) → state ≡ u16At sheet (4 + 2 * k + 2 * e)
-    → checkpointRow (record { process = process; state = state }) ≡ checkpointRow (checkpointAt sheet k e)
+pub checkpoint-read : (sheet : List ℕ) (k e process number : ℕ) → process ≡ u16At sheet (4 + 2 * e) → number ≡ u16At sheet (4 + 2 * k + 2 * e)
+    → checkpointRow (record { process = process; number = number }) ≡ checkpointRow (checkpointAt sheet k e)
 unfolding checkpointAt
-checkpoint-read sheet k e process state p s = ap₂ (λ (a b : ℕ). checkpointRow (record { process = a; state = b })) p s
+checkpoint-read sheet k e process number p s = ap₂ (λ (a b : ℕ). checkpointRow (record { process = a; number = b })) p s
 
 -- line k of n ends within n lines
 pub line-in : (n k : ℕ) → k < n → n * k + n ≤ n * n

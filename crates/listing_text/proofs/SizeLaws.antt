@@ -11,14 +11,14 @@ use lib.ListN.{length, getD, length-append}
 use Rattle.consistency.proofs.CeilingLaws.{set-below, set-length}
 use Rattle.consistency.specs.Ceilings.{Holders, lineOf, recoveryLine, single}
 use Rattle.futures.proofs.FutureLaws.{known-process}
-use Rattle.futures.proofs.SheetLaws.{checkpoints-listed, keeps-checkpoint, listed-at, messages-listed}
+use Rattle.futures.proofs.KeptLaws.{checkpoints-listed, keeps-checkpoint, listed-at, messages-listed}
 use Rattle.futures.specs.Demand3.{Listed}
-use Rattle.futures.specs.Sheet.{Kept, holderLine, keptCheckpoints, keptMessages}
+use Rattle.futures.specs.Sheet.{Checkpoint, holderLine, keptCheckpoints, keptMessages}
 use Rattle.listing_text.proofs.ListingLaws.{share-fits}
 use Rattle.listing_text.proofs.TextLaws.{decimal-few, each-rows, tens}
 use Rattle.listing_text.specs.Listing.{checkpointRow, holdRow, lineRow, listing, listingOf, listingUnless, messageRow, refusedRow, share, shareRow}
 use Rattle.listing_text.specs.Text.{each, field, row}
-use Rattle.retention.proofs.SheetLaws.{kept-few}
+use Rattle.sheet_writer.proofs.SheetReads.{kept-few}
 use Rattle.run_table.proofs.AcceptLaws.{accepted}
 use Rattle.run_table.proofs.ListLaws.{rows-most}
 use Rattle.run_table.proofs.ReadLaws.{messages-few, processes-few}
@@ -78,14 +78,14 @@ module _ (table : List ℕ) (none : tableRefusal table ≡ 0) where
   hold-few k l = row-few _ _ 163 (fields-more 1 k _ 160 (omega (arith, processes-few table none)) (line-fields (single k)))
 
   -- a kept checkpoint has small numbers
-  checkpoint-few : (x : Kept) → Listed x (keptCheckpoints t) → length (checkpointRow x) ≤ 19
+  checkpoint-few : (x : Checkpoint) → Listed x (keptCheckpoints t) → length (checkpointRow x) ≤ 19
   unfolding checkpointRow tens
   checkpoint-few x h =
-      let below : x .state < countOf t (x .process) = keeps-checkpoint t (x .process) (x .state) .0 (checkpoints-listed t (x .process) (x .state) .0 h) .0 in
-      let known : x .process < processCount t = known-process t (x .process) (x .state) below in
+      let below : x .number < countOf t (x .process) = keeps-checkpoint t (x .process) (x .number) .0 (checkpoints-listed t (x .process) (x .number) .0 h) .0 in
+      let known : x .process < processCount t = known-process t (x .process) (x .number) below in
       row-few _ _ 8
       (fields-more 1 (x .process) _ 5 (omega (arith, processes-few table none))
-      (fields-more 3 (x .state) [] 0 (omega (arith, accepted table none .limits .counts-limit (x .process) known)) no-fields))
+      (fields-more 3 (x .number) [] 0 (omega (arith, accepted table none .limits .counts-limit (x .process) known)) no-fields))
 
   message-few : (k : ℕ) → k < messageCount t → length (messageRow k) ≤ 13
   unfolding messageRow tens
@@ -103,7 +103,7 @@ module _ (table : List ℕ) (none : tableRefusal table ≡ 0) where
       let messages : List ℕ = each messageRow (keptMessages t) in
       let a : length holds ≤ 168 * processCount t = rows-most (λ k. holdRow k (holderLine t k)) 168 (processCount t) hold-few in
       let b : length checkpoints ≤ 19 * length (keptCheckpoints t) =
-      each-few checkpointRow (record { process = 0; state = 0 }) (keptCheckpoints t) 19 (λ i l. checkpoint-few _ (listed-at (keptCheckpoints t) i _ l)) in
+      each-few checkpointRow (record { process = 0; number = 0 }) (keptCheckpoints t) 19 (λ i l. checkpoint-few _ (listed-at (keptCheckpoints t) i _ l)) in
       let c : length messages ≤ 13 * length (keptMessages t) =
       each-few messageRow 0 (keptMessages t) 13 (λ i l. message-few _ (messages-listed t _ .0 (listed-at (keptMessages t) i 0 l) .0)) in
       omega (

@@ -3,7 +3,7 @@ use mathlib.Core.List.{List, [], _∷_, _++_}
 use Prim.Native.Nat.{ℕ, zero, suc, _*_, _/_}
 use lib.ListN.{length}
 use Rattle.consistency.specs.Ceilings.{recoveryLine}
-use Rattle.futures.specs.Sheet.{Kept, holderLine, keptCheckpoints, keptMessages}
+use Rattle.futures.specs.Sheet.{Checkpoint, holderLine, keptCheckpoints, keptMessages}
 use Rattle.keeper.specs.Answers.{Answer, answer}
 use Rattle.listing_text.specs.Text.{each, row}
 use Rattle.run_table.specs.Checks.{tableRefusal}
@@ -19,9 +19,9 @@ lineRow line = row (108 ∷ 105 ∷ 110 ∷ 101 ∷ []) line
 unfoldable pub holdRow : ℕ → List ℕ → List ℕ
 holdRow process line = row (104 ∷ 111 ∷ 108 ∷ 100 ∷ []) (process ∷ line)
 
--- `checkpoint`, process, state.
-unfoldable pub checkpointRow : Kept → List ℕ
-checkpointRow k = row (99 ∷ 104 ∷ 101 ∷ 99 ∷ 107 ∷ 112 ∷ 111 ∷ 105 ∷ 110 ∷ 116 ∷ []) (k .process ∷ k .state ∷ [])
+-- `checkpoint`, its process, its number.
+unfoldable pub checkpointRow : Checkpoint → List ℕ
+checkpointRow k = row (99 ∷ 104 ∷ 101 ∷ 99 ∷ 107 ∷ 112 ∷ 111 ∷ 105 ∷ 110 ∷ 116 ∷ []) (k .process ∷ k .number ∷ [])
 
 -- `message`, position.
 unfoldable pub messageRow : ℕ → List ℕ

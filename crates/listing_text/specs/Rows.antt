@@ -3,7 +3,7 @@ use mathlib.Core.List.{List}
 use mathlib.Core.Path.{_≡_}
 use Prim.Native.Nat.{ℕ, _+_, _*_}
 use lib.ListN.{length, take, drop}
-use Rattle.futures.specs.Sheet.{Kept, holderLines, sheet}
+use Rattle.futures.specs.Sheet.{Checkpoint, holderLines, sheet}
 use Rattle.listing_text.specs.Listing.{checkpointRow, holdRow, messageRow}
 use Rattle.run_table.specs.Lists.{rows}
 use Rattle.run_table.specs.Numbers.{u16At}
@@ -22,8 +22,8 @@ unfoldable pub holdRows : List ℕ → ℕ → List ℕ
 holdRows scratch n = rows (λ k. holdRow k (lineAt scratch n k)) n
 
 -- Entry e of the two arrays of a sheet of k checkpoints.
-unfoldable pub checkpointAt : List ℕ → ℕ → ℕ → Kept
-checkpointAt sheet k e = record { process = u16At sheet (4 + 2 * e); state = u16At sheet (4 + 2 * k + 2 * e) }
+unfoldable pub checkpointAt : List ℕ → ℕ → ℕ → Checkpoint
+checkpointAt sheet k e = record { process = u16At sheet (4 + 2 * e); number = u16At sheet (4 + 2 * k + 2 * e) }
 
 unfoldable pub checkpointRows : List ℕ → ℕ → List ℕ
 checkpointRows sheet k = rows (λ e. checkpointRow (checkpointAt sheet k e)) k

@@ -61,14 +61,14 @@ pub fn put_holds(text: &mut [u8], at: usize, scratch: &[u16], n: usize) -> usize
 }
 
 // Puts the row of a kept checkpoint.
-fn put_checkpoint(text: &mut [u8], at: usize, process: u16, state: u16) -> usize
-    requires { ⌜ at + length (checkpointRow (record { process = process; state = state })) < 4294967296 ⌝ }
-    ensures { λ r. ⌜ Laid (now (text .entry)) (now (text .exit)) at (checkpointRow (record { process = process; state = state })) r ⌝ }
+fn put_checkpoint(text: &mut [u8], at: usize, process: u16, number: u16) -> usize
+    requires { ⌜ at + length (checkpointRow (record { process = process; number = number })) < 4294967296 ⌝ }
+    ensures { λ r. ⌜ Laid (now (text .entry)) (now (text .exit)) at (checkpointRow (record { process = process; number = number })) r ⌝ }
 {
     let after_word = put_word(text, at, b"checkpoint");
     let after_process = put_field(text, after_word, process as u32);
-    let after_state = put_field(text, after_process, state as u32);
-    put_byte(text, after_state, b'\n')
+    let after_number = put_field(text, after_process, number as u32);
+    put_byte(text, after_number, b'\n')
 }
 
 // Puts the rows of the kept checkpoints, from a sheet of k of them.
@@ -81,8 +81,8 @@ pub fn put_checkpoints(text: &mut [u8], at: usize, sheet: &[u8], k: usize) -> us
     let mut e = 0;
     while e < k {
         let process = u16_at(sheet, 4 + 2 * e);
-        let state = u16_at(sheet, 4 + 2 * k + 2 * e);
-        next = put_checkpoint(text, next, process, state);
+        let number = u16_at(sheet, 4 + 2 * k + 2 * e);
+        next = put_checkpoint(text, next, process, number);
         e += 1;
     }
     next

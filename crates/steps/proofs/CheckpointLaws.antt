@@ -22,8 +22,8 @@ use Rattle.run_table.specs.Format.{checkpointAt, decode, encode, entriesOf, pro
 use Rattle.run_table.specs.Lists.{any, tabulate}
 use Rattle.run_table.specs.Numbers.{putAt, u16At, u16s}
 use Rattle.run_table.specs.Table.{Message, Table, countOf, messageCount, processCount}
-use Rattle.steps.proofs.PutLaws.{Read, count-read, front-set}
-use Rattle.steps.specs.Saving.{newReceipt, receiptNumbers}
+use Rattle.steps.proofs.SendLaws.{Read, count-read, front-set}
+use Rattle.steps.specs.Receipts.{newReceipt, receiptNumbers}
 
 module _ (bytes : List ℕ) (none : tableRefusal bytes ≡ 0) (i : ℕ) (list : List ℕ) where
   abbrev t : Table

@@ -1,3 +1,3 @@
 -- What the code of a save writes, part by part.
---     Saving      the receipts after a checkpoint
-pub mod Saving
+--     Receipts      the receipts after a checkpoint
+pub mod Receipts

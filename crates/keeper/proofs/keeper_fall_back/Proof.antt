@@ -5,7 +5,7 @@ use native.Mathlib.Omega.{arith}
 use mathlib.Core.Path.{_≡_, sym, _∙_}
 use denote.Ref.{now}
 use Rattle.keeper.proofs.AnswerLaws.{Quiet, answered, refused, sixteen, too-short}
-use Rattle.keeper.proofs.StepLaws.{rollback-bytes, rollback-taken, table-holds}
+use Rattle.keeper.proofs.StepAnswers.{rollback-bytes, rollback-taken, table-holds}
 use Rattle.keeper.specs.Calls.{fallBackAnswer}
 use Rattle.run_table.proofs.CheckLaws.{table-refusals}
 use Rattle.run_table.specs.Checks.{tableChecks, tableRefusal}

@@ -10,9 +10,9 @@ use Rattle.futures.specs.Sheet.{holderLines, sheet}
 use Rattle.keeper.proofs.AnswerLaws.{Quiet, answered, refused, sixteen, too-short}
 use Rattle.keeper.proofs.RefusalLaws.{table-accepted}
 use Rattle.keeper.proofs.SheetBytes.{sheet-holds}
-use Rattle.keeper.proofs.SheetLaws.{scratch-filled, scratch-kept, scratch-long}
+use Rattle.keeper.proofs.SheetAnswer.{scratch-filled, scratch-kept, scratch-long}
 use Rattle.keeper.specs.Calls.{keepSheetAnswer, keepSheetChecks}
-use Rattle.retention.proofs.SheetLaws.{kept-few, lines-stand, sheet-length}
+use Rattle.sheet_writer.proofs.SheetReads.{kept-few, lines-stand, sheet-length}
 use Rattle.run_table.proofs.CheckLaws.{areRefusals}
 use Rattle.run_table.specs.Checks.{tableChecks, tableRefusal}
 use Rattle.run_table.specs.Format.{decode}

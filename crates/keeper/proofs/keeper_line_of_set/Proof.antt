@@ -5,7 +5,7 @@ use mathlib.Core.Path.{_≡_, refl, sym, _∙_}
 use denote.Ref.{now}
 use Rattle.consistency.proofs.CeilingLaws.{set-length}
 use Rattle.keeper.proofs.AnswerLaws.{Quiet, answered, refused, sixteen, too-short}
-use Rattle.keeper.proofs.LineLaws.{line-room, set-holds}
+use Rattle.keeper.proofs.LineAnswers.{line-room, set-holds}
 use Rattle.keeper.proofs.RefusalLaws.{table-accepted}
 use Rattle.keeper.specs.Calls.{lineOfSetAnswer, lineOfSetChecks}
 use Rattle.run_table.proofs.CheckLaws.{areRefusals}

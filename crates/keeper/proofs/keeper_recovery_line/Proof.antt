@@ -6,7 +6,7 @@ use denote.Ref.{now}
 use Rattle.consistency.proofs.CeilingLaws.{set-length}
 use Rattle.consistency.specs.Ceilings.{recoveryLine}
 use Rattle.keeper.proofs.AnswerLaws.{Quiet, answered, refused, sixteen, too-short}
-use Rattle.keeper.proofs.LineLaws.{line-room, recovery-put, set-holds}
+use Rattle.keeper.proofs.LineAnswers.{line-room, recovery-put, set-holds}
 use Rattle.keeper.specs.Calls.{recoveryLineAnswer}
 use Rattle.process_set.specs.Sets.{allProcesses}
 use Rattle.run_table.proofs.CheckLaws.{table-refusals}

@@ -8,7 +8,7 @@ use denote.Ref.{now}
 use Rattle.futures.specs.Steps.{checkpointChecks}
 use Rattle.keeper.proofs.AnswerLaws.{Quiet, answered, refused, sixteen, too-short}
 use Rattle.keeper.proofs.RefusalLaws.{table-accepted}
-use Rattle.keeper.proofs.StepLaws.{save-bytes, save-known, save-positions, save-taken, table-holds}
+use Rattle.keeper.proofs.StepAnswers.{save-bytes, save-known, save-positions, save-taken, table-holds}
 use Rattle.keeper.specs.Calls.{saveAnswer, saveCallChecks}
 use Rattle.run_table.proofs.CheckLaws.{areRefusals}
 use Rattle.run_table.specs.Checks.{tableChecks, tableRefusal}

@@ -7,7 +7,7 @@ use denote.Ref.{now}
 use Rattle.futures.specs.Steps.{sendChecks}
 use Rattle.keeper.proofs.AnswerLaws.{Quiet, answered, refused, sixteen, too-short}
 use Rattle.keeper.proofs.RefusalLaws.{table-accepted}
-use Rattle.keeper.proofs.StepLaws.{send-bytes, send-known, send-taken, table-holds}
+use Rattle.keeper.proofs.StepAnswers.{send-bytes, send-known, send-taken, table-holds}
 use Rattle.keeper.specs.Calls.{sendAnswer, sendCallChecks}
 use Rattle.run_table.proofs.CheckLaws.{areRefusals}
 use Rattle.run_table.specs.Checks.{tableChecks, tableRefusal}

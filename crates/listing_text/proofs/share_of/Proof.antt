@@ -3,7 +3,7 @@
 use Prim.Native.Nat.{ℕ, _*_, _/_}
 use Rattle.listing_text.proofs.ListingLaws.{share-fits, sum-positive}
 use Rattle.listing_text.specs.Listing.{share}
-use Rattle.retention.proofs.SheetLaws.{kept-few}
+use Rattle.sheet_writer.proofs.SheetReads.{kept-few}
 use mathlib.Core.Path.{ap₂}
 use native.Mathlib.Omega.{arith}
 use borrow.Author.Needs.{needs}

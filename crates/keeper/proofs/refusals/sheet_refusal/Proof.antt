@@ -7,7 +7,7 @@ use mathlib.Core.Path.{_≡_, sym, ap, _∙_}
 use Prim.Native.Nat.{ℕ, _*_, _≤_}
 use denote.Ref.{now}
 use Rattle.keeper.proofs.RefusalLaws.{table-caught}
-use Rattle.keeper.proofs.SheetLaws.{long-scratch, short-scratch}
+use Rattle.keeper.proofs.SheetAnswer.{long-scratch, short-scratch}
 use Rattle.keeper.specs.Calls.{keepSheetChecks}
 use Rattle.run_table.proofs.ReadLaws.{processes-few}
 use Rattle.run_table.specs.Checks.{tableRefusal}

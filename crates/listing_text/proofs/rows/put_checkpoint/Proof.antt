@@ -15,11 +15,11 @@ put-word-requires c κs = first-room (row-two _ _ _) _ _ (c .before .before .bef
 
 put-field-requires : tie.Need-put-field-requires
 unfolding checkpointRow
-put-field-requires c κs = first-room (parts (field (c .before .before .before .before .before .before .before .args .process)) (field (c .before .before .before .before .before .before .before .args .state) ++ (10 ∷ []))) _ _ (rest-room (row-two _ _ _) (c .before .before .before .put-word .ensures) _ (c .before .before .before .before .before .before .before .pre))
+put-field-requires c κs = first-room (parts (field (c .before .before .before .before .before .before .before .args .process)) (field (c .before .before .before .before .before .before .before .args .number) ++ (10 ∷ []))) _ _ (rest-room (row-two _ _ _) (c .before .before .before .put-word .ensures) _ (c .before .before .before .before .before .before .before .pre))
 
 put-field-requires-2 : tie.Need-put-field-requires-2
 unfolding checkpointRow
-put-field-requires-2 c κs = first-room (parts (field (c .before .before .before .before .before .before .before .before .before .before .before .args .state)) (10 ∷ [])) _ _ (rest-room (parts _ _) (c .before .before .before .put-field .ensures) _ (rest-room (row-two _ _ _) (c .before .before .before .before .before .before .before .put-word .ensures) _ (c .before .before .before .before .before .before .before .before .before .before .before .pre)))
+put-field-requires-2 c κs = first-room (parts (field (c .before .before .before .before .before .before .before .before .before .before .before .args .number)) (10 ∷ [])) _ _ (rest-room (parts _ _) (c .before .before .before .put-field .ensures) _ (rest-room (row-two _ _ _) (c .before .before .before .before .before .before .before .put-word .ensures) _ (c .before .before .before .before .before .before .before .before .before .before .before .pre)))
 
 put-byte-requires : tie.Need-put-byte-requires
 unfolding checkpointRow

@@ -1,0 +1,68 @@
+-- Of the code: what n lines say is kept, the line of holder k being `line k`. The laws join these to the keep sheet of a table.
+-- Assumes nothing.
+use mathlib.Core.Bool.{Bool, cond, true, false, _||_}
+use mathlib.Core.List.{List, map}
+use mathlib.Core.Path.{_≡_}
+use Prim.Native.Nat.{ℕ, zero, suc, min, _≤_, _<_}
+use lib.Dec.{eqb}
+use Rattle.consistency.specs.Lines.{Line}
+use Rattle.futures.specs.Sheet.{Checkpoint, crosses}
+use Rattle.run_table.specs.Arrays.{arrayOf}
+use Rattle.run_table.specs.Format.{countAt, messageAt}
+use Rattle.run_table.specs.Lists.{anyBelow, rows, select, tabulate}
+use Rattle.run_table.specs.Table.{Message}
+
+-- Some line has checkpoint c at process i.
+unfoldable pub shows : ℕ → (ℕ → Line) → ℕ → ℕ → Bool
+shows n line i c = anyBelow n (λ k. eqb (line k i) c)
+
+-- A number is the first from a start on, below a limit, that passes a test; it is the limit where there is none.
+pub record First (test : ℕ → Bool) (from limit first : ℕ) : Type 0 where
+  pub from-on : from ≤ first
+  pub within : first ≤ limit
+  pub none-before : (c : ℕ) → from ≤ c → c < first → test c ≡ false
+  pub passes : first < limit → test first ≡ true
+
+-- The checkpoints of process i below a count that some line has, by number, rising.
+unfoldable pub keptOf : ℕ → (ℕ → Line) → ℕ → ℕ → List ℕ
+keptOf n line i count = select (shows n line i) count
+
+-- The checkpoints of process i that have these numbers.
+unfoldable pub checkpointsAt : ℕ → List ℕ → List Checkpoint
+checkpointsAt i checkpoints = map (λ c. record { process = i; number = c }) checkpoints
+
+-- The kept checkpoints of n processes, from a part of their counts.
+unfoldable pub checkpointsOf : ℕ → (ℕ → Line) → List ℕ → List Checkpoint
+checkpointsOf n line counts = rows (λ i. checkpointsAt i (keptOf n line i (countAt counts i))) n
+
+-- One array of the sheet: the numbers of the kept checkpoints, or else their processes. First of one process, then of all.
+unfoldable pub columnAt : Bool → ℕ → List ℕ → List ℕ
+columnAt checkpoints i kept = map (λ c. cond checkpoints c i) kept
+
+unfoldable pub columnOf : Bool → ℕ → (ℕ → Line) → List ℕ → List ℕ
+columnOf checkpoints n line counts = rows (λ i. columnAt checkpoints i (keptOf n line i (countAt counts i))) n
+
+-- The least of n numbers of 16 bits; 65,535 where n is 0.
+unfoldable pub leastBelow : ℕ → (ℕ → ℕ) → ℕ
+leastBelow zero f = 65535
+leastBelow (suc n) f = min (f n) (leastBelow n f)
+
+-- The least number that any of n lines has at process i.
+unfoldable pub lowestAt : ℕ → (ℕ → Line) → Line
+lowestAt n line i = leastBelow n (λ k. line k i)
+
+-- The lowest line: these numbers of n processes, as an array.
+unfoldable pub lowestLine : ℕ → (ℕ → Line) → List ℕ
+lowestLine n line = arrayOf (tabulate n (lowestAt n line))
+
+-- A message crosses some line.
+unfoldable pub crossesLine : ℕ → (ℕ → Line) → Message → Bool
+crossesLine n line m = anyBelow n (λ k. crosses (line k) m)
+
+-- A message is undelivered or crosses some line.
+unfoldable pub isKept : ℕ → (ℕ → Line) → Message → Bool
+isKept n line m = eqb (m .received) 0 || crossesLine n line m
+
+-- The positions of the kept messages among the m messages of a part of sends and a part of receipts, rising.
+unfoldable pub positionsOf : ℕ → (ℕ → Line) → List ℕ → List ℕ → ℕ → List ℕ
+positionsOf n line sends receipts m = select (λ k. isKept n line (messageAt sends receipts k)) m

@@ -1,0 +1,174 @@
+-- What the code finds is the keep sheet of the table.
+--     lines-length, lines-stand                   the lines of single holders; where `fill_lines` leaves them
+--     holder-front                                the line of one holder, as the code finds it
+--     checkpoints-are, positions-are              what lines of single holders say is kept
+--     entry-is                                    lines in the scratch are the lines of single holders
+--     .. -needs, .. -found                        what the code finds, from what it read
+--     sheet-length                                the sheet's length
+--     kept-few                                    the sheet of an accepted table is not long
+-- Assumes nothing.
+use mathlib.Core.Bool.{Bool, cond, _&&_, _||_}
+use mathlib.Core.List.{List, _∷_, _++_, map, map-map}
+use mathlib.Core.Path.{_≡_, refl, sym, ap, ap₂, _∙_}
+use Prim.Native.Nat.{ℕ, _+_, _-_, _*_, _^_, _<_, _≤_}
+use native.Mathlib.Nat.{mul-le-mul}
+use native.Mathlib.Omega.{arith}
+use borrow.Author.Tests.{lt-ltb}
+use lib.Dec.{eqb, ltb}
+use lib.ListN.{length, getD, take, drop, length-append, length-map, length-take}
+use lib.Seq.{getD-take, take-at}
+use Rattle.consistency.proofs.CeilingLaws.{set-length}
+use Rattle.consistency.specs.Ceilings.{ceilingOf, lineOf, single}
+use Rattle.consistency.specs.Lines.{Line, at}
+use Rattle.consistency.specs.Lowering.{lineUnder}
+use Rattle.futures.specs.Sheet.{Checkpoint, crosses, holderLine, holderLines, keepsCheckpoint, keepsMessage, keptCheckpoints, keptMessages, sheet}
+use Rattle.lines.proofs.LineReads.{set-front}
+use Rattle.process_set.proofs.SetLaws.{member-one}
+use Rattle.process_set.specs.Sets.{member}
+use Rattle.sheet_writer.proofs.FewLaws.{checkpoints-few}
+use Rattle.sheet_entries.proofs.ScratchLaws.{cell-below}
+use Rattle.sheet_entries.specs.Kept.{checkpointsAt, checkpointsOf, columnAt, columnOf, crossesLine, isKept, positionsOf, shows, keptOf}
+use Rattle.sheet_entries.specs.Scratch.{linesIn}
+use Rattle.run_table.proofs.ListLaws.{anyBelow-ext, map-rows, rows-at, rows-ext, rows-length, select-ext, select-small, tabulate-ext}
+use Rattle.run_table.proofs.NumberLaws.{length-u16s}
+use Rattle.run_table.proofs.ReadLaws.{count-is, counts-size, message-good, message-is, messages-few, processes-few}
+use Rattle.run_table.proofs.ReadLaws.{receipts-size, receivers-known, senders-known, sends-size}
+use Rattle.run_table.specs.Arrays.{arrayOf}
+use Rattle.run_table.specs.Checks.{GoodMessage, tableRefusal}
+use Rattle.run_table.specs.Format.{countAt, countsPart, decode, messageAt, processAt, receiptsPart, sendsPart}
+use Rattle.run_table.specs.Lists.{select}
+use Rattle.run_table.specs.Numbers.{putAt}
+use Rattle.run_table.specs.Table.{Message, Table, countOf, messageCount, messageOf, mostMessages, processCount}
+
+-- ---- the lines of single holders
+module _ (t : Table) where
+  abbrev N : ℕ
+  N = processCount t
+
+  pub holder-length : (k : ℕ) → length (holderLine t k) ≡ N
+  unfolding holderLine
+  holder-length k = set-length t (single k)
+
+  pub lines-length : length (holderLines t) ≡ N * N
+  unfolding holderLines
+  lines-length = rows-length (holderLine t) N holder-length N
+
+  pub lines-fit : (n : ℕ) (s : List ℕ) → n ≡ N → N * N ≤ length s → 0 + n * n ≤ length s
+  lines-fit n s same room = rw same (omega arith)
+
+  -- where the lines stand once they are written to the front of a scratch
+  pub lines-stand : (before after : List ℕ) → N * N ≤ length before → after ≡ putAt before 0 (holderLines t) → take (N * N) after ≡ holderLines t
+  unfolding putAt
+  lines-stand before after room e = ap (take (N * N)) e ∙ take-at (holderLines t) (drop (0 + length (holderLines t)) before) (N * N) lines-length
+
+  pub holder-line : (k set : ℕ) → set ≡ 2 ^ k → lineOf t (member set) ≡ holderLine t k
+  unfolding lineOf ceilingOf single holderLine
+  holder-line k set e =
+      ap (lineUnder (t .messages))
+      (tabulate-ext N _ _ (λ p _. ap (λ (b : Bool). cond b (countOf t p - 1) (countOf t p)) (ap (λ (x : ℕ). member x p) e ∙ member-one k p)))
+
+  pub sheet-length : length (sheet t) ≡ 4 + 4 * length (keptCheckpoints t) + 2 * length (keptMessages t)
+  unfolding sheet
+  sheet-length =
+      let ks = keptCheckpoints t in
+      let ps = map (λ (k : Checkpoint). k .process) ks in
+      let ss = map (λ (k : Checkpoint). k .number) ks in
+      omega (
+        arith,
+        length-u16s (length ks ∷ length (keptMessages t) ∷ (ps ++ (ss ++ keptMessages t))),
+        length-append ps (ss ++ keptMessages t),
+        length-append ss (keptMessages t),
+        length-map ks (λ (k : Checkpoint). k .process),
+        length-map ks (λ (k : Checkpoint). k .number),
+      )
+
+  -- what lines say is kept that are those of single holders
+  module _ (line : ℕ → Line) (are : (k i : ℕ) → k < N → i < N → line k i ≡ at (holderLine t k) i) where
+    numbers-are : (i : ℕ) → i < N → keptOf N line i (countOf t i) ≡ select (keepsCheckpoint t i) (countOf t i)
+    unfolding keptOf shows keepsCheckpoint
+    numbers-are i l =
+        select-ext _ _ (countOf t i) (λ c b. rw (lt-ltb c (countOf t i) b) (anyBelow-ext _ _ N (λ k d. ap (λ (x : ℕ). eqb x c) (are k i d l))))
+
+    checkpoints-are : (counts : List ℕ) → ((i : ℕ) → i < N → countAt counts i ≡ countOf t i) → checkpointsOf N line counts ≡ keptCheckpoints t
+    unfolding checkpointsOf checkpointsAt keptCheckpoints
+    checkpoints-are counts read =
+        rows-ext _ _ N (λ i l. ap (map (λ c. record { process = i; number = c })) (ap (keptOf N line i) (read i l) ∙ numbers-are i l))
+
+    kept-is : (m : Message) → GoodMessage t m → isKept N line m ≡ keepsMessage t m
+    unfolding isKept keepsMessage crossesLine crosses
+    kept-is m good =
+        ap (λ (r : Bool). eqb (m .received) 0 || r)
+        (anyBelow-ext _ _ N (λ k l.
+        ap₂ (λ (x y : ℕ). ltb (m .sent) x && ltb y (m .received)) (are k (m .sender) l (good .sender-known)) (are k (m .receiver) l (good .receiver-known))))
+
+    positions-are : (sends receipts : List ℕ) → ((k : ℕ) → k < messageCount t → messageAt sends receipts k ≡ messageOf t k)
+        → ((k : ℕ) → k < messageCount t → GoodMessage t (messageOf t k)) → positionsOf N line sends receipts (messageCount t) ≡ keptMessages t
+    unfolding positionsOf keptMessages
+    positions-are sends receipts read good =
+        select-ext _ _ (messageCount t) (λ k l. ap (isKept N line) (read k l) ∙ kept-is (messageOf t k) (good k l))
+
+-- at most N × N checkpoints, and M messages
+pub kept-few : (bytes : List ℕ) → tableRefusal bytes ≡ 0 → (length (keptCheckpoints (decode bytes)) ≤ 1024) × (length (keptMessages (decode bytes)) ≤ mostMessages)
+unfolding keptMessages
+kept-few bytes none =
+    let t = decode bytes in
+    let few = processes-few bytes none in (
+      omega (arith, checkpoints-few t, mul-le-mul few few),
+      omega (arith, messages-few bytes none, select-small (λ k. keepsMessage t (messageOf t k)) (messageCount t)),
+    )
+
+-- the line of holder k, as the code finds it
+pub holder-front : (bytes : List ℕ) (none : tableRefusal bytes ≡ 0) (n k : ℕ) (line : List ℕ) → n ≡ processCount (decode bytes)
+    → line ≡ arrayOf (lineOf (decode bytes) (member (2 ^ k))) → take n line ≡ holderLine (decode bytes) k
+holder-front bytes none n k line read-n e =
+    ap (λ (x : ℕ). take x line) read-n ∙ set-front bytes none (2 ^ k) line e ∙ holder-line (decode bytes) k (2 ^ k) refl
+
+-- ---- what the code finds in a scratch that has the lines of an accepted table
+module _ (bytes : List ℕ) (none : tableRefusal bytes ≡ 0) (s : List ℕ)
+    (stand : take (processCount (decode bytes) * processCount (decode bytes)) s ≡ holderLines (decode bytes)) where
+  abbrev t : Table
+  t = decode bytes
+
+  scratch-room : N t * N t ≤ length s
+  scratch-room = omega (arith, ap length stand, lines-length t, length-take (N t * N t) s)
+
+  pub entry-is : (k i : ℕ) → k < N t → i < N t → linesIn s (N t) k i ≡ at (holderLine t k) i
+  unfolding linesIn holderLines
+  entry-is k i l b =
+      sym (getD-take (N t * N t) s (N t * k + i) 0 (cell-below (N t) k i l b)) ∙ ap (λ (x : List ℕ). getD x (N t * k + i) 0) stand
+      ∙ rows-at (holderLine t) (N t) (holder-length t) (N t) k i 0 l b
+
+  -- from what the code read
+  module _ (n : ℕ) (counts : List ℕ) (read-n : n ≡ N t) (read-c : counts ≡ countsPart bytes) where
+    pub checkpoints-needs : (n * n ≤ length s) × ((n ≤ 32) × (length counts ≡ 2 * n))
+    checkpoints-needs = rw (read-n, read-c) (scratch-room, (processes-few bytes none, counts-size bytes none))
+
+    pub checkpoints-found : checkpointsOf n (linesIn s n) counts ≡ keptCheckpoints t
+    checkpoints-found = rw (read-n, read-c) (checkpoints-are t (linesIn s (N t)) entry-is (countsPart bytes) (count-is bytes none))
+
+    -- one array of the sheet: the numbers of the kept checkpoints, or else their processes
+    pub column-found : (checkpoints : Bool) → columnOf checkpoints n (linesIn s n) counts ≡ map (λ k. cond checkpoints (k .number) (k .process)) (keptCheckpoints t)
+    unfolding columnOf columnAt checkpointsOf checkpointsAt
+    column-found checkpoints =
+        let number : Checkpoint → ℕ = λ k. cond checkpoints (k .number) (k .process) in
+        rows-ext _ _ n (λ i _. sym (map-map number (λ c. record { process = i; number = c }) (keptOf n (linesIn s n) i (countAt counts i))))
+        ∙ sym (map-rows number _ n) ∙ ap (map number) checkpoints-found
+
+  module _ (n m : ℕ) (sends receipts : List ℕ) (read-n : n ≡ N t) (read-m : m ≡ messageCount t) (read-s : sends ≡ sendsPart bytes)
+      (read-r : receipts ≡ receiptsPart bytes) where
+    pub messages-needs : (n * n ≤ length s)
+        × ((n ≤ 32)
+        × ((length sends ≡ 4 * m) × ((length receipts ≡ 4 * m) × (((k : ℕ) → k < m → processAt sends k < n) × ((k : ℕ) → k < m → processAt receipts k < n)))))
+    messages-needs =
+        rw (read-n, read-m, read-s, read-r) (
+          scratch-room,
+          (
+            processes-few bytes none,
+            (sends-size bytes none, (receipts-size bytes none, ((λ k l. senders-known bytes none k l), (λ k l. receivers-known bytes none k l)))),
+          ),
+        )
+
+    pub positions-found : positionsOf n (linesIn s n) sends receipts m ≡ keptMessages t
+    positions-found =
+        rw (read-n, read-m, read-s, read-r)
+        (positions-are t (linesIn s (N t)) entry-is (sendsPart bytes) (receiptsPart bytes) (message-is bytes none) (message-good bytes none))

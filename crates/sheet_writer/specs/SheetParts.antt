@@ -1,0 +1,25 @@
+-- Of the code: the parts of a keep sheet, as its writer puts them.
+-- Assumes nothing.
+use mathlib.Core.List.{List, [], _∷_, map}
+use mathlib.Core.Path.{_≡_}
+use Prim.Native.Nat.{ℕ, _+_, _*_, _≤_}
+use lib.ListN.{length, take}
+use Rattle.futures.specs.Sheet.{holderLines, keptCheckpoints, keptMessages}
+use Rattle.sheet_writer.specs.declared.writing.Part.{Part}
+use Rattle.sheet_writer.specs.declared.writing.Part.the-variants.{Sizes, Processes, Checkpoints, Positions}
+use Rattle.run_table.specs.Checks.{tableRefusal}
+use Rattle.run_table.specs.Format.{decode}
+use Rattle.run_table.specs.Table.{Table, processCount}
+
+-- The numbers of a part: K and Q as given; the processes and the numbers of the kept checkpoints; the positions of the kept messages.
+unfoldable pub numbersOf : Part → Table → List ℕ
+numbersOf (Sizes kept logged) t = kept ∷ logged ∷ []
+numbersOf Processes t = map (λ k. k .process) (keptCheckpoints t)
+numbersOf Checkpoints t = map (λ k. k .number) (keptCheckpoints t)
+numbersOf Positions t = keptMessages t
+
+-- A part can be put: the table is accepted, the scratch begins with the lines of its single holders, and the buffer has room from a place on.
+pub record CanPut (part : Part) (table scratch : List ℕ) (at : ℕ) (buffer : List ℕ) : Type 0 where
+  pub accepted : tableRefusal table ≡ 0
+  pub lines : take (processCount (decode table) * processCount (decode table)) scratch ≡ holderLines (decode table)
+  pub room : at + 2 * length (numbersOf part (decode table)) ≤ length buffer

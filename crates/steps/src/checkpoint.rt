@@ -1,0 +1,100 @@
+// Checkpoint (docs/MANUAL.md, "Steps": save): the listed messages are received, and the count of the process grows.
+use run_table::format::receipts_at;
+use run_table::format::sends_at;
+use run_table::numbers::put_u16;
+use run_table::numbers::u16_at;
+use run_table::parts;
+use table_writer::copy_numbers;
+use table_writer::put_head;
+ghost use mathlib.Core.Bool.{false};
+ghost use mathlib.Core.Path.{_≡_};
+ghost use Prim.Native.Nat.{ℕ, _+_, _*_, _<_, _≤_};
+ghost use lib.ListN.{getD, length};
+ghost use Rattle.futures.specs.Steps.{afterCheckpoint, badPosition, notRising};
+ghost use Rattle.run_table.specs.Checks.{tableRefusal};
+ghost use Rattle.run_table.specs.Format.{decode, encode, tableLength};
+ghost use Rattle.run_table.specs.Lists.{any};
+ghost use Rattle.run_table.specs.Numbers.{putAt, u16s};
+ghost use Rattle.run_table.specs.Table.{messageCount, processCount};
+ghost use Rattle.steps.specs.Receipts.{receiptNumbers};
+
+// Whether a position of the list is not above the one before it.
+pub fn not_rising(list: &[u16]) -> bool
+    ensures { λ r. ⌜ r ≡ notRising (now (list .entry)) ⌝ }
+{
+    let mut a = 1;
+    while a < list.len() {
+        if list[a] <= list[a - 1] {
+            return true;
+        }
+        a += 1;
+    }
+    false
+}
+
+// Whether a position of the list is not that of a message that waits for the process.
+pub fn bad_position(table: &[u8], process: u16, list: &[u16]) -> bool
+    requires { ⌜ tableRefusal (now table) ≡ 0 ⌝ }
+    ensures { λ r. ⌜ r ≡ any (badPosition (decode (now (table .entry))) process) (now (list .entry)) ⌝ }
+{
+    let m = parts::message_count(table);
+    let receipts = parts::receipts(table);
+    let mut a = 0;
+    while a < list.len() {
+        let k = list[a] as usize;
+        a += 1;
+        if m <= k {
+            return true;
+        }
+        if u16_at(receipts, 4 * k) != process {
+            return true;
+        }
+        if u16_at(receipts, 4 * k + 2) != 0 {
+            return true;
+        }
+    }
+    false
+}
+
+// Writes the receipts of m messages, those at the listed positions with a new number, to a place of a
+// buffer that has room for them.
+fn put_receipts(buffer: &mut [u8], at: usize, receipts: &[u8], m: usize, list: &[u16], number: u16)
+    requires { ⌜ length (now receipts) ≡ 4 * m ⌝ }
+    requires { ⌜ ((a : ℕ) → a < length (now list) → getD (now list) a 0 < m) ⌝ }
+    requires { ⌜ at + 4 * m ≤ length (now buffer) ⌝ }
+    ensures { λ _. ⌜ now (buffer .exit) ≡ putAt (now (buffer .entry)) at (u16s (receiptNumbers m (now (receipts .entry)) (now (list .entry)) number)) ⌝ }
+{
+    copy_numbers(buffer, at, receipts, 2 * m);
+    let mut a = 0;
+    while a < list.len() {
+        let k = list[a] as usize;
+        put_u16(buffer, at + 4 * k + 2, number);
+        a += 1;
+    }
+}
+
+// Writes the table after a checkpoint of a known process, with a list of messages that wait for it, to
+// the front of a buffer that has room for it.
+pub fn put_checkpoint(table: &[u8], process: u16, list: &[u16], answer: &mut [u8])
+    requires { ⌜ tableRefusal (now table) ≡ 0 ⌝ }
+    requires { ⌜ process < processCount (decode (now table)) ⌝ }
+    requires { ⌜ any (badPosition (decode (now table)) process) (now list) ≡ false ⌝ }
+    requires { ⌜ tableLength (processCount (decode (now table))) (messageCount (decode (now table))) ≤ length (now answer) ⌝ }
+    ensures { λ _. ⌜ now (answer .exit) ≡ putAt (now (answer .entry)) 0 (encode (afterCheckpoint (decode (now (table .entry))) process (now (list .entry)))) ⌝ }
+{
+    let n = parts::process_count(table);
+    let m = parts::message_count(table);
+    let mut counts = parts::count_array(table);
+    let number = counts[process as usize];
+    counts[process as usize] = number + 1;
+    put_head(answer, &counts[..n], m);
+    copy_numbers(answer, sends_at(n), parts::sends(table), 2 * m);
+    put_receipts(
+        answer,
+        receipts_at(n, m),
+        parts::receipts(table),
+        m,
+        list,
+        number,
+    );
+}
