@@ -21,7 +21,7 @@ use lib.ListN.{length, getD, List·getD-eq-default}
 use Rattle.consistency.proofs.LineLaws.{latest-min, latest-same, latest-unique}
 use Rattle.consistency.proofs.LoweringLaws.{line-is, line-latest, line-length}
 use Rattle.consistency.specs.Ceilings.{Holders, ceilingOf, lineOf, single}
-use Rattle.consistency.specs.Lines.{AtOrBelow, Consistent, Latest, Line, Orphan, at}
+use Rattle.consistency.specs.Lines.{AtOrBelow, Consistent, Latest, Line, Orphan, asLine}
 use Rattle.run_table.proofs.FormatLaws.{count-beyond, message-beyond}
 use Rattle.run_table.proofs.ListLaws.{getD-tabulate, length-tabulate}
 use Rattle.run_table.specs.Checks.{WellFormed}
@@ -46,7 +46,7 @@ module _ (t : Table) (holds : Holders) where
   unfolding ceilingOf
   ceiling-length = length-tabulate (processCount t) height
 
-  pub ceiling-at : (p : ℕ) → at (ceilingOf t holds) p ≡ cond (holds p) (countOf t p - 1) (countOf t p)
+  pub ceiling-at : (p : ℕ) → asLine (ceilingOf t holds) p ≡ cond (holds p) (countOf t p - 1) (countOf t p)
   unfolding ceilingOf
   ceiling-at p = go (decLt p (processCount t))
     where
@@ -56,7 +56,7 @@ module _ (t : Table) (holds : Holders) where
           List·getD-eq-default (tabulate (processCount t) height) 0 (rw length-tabulate (omega arith))
           ∙ sym (all-zero (holds p) (countOf t p) (count-beyond t p (omega arith)))
 
-  pub set-latest : Latest (t .messages) (at (ceilingOf t holds)) (at (lineOf t holds))
+  pub set-latest : Latest (t .messages) (asLine (ceilingOf t holds)) (asLine (lineOf t holds))
   unfolding lineOf
   set-latest = line-latest (t .messages) (ceilingOf t holds)
 
@@ -64,7 +64,7 @@ module _ (t : Table) (holds : Holders) where
   unfolding lineOf
   set-length = line-length (t .messages) (ceilingOf t holds) ∙ ceiling-length
 
-  ceiling-below : (p : ℕ) → at (ceilingOf t holds) p ≤ countOf t p
+  ceiling-below : (p : ℕ) → asLine (ceilingOf t holds) p ≤ countOf t p
   ceiling-below p = subst⁻¹ (λ (x : ℕ). x ≤ countOf t p) (ceiling-at p) (go (holds p))
     where
       go : (b : Bool) → cond b (countOf t p - 1) (countOf t p) ≤ countOf t p
@@ -72,7 +72,7 @@ module _ (t : Table) (holds : Holders) where
       go false = le-refl (countOf t p)
 
   -- no line goes beyond the virtual checkpoints
-  pub set-below : (p : ℕ) → at (lineOf t holds) p ≤ countOf t p
+  pub set-below : (p : ℕ) → asLine (lineOf t holds) p ≤ countOf t p
   set-below p = le-trans (set-latest .under p) (ceiling-below p)
 
 -- an orphan is a message of the table
@@ -96,19 +96,19 @@ module _ (t : Table) (w : WellFormed t) where
   unfolding lineOf countOf processCount
   line-of-none =
       sym (line-is (t .messages) (ceilingOf t (λ p. false)) (t .counts) (sym (ceiling-length t (λ p. false)))
-      (latest-same (t .messages) (countOf t) (at (ceilingOf t (λ p. false))) (countOf t) (at (t .counts))
+      (latest-same (t .messages) (countOf t) (asLine (ceilingOf t (λ p. false))) (countOf t) (asLine (t .counts))
       (λ p. sym (ceiling-at t (λ p. false) p)) (λ p. refl) counts-latest))
 
   -- the minimum over the members, one after another: of the lines under the minimum of the ceilings
   smallest-latest : (holds : Holders) (n : ℕ)
-      → Latest (t .messages) (smallest n holds (λ i. at (ceilingOf t (single i))) (countOf t)) (smallest n holds (λ i. at (lineOf t (single i))) (countOf t))
+      → Latest (t .messages) (smallest n holds (λ i. asLine (ceilingOf t (single i))) (countOf t)) (smallest n holds (λ i. asLine (lineOf t (single i))) (countOf t))
   unfolding smallest
   smallest-latest holds zero = counts-latest
   smallest-latest holds (suc n) = smaller (holds n) (smallest-latest holds n)
     where
       smaller : (b : Bool) {c l : Line} → Latest (t .messages) c l
-          → Latest (t .messages) (λ p. cond b (min (at (ceilingOf t (single n)) p) (c p)) (c p)) (λ p. cond b (min (at (lineOf t (single n)) p) (l p)) (l p))
-      smaller true {c} {l} a = latest-min (t .messages) (at (ceilingOf t (single n))) c (at (lineOf t (single n))) l (set-latest t (single n)) a
+          → Latest (t .messages) (λ p. cond b (min (asLine (ceilingOf t (single n)) p) (c p)) (c p)) (λ p. cond b (min (asLine (lineOf t (single n)) p) (l p)) (l p))
+      smaller true {c} {l} a = latest-min (t .messages) (asLine (ceilingOf t (single n))) c (asLine (lineOf t (single n))) l (set-latest t (single n)) a
       smaller false a = a
 
 same-order : (p n : ℕ) → (p ≡ n → ⊥) → ltb p n ≡ ltb p (suc n)
@@ -119,7 +119,7 @@ same-order p n e = go (decLt p n)
     go (no l) = le-ltb p n (omega arith) ∙ sym (le-ltb p (suc n) (omega arith))
 
 -- the minimum of the ceilings of single processes, at p: count − 1 where p is a member below n, and else the count
-single-at : (t : Table) (k p : ℕ) → at (ceilingOf t (single k)) p ≡ cond (eqb p k) (countOf t p - 1) (countOf t p)
+single-at : (t : Table) (k p : ℕ) → asLine (ceilingOf t (single k)) p ≡ cond (eqb p k) (countOf t p - 1) (countOf t p)
 unfolding single
 single-at t k p = ceiling-at t (single k) p
 
@@ -133,7 +133,7 @@ elsewhere-same false x y c e l = refl
 
 module _ (t : Table) (holds : Holders) (p : ℕ) where
   abbrev reached : ℕ → ℕ
-  reached n = smallest n holds (λ i. at (ceilingOf t (single i))) (countOf t) p
+  reached n = smallest n holds (λ i. asLine (ceilingOf t (single i))) (countOf t) p
 
   abbrev wanted : Bool → ℕ
   wanted b = cond b (countOf t p - 1) (countOf t p)
@@ -153,16 +153,16 @@ module _ (t : Table) (holds : Holders) (p : ℕ) where
           let after : wanted (holds p && ltb p (suc n)) ≡ wanted (holds p) =
           ap (λ (b : Bool). wanted (holds p && b)) (lt-ltb p (suc n) (omega arith)) ∙ ap wanted (and-true (holds p))
           in
-          here-lower (holds n) (at (ceilingOf t (single n)) p) (reached n) (countOf t p)
+          here-lower (holds n) (asLine (ceilingOf t (single n)) p) (reached n) (countOf t p)
           (single-at t n p ∙ ap wanted (eq-eqb p n e)) before ∙ ap (λ (q : ℕ). wanted (holds q)) (sym e) ∙ sym after
       by-place (no e) ih =
           let order : ltb p n ≡ ltb p (suc n) = same-order p n e in
-          elsewhere-same (holds n) (at (ceilingOf t (single n)) p) (reached n) (countOf t p)
+          elsewhere-same (holds n) (asLine (ceilingOf t (single n)) p) (reached n) (countOf t p)
           (single-at t n p ∙ ap wanted (ne-eqb p n e)) (subst⁻¹ (λ (x : ℕ). x ≤ countOf t p) ih (wanted-below (holds p && ltb p n)))
           ∙ ih ∙ ap (λ (b : Bool). wanted (holds p && b)) order
 
   -- the minimum over all processes is the ceiling of the set
-  reached-all : reached (processCount t) ≡ at (ceilingOf t holds) p
+  reached-all : reached (processCount t) ≡ asLine (ceilingOf t holds) p
   reached-all = reached-at (processCount t) ∙ go (decLt p (processCount t)) ∙ sym (ceiling-at t holds p)
     where
       go : Dec (p < processCount t) → wanted (holds p && ltb p (processCount t)) ≡ wanted (holds p)
@@ -173,10 +173,10 @@ module _ (t : Table) (holds : Holders) (p : ℕ) where
           beyond = count-beyond t p (omega arith)
 
 module _ (t : Table) (w : WellFormed t) (holds : Holders) where
-  pub line-smallest : (p : ℕ) → at (lineOf t holds) p ≡ smallest (processCount t) holds (λ i. at (lineOf t (single i))) (countOf t) p
+  pub line-smallest : (p : ℕ) → asLine (lineOf t holds) p ≡ smallest (processCount t) holds (λ i. asLine (lineOf t (single i))) (countOf t) p
   line-smallest p =
-      latest-unique (t .messages) (at (ceilingOf t holds)) (at (lineOf t holds)) _ (set-latest t holds)
-      (latest-same (t .messages) _ (at (ceilingOf t holds)) _ _ (reached-all t holds) (λ q. refl) (smallest-latest t w holds (processCount t))) p
+      latest-unique (t .messages) (asLine (ceilingOf t holds)) (asLine (lineOf t holds)) _ (set-latest t holds)
+      (latest-same (t .messages) _ (asLine (ceilingOf t holds)) _ _ (reached-all t holds) (λ q. refl) (smallest-latest t w holds (processCount t))) p
 
 -- ---- what a minimum over members is
 module _ (holds : Holders) (lines : ℕ → Line) (base : Line) where
@@ -219,14 +219,14 @@ pub record MinimumOf (n : ℕ) (holds : Holders) (lines : ℕ → Line) (l : Lin
 
 module _ (t : Table) (w : WellFormed t) (holds : Holders) where
   abbrev singles : ℕ → Line
-  singles i = at (lineOf t (single i))
+  singles i = asLine (lineOf t (single i))
 
-  pub line-of-members : (k : ℕ) → k < processCount t → holds k ≡ true → MinimumOf (processCount t) holds singles (at (lineOf t holds))
+  pub line-of-members : (k : ℕ) → k < processCount t → holds k ≡ true → MinimumOf (processCount t) holds singles (asLine (lineOf t holds))
   line-of-members k l h = record {
     at-or-below = below;
     one-of = λ p. ⊎-elim (λ (e : _ ≡ countOf t p). (k, l, h, omega (arith, e, line-smallest t w holds p, set-below t (single k) p, below k l h p)))
         (λ o. (o .0, o .1, o .2, o .3 ∙ sym (line-smallest t w holds p))) (smallest-of holds singles (countOf t) (processCount t) p);
   }
     where
-      below : (i : ℕ) → i < processCount t → holds i ≡ true → AtOrBelow (at (lineOf t holds)) (singles i)
+      below : (i : ℕ) → i < processCount t → holds i ≡ true → AtOrBelow (asLine (lineOf t holds)) (singles i)
       below i b e p = subst⁻¹ (λ (x : ℕ). x ≤ singles i p) (line-smallest t w holds p) (smallest-below holds singles (countOf t) (processCount t) i b e p)

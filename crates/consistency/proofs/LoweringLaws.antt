@@ -23,30 +23,30 @@ use lib.Dec.{leb, ltb}
 use lib.ListN.{length, getD, set, length-set, List·getD-eq-default}
 use lib.Seq.{ext-getD, getD-set-same, getD-set-other}
 use Rattle.consistency.proofs.LineLaws.{latest-from, latest-unique, orphan-free, zero-consistent}
-use Rattle.consistency.specs.Lines.{AtOrBelow, Consistent, Latest, Line, Orphan, at}
+use Rattle.consistency.specs.Lines.{AtOrBelow, Consistent, Latest, Line, Orphan, asLine}
 use Rattle.consistency.specs.Lowering.{isOrphan, lineUnder, lower, pass, passes}
 use Rattle.run_table.proofs.ListLaws.{and-left, and-right}
 use Rattle.run_table.specs.Lists.{sum}
 use Rattle.run_table.specs.Table.{Message, noMessage}
 
 -- ---- the test of an orphan
-pub orphan-is : (m : Message) (l : List ℕ) → isOrphan m l ≡ true → Orphan m (at l)
+pub orphan-is : (m : Message) (l : List ℕ) → isOrphan m l ≡ true → Orphan m (asLine l)
 unfolding isOrphan
 orphan-is m l e =
-    let rest = and-right (ltb 0 (m .received)) (leb (at l (m .sender)) (m .sent) && leb (m .received) (at l (m .receiver))) e in
+    let rest = and-right (ltb 0 (m .received)) (leb (asLine l (m .sender)) (m .sent) && leb (m .received) (asLine l (m .receiver))) e in
     record {
-      delivered = ltb-true 0 (m .received) (and-left (ltb 0 (m .received)) (leb (at l (m .sender)) (m .sent) && leb (m .received) (at l (m .receiver))) e);
-      sent-after = leb-true (at l (m .sender)) (m .sent) (and-left (leb (at l (m .sender)) (m .sent)) (leb (m .received) (at l (m .receiver))) rest);
-      received-before = leb-true (m .received) (at l (m .receiver)) (and-right (leb (at l (m .sender)) (m .sent)) (leb (m .received) (at l (m .receiver))) rest);
+      delivered = ltb-true 0 (m .received) (and-left (ltb 0 (m .received)) (leb (asLine l (m .sender)) (m .sent) && leb (m .received) (asLine l (m .receiver))) e);
+      sent-after = leb-true (asLine l (m .sender)) (m .sent) (and-left (leb (asLine l (m .sender)) (m .sent)) (leb (m .received) (asLine l (m .receiver))) rest);
+      received-before = leb-true (m .received) (asLine l (m .receiver)) (and-right (leb (asLine l (m .sender)) (m .sent)) (leb (m .received) (asLine l (m .receiver))) rest);
     }
 
-pub orphan-test : (m : Message) (l : List ℕ) → Orphan m (at l) → isOrphan m l ≡ true
+pub orphan-test : (m : Message) (l : List ℕ) → Orphan m (asLine l) → isOrphan m l ≡ true
 unfolding isOrphan
 orphan-test m l o =
     rw (
       lt-ltb 0 (m .received) (o .delivered),
-      le-leb (at l (m .sender)) (m .sent) (o .sent-after),
-      le-leb (m .received) (at l (m .receiver)) (o .received-before),
+      le-leb (asLine l (m .sender)) (m .sent) (o .sent-after),
+      le-leb (m .received) (asLine l (m .receiver)) (o .received-before),
     )
 
 -- ---- sums
@@ -66,7 +66,7 @@ sum-zero (x ∷ rest) e (suc p) = sum-zero rest (omega arith) p
 
 -- ---- one message
 -- an orphan's receiver has a place in the line
-receiver-place : (m : Message) (l : List ℕ) → Orphan m (at l) → m .receiver < length l
+receiver-place : (m : Message) (l : List ℕ) → Orphan m (asLine l) → m .receiver < length l
 receiver-place m l o = go (native.Mathlib.Decide.decLe (length l) (m .receiver))
   where
     go : Dec (length l ≤ m .receiver) → m .receiver < length l
@@ -74,26 +74,26 @@ receiver-place m l o = go (native.Mathlib.Decide.decLe (length l) (m .receiver))
     go (no within) = omega arith
 
 -- what stands in the line after an orphan's receiver was put back
-module _ (m : Message) (l : List ℕ) (o : Orphan m (at l)) where
-  pub put-back-here : at (set l (m .receiver) (m .received - 1)) (m .receiver) ≡ m .received - 1
+module _ (m : Message) (l : List ℕ) (o : Orphan m (asLine l)) where
+  pub put-back-here : asLine (set l (m .receiver) (m .received - 1)) (m .receiver) ≡ m .received - 1
   put-back-here = getD-set-same l (m .receiver) (m .received - 1) 0 (receiver-place m l o)
 
-  pub put-back-under : AtOrBelow (at (set l (m .receiver) (m .received - 1))) (at l)
+  pub put-back-under : AtOrBelow (asLine (set l (m .receiver) (m .received - 1))) (asLine l)
   put-back-under p = go (ℕ-discrete p (m .receiver))
     where
-      go : Dec (p ≡ m .receiver) → at (set l (m .receiver) (m .received - 1)) p ≤ at l p
-      go (yes e) = subst⁻¹ (λ (q : ℕ). at (set l (m .receiver) (m .received - 1)) q ≤ at l q) e (omega (arith, put-back-here, o .received-before))
+      go : Dec (p ≡ m .receiver) → asLine (set l (m .receiver) (m .received - 1)) p ≤ asLine l p
+      go (yes e) = subst⁻¹ (λ (q : ℕ). asLine (set l (m .receiver) (m .received - 1)) q ≤ asLine l q) e (omega (arith, put-back-here, o .received-before))
       go (no e) = omega (arith, getD-set-other l (m .receiver) p (m .received - 1) 0 e)
 
   -- every line at or below, of which the message is no orphan, stays at or below
-  pub put-back-above : (f : Line) → (Orphan m f → ⊥) → AtOrBelow f (at l) → AtOrBelow f (at (set l (m .receiver) (m .received - 1)))
+  pub put-back-above : (f : Line) → (Orphan m f → ⊥) → AtOrBelow f (asLine l) → AtOrBelow f (asLine (set l (m .receiver) (m .received - 1)))
   put-back-above f none below p = go (ℕ-discrete p (m .receiver))
     where
       here : f (m .receiver) < m .received
       here = orphan-free m f none (o .delivered) (le-trans (below (m .sender)) (o .sent-after))
 
-      go : Dec (p ≡ m .receiver) → f p ≤ at (set l (m .receiver) (m .received - 1)) p
-      go (yes e) = subst⁻¹ (λ (q : ℕ). f q ≤ at (set l (m .receiver) (m .received - 1)) q) e (omega (arith, put-back-here, here))
+      go : Dec (p ≡ m .receiver) → f p ≤ asLine (set l (m .receiver) (m .received - 1)) p
+      go (yes e) = subst⁻¹ (λ (q : ℕ). f q ≤ asLine (set l (m .receiver) (m .received - 1)) q) e (omega (arith, put-back-here, here))
       go (no e) = omega (arith, getD-set-other l (m .receiver) p (m .received - 1) 0 e, below p)
 
   pub put-back-falls : sum (set l (m .receiver) (m .received - 1)) < sum l
@@ -110,18 +110,18 @@ module _ (m : Message) (l : List ℕ) where
   left e = rw e
 
   -- what holds of the line put back and of the line as it is holds of the lowered line
-  lower-cases : (P : List ℕ → Type 0) → (Orphan m (at l) → P (set l (m .receiver) (m .received - 1))) → ((Orphan m (at l) → ⊥) → P l) → P (lower m l)
+  lower-cases : (P : List ℕ → Type 0) → (Orphan m (asLine l) → P (set l (m .receiver) (m .received - 1))) → ((Orphan m (asLine l) → ⊥) → P l) → P (lower m l)
   lower-cases P back same = go (isOrphan m l) refl
     where
       go : (b : Bool) → isOrphan m l ≡ b → P (lower m l)
       go true e = subst⁻¹ P (lowered e) (back (orphan-is m l e))
       go false e = subst⁻¹ P (left e) (same (λ o. false≢true (sym e ∙ orphan-test m l o)))
 
-  lower-under : AtOrBelow (at (lower m l)) (at l)
-  lower-under = lower-cases (λ x. AtOrBelow (at x) (at l)) (put-back-under m l) (λ _ p. le-refl (at l p))
+  lower-under : AtOrBelow (asLine (lower m l)) (asLine l)
+  lower-under = lower-cases (λ x. AtOrBelow (asLine x) (asLine l)) (put-back-under m l) (λ _ p. le-refl (asLine l p))
 
-  lower-above : (f : Line) → (Orphan m f → ⊥) → AtOrBelow f (at l) → AtOrBelow f (at (lower m l))
-  lower-above f none below = lower-cases (λ x. AtOrBelow f (at x)) (λ o. put-back-above m l o f none below) (λ _. below)
+  lower-above : (f : Line) → (Orphan m f → ⊥) → AtOrBelow f (asLine l) → AtOrBelow f (asLine (lower m l))
+  lower-above f none below = lower-cases (λ x. AtOrBelow f (asLine x)) (λ o. put-back-above m l o f none below) (λ _. below)
 
   lower-length : length (lower m l) ≡ length l
   lower-length = lower-cases (λ x. length x ≡ length l) (λ _. length-set l (m .receiver) (m .received - 1)) (λ _. refl)
@@ -130,12 +130,12 @@ module _ (m : Message) (l : List ℕ) where
   lower-sum = lower-cases (λ x. sum x ≤ sum l) (λ o. omega (arith, put-back-falls m l o)) (λ _. le-refl (sum l))
 
 -- ---- one pass
-pass-under : (ms : List Message) (l : List ℕ) → AtOrBelow (at (pass ms l)) (at l)
+pass-under : (ms : List Message) (l : List ℕ) → AtOrBelow (asLine (pass ms l)) (asLine l)
 unfolding pass
-pass-under [] l p = le-refl (at l p)
+pass-under [] l p = le-refl (asLine l p)
 pass-under (m ∷ rest) l p = le-trans (lower-under m (pass rest l) p) (pass-under rest l p)
 
-pass-above : (ms : List Message) (l : List ℕ) (f : Line) → Consistent ms f → AtOrBelow f (at l) → AtOrBelow f (at (pass ms l))
+pass-above : (ms : List Message) (l : List ℕ) (f : Line) → Consistent ms f → AtOrBelow f (asLine l) → AtOrBelow f (asLine (pass ms l))
 unfolding pass
 pass-above [] l f c below = below
 pass-above (m ∷ rest) l f c below = lower-above m (pass rest l) f (c zero) (pass-above rest l f (λ k. c (suc k)) below)
@@ -148,7 +148,7 @@ pass-length (m ∷ rest) l = lower-length m (pass rest l) ∙ pass-length rest l
 -- a line that a pass leaves as it is, with no orphan
 record Settled (ms : List Message) (l : List ℕ) : Type 0 where
   same : pass ms l ≡ l
-  consistent : Consistent ms (at l)
+  consistent : Consistent ms (asLine l)
 
 pub cons-consistent : (m : Message) (rest : List Message) (f : Line) → (Orphan m f → ⊥) → Consistent rest f → Consistent (m ∷ rest) f
 cons-consistent m rest f none c zero = none
@@ -167,22 +167,22 @@ more-progress m rest l s true e =
     inr (subst⁻¹ (λ (x : List ℕ). sum x < sum l) (ap (lower m) (s .same) ∙ lowered m l e) (put-back-falls m l (orphan-is m l e)))
 more-progress m rest l s false e = inl (record {
   same = ap (lower m) (s .same) ∙ left m l e;
-  consistent = cons-consistent m rest (at l) (λ o. false≢true (sym e ∙ orphan-test m l o)) (s .consistent);
+  consistent = cons-consistent m rest (asLine l) (λ o. false≢true (sym e ∙ orphan-test m l o)) (s .consistent);
 })
 
 pass-progress : (ms : List Message) (l : List ℕ) → Progress ms l
 unfolding Progress pass
-pass-progress [] l = inl (record { same = refl; consistent = nil-consistent (at l) })
+pass-progress [] l = inl (record { same = refl; consistent = nil-consistent (asLine l) })
 pass-progress (m ∷ rest) l =
     ⊎-elim (λ s. more-progress m rest l s (isOrphan m l) refl) (λ (h : sum (pass rest l) < sum l). inr (omega (arith, lower-sum m (pass rest l)))) (pass-progress rest l)
 
 -- ---- passes
-passes-under : (n : ℕ) (ms : List Message) (l : List ℕ) → AtOrBelow (at (passes n ms l)) (at l)
+passes-under : (n : ℕ) (ms : List Message) (l : List ℕ) → AtOrBelow (asLine (passes n ms l)) (asLine l)
 unfolding passes
-passes-under zero ms l p = le-refl (at l p)
+passes-under zero ms l p = le-refl (asLine l p)
 passes-under (suc n) ms l p = le-trans (passes-under n ms (pass ms l) p) (pass-under ms l p)
 
-passes-above : (n : ℕ) (ms : List Message) (l : List ℕ) (f : Line) → Consistent ms f → AtOrBelow f (at l) → AtOrBelow f (at (passes n ms l))
+passes-above : (n : ℕ) (ms : List Message) (l : List ℕ) (f : Line) → Consistent ms f → AtOrBelow f (asLine l) → AtOrBelow f (asLine (passes n ms l))
 unfolding passes
 passes-above zero ms l f c below = below
 passes-above (suc n) ms l f c below = passes-above n ms (pass ms l) f c (pass-above ms l f c below)
@@ -199,18 +199,18 @@ passes-settled zero ms l s = refl
 passes-settled (suc n) ms l s = ap (passes n ms) (s .same) ∙ passes-settled n ms l s
 
 -- as many passes as the sum are enough: each one that is not the last brings it down
-passes-consistent : (n : ℕ) (ms : List Message) (l : List ℕ) → sum l ≤ n → Consistent ms (at (passes n ms l))
+passes-consistent : (n : ℕ) (ms : List Message) (l : List ℕ) → sum l ≤ n → Consistent ms (asLine (passes n ms l))
 unfolding passes Progress
-passes-consistent zero ms l h = zero-consistent ms (at l) (sum-zero l (omega arith))
+passes-consistent zero ms l h = zero-consistent ms (asLine l) (sum-zero l (omega arith))
 passes-consistent (suc n) ms l h =
     ⊎-elim
-    (λ s. subst⁻¹ (λ (x : List ℕ). Consistent ms (at x)) (passes-settled (suc n) ms l s) (s .consistent))
+    (λ s. subst⁻¹ (λ (x : List ℕ). Consistent ms (asLine x)) (passes-settled (suc n) ms l s) (s .consistent))
     (λ (f : sum (pass ms l) < sum l). passes-consistent n ms (pass ms l) (omega arith))
     (pass-progress ms l)
 
 -- ---- the line under a ceiling
 module _ (ms : List Message) (ceiling : List ℕ) where
-  pub line-latest : Latest ms (at ceiling) (at (lineUnder ms ceiling))
+  pub line-latest : Latest ms (asLine ceiling) (asLine (lineUnder ms ceiling))
   unfolding lineUnder
   line-latest = record {
     under = passes-under (sum ceiling) ms ceiling;
@@ -223,25 +223,25 @@ module _ (ms : List Message) (ceiling : List ℕ) where
   line-length = passes-length (sum ceiling) ms ceiling
 
   -- a line of the ceiling's length that is the latest one is the computed one
-  pub line-is : (l : List ℕ) → length l ≡ length ceiling → Latest ms (at ceiling) (at l) → l ≡ lineUnder ms ceiling
-  line-is l e a = ext-getD 0 l (lineUnder ms ceiling) (e ∙ sym line-length) (λ p _. latest-unique ms (at ceiling) (at l) (at (lineUnder ms ceiling)) a line-latest p)
+  pub line-is : (l : List ℕ) → length l ≡ length ceiling → Latest ms (asLine ceiling) (asLine l) → l ≡ lineUnder ms ceiling
+  line-is l e a = ext-getD 0 l (lineUnder ms ceiling) (e ∙ sym line-length) (λ p _. latest-unique ms (asLine ceiling) (asLine l) (asLine (lineUnder ms ceiling)) a line-latest p)
 
 -- any start between the line and its ceiling ends at the same line
-pub line-from : (ms : List Message) (ceiling start : List ℕ) → length start ≡ length ceiling → AtOrBelow (at (lineUnder ms ceiling)) (at start)
-    → AtOrBelow (at start) (at ceiling) → lineUnder ms start ≡ lineUnder ms ceiling
+pub line-from : (ms : List Message) (ceiling start : List ℕ) → length start ≡ length ceiling → AtOrBelow (asLine (lineUnder ms ceiling)) (asLine start)
+    → AtOrBelow (asLine start) (asLine ceiling) → lineUnder ms start ≡ lineUnder ms ceiling
 line-from ms ceiling start e above below =
     sym (line-is ms start (lineUnder ms ceiling) (line-length ms ceiling ∙ sym e)
-    (latest-from ms (at ceiling) (at start) (at (lineUnder ms ceiling)) (line-latest ms ceiling) above below))
+    (latest-from ms (asLine ceiling) (asLine start) (asLine (lineUnder ms ceiling)) (line-latest ms ceiling) above below))
 
 -- so does the line with an orphan's receiver put back
-pub line-put-back : (ms : List Message) (l : List ℕ) (k : ℕ) (m : Message) → getD ms k noMessage ≡ m → Orphan m (at l)
+pub line-put-back : (ms : List Message) (l : List ℕ) (k : ℕ) (m : Message) → getD ms k noMessage ≡ m → Orphan m (asLine l)
     → lineUnder ms (set l (m .receiver) (m .received - 1)) ≡ lineUnder ms l
 line-put-back ms l k m e o =
     let a = line-latest ms l in
     line-from ms l (set l (m .receiver) (m .received - 1)) (length-set l (m .receiver) (m .received - 1))
-    (put-back-above m l o (at (lineUnder ms l)) (subst (λ (x : Message). Orphan x (at (lineUnder ms l)) → ⊥) e (a .consistent k)) (a .under))
+    (put-back-above m l o (asLine (lineUnder ms l)) (subst (λ (x : Message). Orphan x (asLine (lineUnder ms l)) → ⊥) e (a .consistent k)) (a .under))
     (put-back-under m l o)
 
 -- a consistent line is the line under itself
-pub line-consistent : (ms : List Message) (l : List ℕ) → Consistent ms (at l) → l ≡ lineUnder ms l
-line-consistent ms l c = line-is ms l l refl (record { under = λ p. le-refl (at l p); consistent = c; latest = λ other below _. below })
+pub line-consistent : (ms : List Message) (l : List ℕ) → Consistent ms (asLine l) → l ≡ lineUnder ms l
+line-consistent ms l c = line-is ms l l refl (record { under = λ p. le-refl (asLine l p); consistent = c; latest = λ other below _. below })

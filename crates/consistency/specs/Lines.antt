@@ -10,8 +10,8 @@ abbrev pub Line : Type 0
 Line = ℕ → ℕ
 
 -- A line that is written as a list.
-abbrev pub at : List ℕ → Line
-at l p = getD l p 0
+abbrev pub asLine : List ℕ → Line
+asLine l p = getD l p 0
 
 -- A message (j, y) to (i, r) is an orphan of a line where r is not 0, y is at or above the line at j, and r is at or below
 -- it at i: it was received before the line and sent after it.

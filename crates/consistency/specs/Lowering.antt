@@ -4,13 +4,13 @@ use mathlib.Core.List.{List, [], _∷_}
 use Prim.Native.Nat.{ℕ, zero, suc, _-_}
 use lib.Dec.{leb, ltb}
 use lib.ListN.{set}
-use Rattle.consistency.specs.Lines.{at}
+use Rattle.consistency.specs.Lines.{asLine}
 use Rattle.run_table.specs.Lists.{sum}
 use Rattle.run_table.specs.Table.{Message}
 
 -- Whether a message is an orphan of a line.
 unfoldable pub isOrphan : Message → List ℕ → Bool
-isOrphan m l = ltb 0 (m .received) && (leb (at l (m .sender)) (m .sent) && leb (m .received) (at l (m .receiver)))
+isOrphan m l = ltb 0 (m .received) && (leb (asLine l (m .sender)) (m .sent) && leb (m .received) (asLine l (m .receiver)))
 
 -- An orphan puts its receiver back to r − 1.
 unfoldable pub lower : Message → List ℕ → List ℕ

@@ -22,7 +22,7 @@ use native.Mathlib.Omega.{arith}
 use lib.Dec.{eqb}
 use lib.ListN.{length, take}
 use Rattle.consistency.specs.Ceilings.{recoveryLine}
-use Rattle.consistency.specs.Lines.{AtOrBelow, at}
+use Rattle.consistency.specs.Lines.{AtOrBelow, asLine}
 use Rattle.futures.proofs.StepLaws.{checkpoint-grows, checkpoint-known, checkpoint-message, checkpoint-messages, checkpoint-waiting, putBack-receiver, putBack-sender, putBack-sent, receivedAt-listed, receivedAt-unlisted, rollback-count, rollback-message, rollback-order, rollback-place, send-count, send-message-new, send-message-old, send-messages, step-cases, step-well-formed}
 use Rattle.futures.specs.Futures.{FollowedTo, Future, NeedsCheckpoint, NeedsMessage, Place, StepKeeps, StillThere, at-position, endOf, gone, moved, placeOf}
 use Rattle.futures.specs.Steps.{Step, afterCheckpoint, afterRollback, afterSend, checkpoint, checkpointChecks, putBack, receivedAt, remaining, rollback, send, sendChecks, stays, step}
@@ -285,7 +285,7 @@ module _ (t : Table) (first later : Future) where
   needs-checkpoint-later i c b still needs = record {
     a-checkpoint = b;
     still-there = still-there-append t first later i c .1 (still, needs .still-there);
-    on-the-line = ap (λ (x : Table). at (recoveryLine x) i) (end-append t first later) ∙ needs .on-the-line;
+    on-the-line = ap (λ (x : Table). asLine (recoveryLine x) i) (end-append t first later) ∙ needs .on-the-line;
   }
 
   pub needs-message-later : (k k′ : ℕ) → k < messageCount t → FollowedTo t first k k′ → NeedsMessage (endOf t first) later k′ → NeedsMessage t (first ++ later) k
@@ -293,8 +293,8 @@ module _ (t : Table) (first later : Future) where
     a-message = l;
     position = n;
     still-there = followed-append t first later k k′ n still (needs .still-there);
-    sent-before = subst⁻¹ (λ (x : Table). messageOf x n .sent < at (recoveryLine x) (messageOf x n .sender)) (end-append t first later) (needs .sent-before);
-    not-received = subst⁻¹ (λ (x : Table). (messageOf x n .received ≡ 0) ⊎ (at (recoveryLine x) (messageOf x n .receiver) < messageOf x n .received))
+    sent-before = subst⁻¹ (λ (x : Table). messageOf x n .sent < asLine (recoveryLine x) (messageOf x n .sender)) (end-append t first later) (needs .sent-before);
+    not-received = subst⁻¹ (λ (x : Table). (messageOf x n .received ≡ 0) ⊎ (asLine (recoveryLine x) (messageOf x n .receiver) < messageOf x n .received))
         (end-append t first later) (needs .not-received);
   }
     where
@@ -302,21 +302,21 @@ module _ (t : Table) (first later : Future) where
       n = needs .position
 
 -- ---- the empty future
-pub needs-checkpoint-now : (t : Table) (i c : ℕ) → NeedsCheckpoint t [] i c ↔ ((c < countOf t i) × (at (recoveryLine t) i ≡ c))
+pub needs-checkpoint-now : (t : Table) (i c : ℕ) → NeedsCheckpoint t [] i c ↔ ((c < countOf t i) × (asLine (recoveryLine t) i ≡ c))
 unfolding StillThere endOf
 needs-checkpoint-now t i c = (λ n. (n .a-checkpoint, n .on-the-line), λ h. record { a-checkpoint = h .0; still-there = tt; on-the-line = h .1 })
 
 pub needs-message-now : (t : Table) (k : ℕ)
     → NeedsMessage t [] k
-    ↔ ((k < messageCount t) × (messageOf t k .sent < at (recoveryLine t) (messageOf t k .sender))
-    × ((messageOf t k .received ≡ 0) ⊎ (at (recoveryLine t) (messageOf t k .receiver) < messageOf t k .received)))
+    ↔ ((k < messageCount t) × (messageOf t k .sent < asLine (recoveryLine t) (messageOf t k .sender))
+    × ((messageOf t k .received ≡ 0) ⊎ (asLine (recoveryLine t) (messageOf t k .receiver) < messageOf t k .received)))
 unfolding FollowedTo placeOf endOf
 needs-message-now t k = (
   λ n.
       let here : n .position ≡ k = sym (followed-here t k (n .position) (n .still-there)) in (
         n .a-message,
-        subst (λ (x : ℕ). messageOf t x .sent < at (recoveryLine t) (messageOf t x .sender)) here (n .sent-before),
-        subst (λ (x : ℕ). (messageOf t x .received ≡ 0) ⊎ (at (recoveryLine t) (messageOf t x .receiver) < messageOf t x .received)) here (n .not-received),
+        subst (λ (x : ℕ). messageOf t x .sent < asLine (recoveryLine t) (messageOf t x .sender)) here (n .sent-before),
+        subst (λ (x : ℕ). (messageOf t x .received ≡ 0) ⊎ (asLine (recoveryLine t) (messageOf t x .receiver) < messageOf t x .received)) here (n .not-received),
       ),
   λ h. record { a-message = h .0; position = k; still-there = refl; sent-before = h .1; not-received = h .2 },
 )

@@ -17,7 +17,7 @@ use lib.Dec.{ltb}
 use Rattle.consistency.proofs.CeilingLaws.{ceiling-at, counts-consistent, line-of-members, set-below, set-latest}
 use Rattle.consistency.proofs.LineLaws.{latest-from, latest-same, latest-unique, max-consistent, min-consistent, orphan-free}
 use Rattle.consistency.specs.Ceilings.{Holders, ceilingOf, lineOf}
-use Rattle.consistency.specs.Lines.{AtOrBelow, Consistent, Latest, Line, Orphan, at}
+use Rattle.consistency.specs.Lines.{AtOrBelow, Consistent, Latest, Line, Orphan, asLine}
 use Rattle.futures.proofs.FutureLaws.{Grown, beyond-undelivered, known-process}
 use Rattle.futures.specs.Sheet.{holderLine}
 use Rattle.run_table.specs.Checks.{WellFormed}
@@ -29,17 +29,17 @@ pub record Held (t : Table) (l : Line) : Type 0 where
 
 -- ---- the line of every set is held
 module _ (t : Table) (holds : Holders) where
-  last-under-ceiling : (p : ℕ) → countOf t p - 1 ≤ at (ceilingOf t holds) p
+  last-under-ceiling : (p : ℕ) → countOf t p - 1 ≤ asLine (ceilingOf t holds) p
   last-under-ceiling p = subst⁻¹ (λ (x : ℕ). countOf t p - 1 ≤ x) (ceiling-at t holds p) (go (holds p))
     where
       go : (b : Bool) → countOf t p - 1 ≤ cond b (countOf t p - 1) (countOf t p)
       go true = le-refl (countOf t p - 1)
       go false = omega arith
 
-  pub set-held : Held t (at (lineOf t holds))
+  pub set-held : Held t (asLine (lineOf t holds))
   set-held = record {
     below = set-below t holds;
-    latest = latest-from (t .messages) (at (ceilingOf t holds)) (λ p. max (countOf t p - 1) (at (lineOf t holds) p)) (at (lineOf t holds))
+    latest = latest-from (t .messages) (asLine (ceilingOf t holds)) (λ p. max (countOf t p - 1) (asLine (lineOf t holds) p)) (asLine (lineOf t holds))
         (set-latest t holds) (λ p. omega arith) (λ p. omega (arith, last-under-ceiling p, set-latest t holds .under p));
   }
 
@@ -48,22 +48,22 @@ module _ (t : Table) (l : Line) (h : Held t l) where
   abbrev lowered : Holders
   lowered p = ltb (l p) (countOf t p)
 
-  lowered-ceiling : (p : ℕ) → max (countOf t p - 1) (l p) ≡ at (ceilingOf t lowered) p
+  lowered-ceiling : (p : ℕ) → max (countOf t p - 1) (l p) ≡ asLine (ceilingOf t lowered) p
   lowered-ceiling p = go (decLt (l p) (countOf t p)) ∙ sym (ceiling-at t lowered p)
     where
       go : Dec (l p < countOf t p) → max (countOf t p - 1) (l p) ≡ cond (ltb (l p) (countOf t p)) (countOf t p - 1) (countOf t p)
       go (yes b) = rw (lt-ltb (l p) (countOf t p) b) (omega arith)
       go (no b) = rw (le-ltb (l p) (countOf t p) (omega arith)) (omega (arith, h .below p))
 
-  pub held-line : (p : ℕ) → l p ≡ at (lineOf t lowered) p
+  pub held-line : (p : ℕ) → l p ≡ asLine (lineOf t lowered) p
   held-line =
-      latest-unique (t .messages) (at (ceilingOf t lowered)) l (at (lineOf t lowered))
-      (latest-same (t .messages) _ (at (ceilingOf t lowered)) l l lowered-ceiling (λ p. refl) (h .latest))
+      latest-unique (t .messages) (asLine (ceilingOf t lowered)) l (asLine (lineOf t lowered))
+      (latest-same (t .messages) _ (asLine (ceilingOf t lowered)) l l lowered-ceiling (λ p. refl) (h .latest))
       (set-latest t lowered)
 
   -- the line of a non-empty set is the minimum of its members' lines
   pub held-attained : WellFormed t → (p : ℕ) → l p < countOf t p
-      → (k : ℕ) × (k < processCount t) × (at (holderLine t k) p ≡ l p) × AtOrBelow l (at (holderLine t k))
+      → (k : ℕ) × (k < processCount t) × (asLine (holderLine t k) p ≡ l p) × AtOrBelow l (asLine (holderLine t k))
   unfolding holderLine
   held-attained w p b =
       let minimum = line-of-members t w lowered p (known-process t p (l p) b) (lt-ltb (l p) (countOf t p) b) in

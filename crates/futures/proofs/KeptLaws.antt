@@ -19,7 +19,7 @@ use borrow.Author.Tests.{eq-eqb, eqb-true, lt-ltb, ltb-true}
 use lib.Dec.{eqb, ltb}
 use lib.ListN.{length, getD, length-append, length-map, List·getD-append, List·getD-map}
 use lib.Seq.{getD-append-add}
-use Rattle.consistency.specs.Lines.{Line, at}
+use Rattle.consistency.specs.Lines.{Line, asLine}
 use Rattle.futures.proofs.FutureLaws.{known-process}
 use Rattle.futures.specs.Demand3.{Listed}
 use Rattle.futures.specs.Sheet.{Checkpoint, crosses, holderLine, keepsCheckpoint, keepsMessage, keptCheckpoints, keptMessages}
@@ -213,20 +213,20 @@ HolderWith t Passes = (k : ℕ) × (k < processCount t) × Passes (holderLine t 
 
 module _ (t : Table) where
   module _ (i c : ℕ) where
-    pub keeps-checkpoint : (keepsCheckpoint t i c ≡ true) ↔ ((c < countOf t i) × HolderWith t (λ l. at l i ≡ c))
+    pub keeps-checkpoint : (keepsCheckpoint t i c ≡ true) ↔ ((c < countOf t i) × HolderWith t (λ l. asLine l i ≡ c))
     unfolding keepsCheckpoint
     keeps-checkpoint = (
       λ e.
           let found = found-below on-line (processCount t) (and-right (ltb c (countOf t i)) (anyBelow (processCount t) on-line) e) in (
             ltb-true c (countOf t i) (and-left (ltb c (countOf t i)) (anyBelow (processCount t) on-line) e),
-            (found .0, found .1, eqb-true (at (holderLine t (found .0)) i) c (found .2)),
+            (found .0, found .1, eqb-true (asLine (holderLine t (found .0)) i) c (found .2)),
           ),
       λ h.
-          rw (lt-ltb c (countOf t i) (h .0), anyBelow-found on-line (processCount t) (h .1 .0) (h .1 .1) (eq-eqb (at (holderLine t (h .1 .0)) i) c (h .1 .2))),
+          rw (lt-ltb c (countOf t i) (h .0), anyBelow-found on-line (processCount t) (h .1 .0) (h .1 .1) (eq-eqb (asLine (holderLine t (h .1 .0)) i) c (h .1 .2))),
     )
       where
         on-line : ℕ → Bool
-        on-line k = eqb (at (holderLine t k) i) c
+        on-line k = eqb (asLine (holderLine t k) i) c
 
   module _ (m : Message) where
     crosses-is : (l : Line) → (crosses l m ≡ true) ↔ Across m l
@@ -239,23 +239,23 @@ module _ (t : Table) where
       λ h. rw (lt-ltb (m .sent) (l (m .sender)) (h .0), lt-ltb (l (m .receiver)) (m .received) (h .1)),
     )
 
-    pub keeps-message : (keepsMessage t m ≡ true) ↔ ((m .received ≡ 0) ⊎ HolderWith t (λ l. Across m (at l)))
+    pub keeps-message : (keepsMessage t m ≡ true) ↔ ((m .received ≡ 0) ⊎ HolderWith t (λ l. Across m (asLine l)))
     unfolding keepsMessage
     keeps-message = (there (eqb (m .received) 0) refl, back)
       where
         across : ℕ → Bool
-        across k = crosses (at (holderLine t k)) m
+        across k = crosses (asLine (holderLine t k)) m
 
-        there : (b : Bool) → eqb (m .received) 0 ≡ b → (b || anyBelow (processCount t) across) ≡ true → (m .received ≡ 0) ⊎ HolderWith t (λ l. Across m (at l))
+        there : (b : Bool) → eqb (m .received) 0 ≡ b → (b || anyBelow (processCount t) across) ≡ true → (m .received ≡ 0) ⊎ HolderWith t (λ l. Across m (asLine l))
         there true waits e = inl (eqb-true (m .received) 0 waits)
         there false waits e =
             let found = found-below across (processCount t) e in
-            inr (found .0, found .1, crosses-is (at (holderLine t (found .0))) .0 (found .2))
+            inr (found .0, found .1, crosses-is (asLine (holderLine t (found .0))) .0 (found .2))
 
-        back : (m .received ≡ 0) ⊎ HolderWith t (λ l. Across m (at l)) → (eqb (m .received) 0 || anyBelow (processCount t) across) ≡ true
+        back : (m .received ≡ 0) ⊎ HolderWith t (λ l. Across m (asLine l)) → (eqb (m .received) 0 || anyBelow (processCount t) across) ≡ true
         back (inl e) = rw (eq-eqb (m .received) 0 e)
         back (inr h) =
-            rw (anyBelow-found across (processCount t) (h .0) (h .1) (crosses-is (at (holderLine t (h .0))) .1 (h .2)))
+            rw (anyBelow-found across (processCount t) (h .0) (h .1) (crosses-is (asLine (holderLine t (h .0))) .1 (h .2)))
             (or-true (eqb (m .received) 0))
 
 -- ---- the lists of the sheet

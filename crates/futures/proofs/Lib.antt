@@ -2,14 +2,14 @@
 --     StepLaws       what each step does
 --     FutureLaws     what a list of steps keeps of the run that it starts from
 --     HeldLaws       held lines, and how they move over the steps
---     KeptLaws      what the sheet's lists hold, and their order
+--     KeptLaws       what the sheet's lists hold, and their order
 --     NeedLaws       what a future needs is on the sheet
 --     WitnessLaws    what is on the sheet some future needs
 --     Demand3        the two together, and what follows for whoever discards
 pub mod Demand3
 pub mod FutureLaws
 pub mod HeldLaws
-pub mod NeedLaws
 pub mod KeptLaws
+pub mod NeedLaws
 pub mod StepLaws
 pub mod WitnessLaws

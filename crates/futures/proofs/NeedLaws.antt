@@ -14,7 +14,7 @@ use Prim.Native.Nat.{ℕ, _≤_, _<_, min}
 use native.Mathlib.Decide.{decLt, ℕ-discrete}
 use native.Mathlib.Omega.{arith}
 use Rattle.consistency.specs.Ceilings.{recoveryLine, single}
-use Rattle.consistency.specs.Lines.{AtOrBelow, Line, at}
+use Rattle.consistency.specs.Lines.{AtOrBelow, Line, asLine}
 use Rattle.futures.proofs.FutureLaws.{Grown, MovedTo, checkpoint-grown, followed-first, followed-here, moved-inside, rolled-message, rolled-to, same-position, send-grown, step-keeps-count}
 use Rattle.futures.proofs.HeldLaws.{Held, held-above, held-attained, held-before, set-held}
 use Rattle.futures.proofs.KeptLaws.{Across, HolderWith, keeps-checkpoint, keeps-message}
@@ -41,11 +41,11 @@ pub record AcrossHeld (t : Table) (m : Message) : Type 0 where
 abbrev pub Open : Table → Message → Type 0
 Open t m = (m .received ≡ 0) ⊎ AcrossHeld t m
 
-pub recovery-held : (t : Table) → Held t (at (recoveryLine t))
+pub recovery-held : (t : Table) → Held t (asLine (recoveryLine t))
 unfolding recoveryLine
 recovery-held t = set-held t (λ p. true)
 
-holder-held : (t : Table) (k : ℕ) → Held t (at (holderLine t k))
+holder-held : (t : Table) (k : ℕ) → Held t (asLine (holderLine t k))
 unfolding holderLine
 holder-held t k = set-held t (single k)
 
@@ -54,14 +54,14 @@ module _ (t : Table) where
   pub kept-on-held : (i c : ℕ) → keepsCheckpoint t i c ≡ true → OnHeld t i c
   kept-on-held i c e =
       let holder = keeps-checkpoint t i c .0 e .1 in
-      record { line = at (holderLine t (holder .0)); held = holder-held t (holder .0); on-line = holder .2 }
+      record { line = asLine (holderLine t (holder .0)); held = holder-held t (holder .0); on-line = holder .2 }
 
   pub kept-open : (m : Message) → keepsMessage t m ≡ true → Open t m
   kept-open m e = go (keeps-message t m .0 e)
     where
-      go : (m .received ≡ 0) ⊎ HolderWith t (λ l. Across m (at l)) → Open t m
+      go : (m .received ≡ 0) ⊎ HolderWith t (λ l. Across m (asLine l)) → Open t m
       go (inl waits) = inl waits
-      go (inr h) = inr (record { line = at (holderLine t (h .0)); held = holder-held t (h .0); across = h .2 })
+      go (inr h) = inr (record { line = asLine (holderLine t (h .0)); held = holder-held t (h .0); across = h .2 })
 
   module _ (w : WellFormed t) where
     pub on-held-kept : (i c : ℕ) → c < countOf t i → OnHeld t i c → keepsCheckpoint t i c ≡ true
@@ -104,28 +104,28 @@ module _ (t t′ : Table) (w : WellFormed t) (g : Grown t t′) where
 -- ---- before a rollback
 module _ (t : Table) where
   -- the recovery line is one of checkpoints that are still there, and consistent, so no held line is lower
-  above-recovery : (l : Line) → Held (afterRollback t) l → AtOrBelow (at (recoveryLine t)) l
+  above-recovery : (l : Line) → Held (afterRollback t) l → AtOrBelow (asLine (recoveryLine t)) l
   above-recovery l h p =
       let after = recovery-latest (afterRollback t) in
-      omega (arith, rollback-line t p, held-above (afterRollback t) l (at (recoveryLine (afterRollback t))) h (after .consistent) (after .under) p)
+      omega (arith, rollback-line t p, held-above (afterRollback t) l (asLine (recoveryLine (afterRollback t))) h (after .consistent) (after .under) p)
 
-  rolled-checkpoint : (i c : ℕ) → c ≤ at (recoveryLine t) i → OnHeld (afterRollback t) i c → OnHeld t i c
+  rolled-checkpoint : (i c : ℕ) → c ≤ asLine (recoveryLine t) i → OnHeld (afterRollback t) i c → OnHeld t i c
   rolled-checkpoint i c keeps on = record {
-    line = at (recoveryLine t);
+    line = asLine (recoveryLine t);
     held = recovery-held t;
     on-line = omega (arith, on .on-line, above-recovery (on .line) (on .held) i);
   }
 
   -- one that is put back crosses the recovery line; any other was received at or before it, and crosses no held line
-  rolled-open : (m : Message) → m .sent < at (recoveryLine t) (m .sender) → Open (afterRollback t) (putBack (recoveryLine t) m) → Open t m
-  rolled-open m sent-before open′ = go (decLt (at (recoveryLine t) (m .receiver)) (m .received))
+  rolled-open : (m : Message) → m .sent < asLine (recoveryLine t) (m .sender) → Open (afterRollback t) (putBack (recoveryLine t) m) → Open t m
+  rolled-open m sent-before open′ = go (decLt (asLine (recoveryLine t) (m .receiver)) (m .received))
     where
-      received : m .received ≤ at (recoveryLine t) (m .receiver) → Open (afterRollback t) m → Open t m
+      received : m .received ≤ asLine (recoveryLine t) (m .receiver) → Open (afterRollback t) m → Open t m
       received b (inl waits) = inl waits
       received b (inr a) = absurd (omega (arith, a .across .1, above-recovery (a .line) (a .held) (m .receiver)))
 
-      go : Dec (at (recoveryLine t) (m .receiver) < m .received) → Open t m
-      go (yes b) = inr (record { line = at (recoveryLine t); held = recovery-held t; across = (sent-before, b) })
+      go : Dec (asLine (recoveryLine t) (m .receiver) < m .received) → Open t m
+      go (yes b) = inr (record { line = asLine (recoveryLine t); held = recovery-held t; across = (sent-before, b) })
       go (no b) = received (omega arith) (subst (Open (afterRollback t)) (putBack-before (recoveryLine t) m (omega arith)) open′)
 
 -- ---- before any step
@@ -172,7 +172,7 @@ module _ (t : Table) (w : WellFormed t) (future : Future) where
   checkpoint-need-kept i c needs =
       on-held-kept t w i c (needs .a-checkpoint)
       (checkpoint-all-back t w future i c (needs .a-checkpoint) (needs .still-there)
-      (record { line = at (recoveryLine (endOf t future)); held = recovery-held (endOf t future); on-line = needs .on-the-line }))
+      (record { line = asLine (recoveryLine (endOf t future)); held = recovery-held (endOf t future); on-line = needs .on-the-line }))
 
   pub message-need-kept : (k : ℕ) → NeedsMessage t future k → keepsMessage t (messageOf t k) ≡ true
   message-need-kept k needs =
@@ -185,6 +185,6 @@ module _ (t : Table) (w : WellFormed t) (future : Future) where
       m : Message
       m = messageOf E (needs .position)
 
-      go : (m .received ≡ 0) ⊎ (at (recoveryLine E) (m .receiver) < m .received) → Open E m
+      go : (m .received ≡ 0) ⊎ (asLine (recoveryLine E) (m .receiver) < m .received) → Open E m
       go (inl waits) = inl waits
-      go (inr late) = inr (record { line = at (recoveryLine E); held = recovery-held E; across = (needs .sent-before, late) })
+      go (inr late) = inr (record { line = asLine (recoveryLine E); held = recovery-held E; across = (needs .sent-before, late) })

@@ -2,7 +2,7 @@
 --     withReceipt, newMessage                          a message with another receipt number; the one that a send adds
 --     send-processes .. send-message-new               the table after a send
 --     send-each                                        what holds of the old messages and of the new one holds of all
---     send-free, send-quiet                            what it means that nothing catches a send
+--     quiet-send, send-quiet                           what it means that nothing catches a send
 --     Waiting, good-position, waiting-position         the positions that a checkpoint may list
 --     rising                                           the order of a list that is rising
 --     checkpoint-processes .. checkpoint-message       the table after a checkpoint
@@ -35,9 +35,9 @@ use lib.Seq.{getD-append-seam, getD-set-other, getD-set-same, getD-take, split-a
 use Rattle.consistency.proofs.CeilingLaws.{ceiling-at, set-latest, set-length}
 use Rattle.consistency.proofs.LineLaws.{latest-same}
 use Rattle.consistency.specs.Ceilings.{ceilingOf, lineOf, recoveryLine}
-use Rattle.consistency.specs.Lines.{AtOrBelow, Latest, Orphan, at}
-use Rattle.futures.specs.Steps.{Step, afterCheckpoint, afterRollback, afterSend, badPosition, checkpoint, checkpointChecks, notRisingAfter, notRising, putBack, receivedAt, remaining, rollback, send, sendChecks, stays, step, unlessCaught, waitsFor}
-use Rattle.run_table.proofs.CheckLaws.{clear, cleared, passed}
+use Rattle.consistency.specs.Lines.{AtOrBelow, Latest, Orphan, asLine}
+use Rattle.futures.specs.Steps.{Step, afterCheckpoint, afterRollback, afterSend, badPosition, checkpoint, checkpointChecks, notRising, notRisingAfter, putBack, receivedAt, remaining, rollback, send, sendChecks, stays, step, unlessCaught, waitsFor}
+use Rattle.run_table.proofs.CheckLaws.{passed, quiet-cons, quiet-none}
 use Rattle.run_table.proofs.FormatLaws.{count-beyond, message-beyond}
 use Rattle.run_table.proofs.ListLaws.{and-left, and-right, any-none, getD-tabulate, length-tabulate, or-false-left, or-false-right}
 use Rattle.run_table.specs.Checks.{Check, GoodMessage, Limits, WellFormed, firstCaught}
@@ -84,19 +84,19 @@ module _ (t : Table) (j i : ℕ) where
           let last : k ≡ messageCount t = omega (arith, send-messages) in
           subst⁻¹ P (ap (messageOf (afterSend t j i)) last ∙ send-message-new) new
 
-  pub send-free : firstCaught (sendChecks t j i) ≡ 0 → (j < processCount t) × (i < processCount t) × (j ≡ i → ⊥)
+  pub quiet-send : firstCaught (sendChecks t j i) ≡ 0 → (j < processCount t) × (i < processCount t) × (j ≡ i → ⊥)
   unfolding sendChecks
-  send-free quiet =
+  quiet-send quiet =
       let n = processCount t in
-      let known = cleared _ _ (omega arith) quiet in
-      let two = cleared _ _ (omega arith) (known .1) in
+      let known = quiet-cons _ _ (omega arith) quiet in
+      let two = quiet-cons _ _ (omega arith) (known .1) in
       (leb-false n j (or-false-left (leb n j) (leb n i) (known .0)), leb-false n i (or-false-right (leb n j) (leb n i) (known .0)), eqb-false j i (two .0))
 
   pub send-quiet : j < processCount t → i < processCount t → (j ≡ i → ⊥) → firstCaught (sendChecks t j i) ≡ 0
   unfolding sendChecks
   send-quiet lj li two =
       let known : (leb (processCount t) j || leb (processCount t) i) ≡ false = rw (lt-leb (processCount t) j lj) (lt-leb (processCount t) i li) in
-      passed _ _ 0 known (passed _ _ 0 (ne-eqb j i two) clear)
+      passed _ _ 0 known (passed _ _ 0 (ne-eqb j i two) quiet-none)
 
 -- ---- the list of a checkpoint
 -- The message at position k waits for process i.
@@ -211,17 +211,17 @@ module _ (t : Table) (i : ℕ) (list : List ℕ) where
       subst⁻¹ P (checkpoint-message k b) (receivedAt-cases k P (listed k b) (unlisted k b))
 
   module _ (quiet : firstCaught (checkpointChecks t i list) ≡ 0) where
-    free : (leb (processCount t) i ≡ false) × ((any (badPosition t i) list || notRising list) ≡ false)
+    quiet-list : (leb (processCount t) i ≡ false) × ((any (badPosition t i) list || notRising list) ≡ false)
     unfolding checkpointChecks
-    free =
-        let known = cleared _ _ (omega arith) quiet in
-        (known .0, cleared _ _ (omega arith) (known .1) .0)
+    quiet-list =
+        let known = quiet-cons _ _ (omega arith) quiet in
+        (known .0, quiet-cons _ _ (omega arith) (known .1) .0)
 
     pub checkpoint-known : i < processCount t
-    checkpoint-known = leb-false (processCount t) i (free .0)
+    checkpoint-known = leb-false (processCount t) i (quiet-list .0)
 
     pub checkpoint-positions : any (badPosition t i) list ≡ false
-    checkpoint-positions = or-false-left (any (badPosition t i) list) (notRising list) (free .1)
+    checkpoint-positions = or-false-left (any (badPosition t i) list) (notRising list) (quiet-list .1)
 
     pub checkpoint-waiting : (k : ℕ) → any (eqb k) list ≡ true → Waiting t i k
     checkpoint-waiting k listed = good-position t i k (listed-fails (badPosition t i) list checkpoint-positions k listed)
@@ -231,8 +231,8 @@ module _ (t : Table) (i : ℕ) (list : List ℕ) where
   unfolding checkpointChecks
   checkpoint-quiet known waiting up =
       let good : any (badPosition t i) list ≡ false = any-none (badPosition t i) list 0 (λ a l. waiting-position t i (getD list a 0) (waiting a l)) in
-      let free : (any (badPosition t i) list || notRising list) ≡ false = rw good up in
-      passed _ _ 0 (lt-leb (processCount t) i known) (passed _ _ 0 free clear)
+      let good-list : (any (badPosition t i) list || notRising list) ≡ false = rw good up in
+      passed _ _ 0 (lt-leb (processCount t) i known) (passed _ _ 0 good-list quiet-none)
 
   pub checkpoint-grows : i < processCount t → (p : ℕ) → countOf t p ≤ countOf (afterCheckpoint t i list) p
   checkpoint-grows known p = go (ℕ-discrete p i)
@@ -243,10 +243,10 @@ module _ (t : Table) (i : ℕ) (list : List ℕ) where
 
 -- ---- the recovery line
 module _ (t : Table) where
-  pub recovery-latest : Latest (t .messages) (λ p. countOf t p - 1) (at (recoveryLine t))
+  pub recovery-latest : Latest (t .messages) (λ p. countOf t p - 1) (asLine (recoveryLine t))
   unfolding recoveryLine
   recovery-latest =
-      latest-same (t .messages) (at (ceilingOf t (λ p. true))) (λ p. countOf t p - 1) (at (lineOf t (λ p. true))) (at (lineOf t (λ p. true)))
+      latest-same (t .messages) (asLine (ceilingOf t (λ p. true))) (λ p. countOf t p - 1) (asLine (lineOf t (λ p. true))) (asLine (lineOf t (λ p. true)))
       (ceiling-at t (λ p. true)) (λ p. refl) (set-latest t (λ p. true))
 
   pub recovery-length : length (recoveryLine t) ≡ processCount t
@@ -255,18 +255,18 @@ module _ (t : Table) where
 
 -- ---- rollback
 module _ (l : List ℕ) (m : Message) where
-  pub putBack-after : at l (m .receiver) < m .received → putBack l m ≡ withReceipt m 0
+  pub putBack-after : asLine l (m .receiver) < m .received → putBack l m ≡ withReceipt m 0
   unfolding putBack
-  putBack-after h = rw (lt-ltb (at l (m .receiver)) (m .received) h)
+  putBack-after h = rw (lt-ltb (asLine l (m .receiver)) (m .received) h)
 
-  pub putBack-before : m .received ≤ at l (m .receiver) → putBack l m ≡ m
+  pub putBack-before : m .received ≤ asLine l (m .receiver) → putBack l m ≡ m
   unfolding putBack
-  putBack-before h = rw (le-ltb (at l (m .receiver)) (m .received) h)
+  putBack-before h = rw (le-ltb (asLine l (m .receiver)) (m .received) h)
 
-  putBack-cases : (P : Message → Type 0) → P (withReceipt m 0) → (m .received ≤ at l (m .receiver) → P m) → P (putBack l m)
-  putBack-cases P after before = go (decLt (at l (m .receiver)) (m .received))
+  putBack-cases : (P : Message → Type 0) → P (withReceipt m 0) → (m .received ≤ asLine l (m .receiver) → P m) → P (putBack l m)
+  putBack-cases P after before = go (decLt (asLine l (m .receiver)) (m .received))
     where
-      go : Dec (at l (m .receiver) < m .received) → P (putBack l m)
+      go : Dec (asLine l (m .receiver) < m .received) → P (putBack l m)
       go (yes h) = subst⁻¹ P (putBack-after h) after
       go (no h) = subst⁻¹ P (putBack-before (omega arith)) (before (omega arith))
 
@@ -279,12 +279,12 @@ module _ (l : List ℕ) (m : Message) where
   pub putBack-receiver : putBack l m .receiver ≡ m .receiver
   putBack-receiver = putBack-cases (λ x. x .receiver ≡ m .receiver) refl (λ _. refl)
 
-  pub putBack-under : putBack l m .received ≤ at l (m .receiver)
-  putBack-under = putBack-cases (λ x. x .received ≤ at l (m .receiver)) (omega arith) (λ h. h)
+  pub putBack-under : putBack l m .received ≤ asLine l (m .receiver)
+  putBack-under = putBack-cases (λ x. x .received ≤ asLine l (m .receiver)) (omega arith) (λ h. h)
 
-  pub stays-sent : stays l m ≡ true → m .sent < at l (m .sender)
+  pub stays-sent : stays l m ≡ true → m .sent < asLine l (m .sender)
   unfolding stays
-  stays-sent e = ltb-true (m .sent) (at l (m .sender)) e
+  stays-sent e = ltb-true (m .sent) (asLine l (m .sender)) e
 
 -- the first message of a list stays or goes
 module _ (l : List ℕ) (m : Message) (rest : List Message) where
@@ -372,15 +372,15 @@ module _ (t : Table) where
   unfolding afterRollback processCount
   rollback-processes = length-map (recoveryLine t) (λ c. c + 1) ∙ recovery-length t
 
-  pub rollback-count : (p : ℕ) → p < processCount t → countOf (afterRollback t) p ≡ at (recoveryLine t) p + 1
+  pub rollback-count : (p : ℕ) → p < processCount t → countOf (afterRollback t) p ≡ asLine (recoveryLine t) p + 1
   unfolding afterRollback countOf
   rollback-count p h = one-more (recoveryLine t) p (omega (arith, recovery-length t))
 
   -- the line stands at the last checkpoints
-  last-checkpoint : (p : ℕ) → countOf (afterRollback t) p - 1 ≡ at (recoveryLine t) p
+  last-checkpoint : (p : ℕ) → countOf (afterRollback t) p - 1 ≡ asLine (recoveryLine t) p
   last-checkpoint p = go (decLt p (processCount t))
     where
-      go : Dec (p < processCount t) → countOf (afterRollback t) p - 1 ≡ at (recoveryLine t) p
+      go : Dec (p < processCount t) → countOf (afterRollback t) p - 1 ≡ asLine (recoveryLine t) p
       go (yes h) = omega (arith, rollback-count p h)
       go (no h) =
           omega (arith, count-beyond (afterRollback t) p (omega (arith, rollback-processes)), count-beyond t p (omega arith), recovery-latest t .under p)
@@ -399,7 +399,7 @@ module _ (t : Table) where
   pub rollback-each : (P : Message → Type 0)
       → ((k : ℕ) → k < messageCount t → stays (recoveryLine t) (messageOf t k) ≡ true → P (withReceipt (messageOf t k) 0))
       → ((k : ℕ) → k < messageCount t → stays (recoveryLine t) (messageOf t k) ≡ true
-      → messageOf t k .received ≤ at (recoveryLine t) (messageOf t k .receiver) → P (messageOf t k))
+      → messageOf t k .received ≤ asLine (recoveryLine t) (messageOf t k .receiver) → P (messageOf t k))
       → (k′ : ℕ) → k′ < messageCount (afterRollback t) → P (messageOf (afterRollback t) k′)
   rollback-each P after before k′ h =
       let from = rollback-from k′ h in
@@ -463,13 +463,13 @@ send-well-formed t j i w quiet = record {
 
     new : GoodMessage after (newMessage t j i)
     new =
-        let free = send-free t j i quiet in
+        let names = quiet-send t j i quiet in
         record {
-          sender-known = omega (arith, free .0, send-processes t j i);
-          receiver-known = omega (arith, free .1, send-processes t j i);
-          two-processes = free .2;
-          sent-below = omega (arith, w .some-checkpoint j (free .0), same j);
-          received-below = omega (arith, w .some-checkpoint i (free .1), same i);
+          sender-known = omega (arith, names .0, send-processes t j i);
+          receiver-known = omega (arith, names .1, send-processes t j i);
+          two-processes = names .2;
+          sent-below = omega (arith, w .some-checkpoint j (names .0), same j);
+          received-below = omega (arith, w .some-checkpoint i (names .1), same i);
         }
 
 pub checkpoint-well-formed : (t : Table) (i : ℕ) (list : List ℕ) → WellFormed t → firstCaught (checkpointChecks t i list) ≡ 0 → WellFormed (afterCheckpoint t i list)
@@ -509,7 +509,7 @@ rollback-well-formed t w = record {
   good-messages = rollback-each t (GoodMessage (afterRollback t)) (λ k l e. good k l e 0 (omega arith)) (λ k l e. good k l e (messageOf t k .received));
 }
   where
-    good : (k : ℕ) → k < messageCount t → stays (recoveryLine t) (messageOf t k) ≡ true → (n : ℕ) → n ≤ at (recoveryLine t) (messageOf t k .receiver)
+    good : (k : ℕ) → k < messageCount t → stays (recoveryLine t) (messageOf t k) ≡ true → (n : ℕ) → n ≤ asLine (recoveryLine t) (messageOf t k .receiver)
         → GoodMessage (afterRollback t) (withReceipt (messageOf t k) n)
     good k l e n under =
         let m = messageOf t k in
@@ -560,56 +560,56 @@ rollback-limits t w limits = record {
 -- ---- the recovery line never goes back
 module _ (t : Table) where
   abbrev NoOrphan : Message → Type 0
-  NoOrphan m = Orphan m (at (recoveryLine t)) → ⊥
+  NoOrphan m = Orphan m (asLine (recoveryLine t)) → ⊥
 
   no-orphan-of : (k : ℕ) → NoOrphan (messageOf t k)
   unfolding messageOf
   no-orphan-of = recovery-latest t .consistent
 
   -- the line is no higher than that of a table of which it is at or below the last checkpoints, with no message for an orphan
-  no-higher : (t′ : Table) → ((p : ℕ) → at (recoveryLine t) p ≤ countOf t′ p - 1) → ((k : ℕ) → k < messageCount t′ → NoOrphan (messageOf t′ k))
-      → AtOrBelow (at (recoveryLine t)) (at (recoveryLine t′))
+  no-higher : (t′ : Table) → ((p : ℕ) → asLine (recoveryLine t) p ≤ countOf t′ p - 1) → ((k : ℕ) → k < messageCount t′ → NoOrphan (messageOf t′ k))
+      → AtOrBelow (asLine (recoveryLine t)) (asLine (recoveryLine t′))
   unfolding messageOf
-  no-higher t′ under none = recovery-latest t′ .latest (at (recoveryLine t)) under (λ k o. go k o (decLt k (messageCount t′)))
+  no-higher t′ under none = recovery-latest t′ .latest (asLine (recoveryLine t)) under (λ k o. go k o (decLt k (messageCount t′)))
     where
-      go : (k : ℕ) → Orphan (messageOf t′ k) (at (recoveryLine t)) → Dec (k < messageCount t′) → ⊥
+      go : (k : ℕ) → Orphan (messageOf t′ k) (asLine (recoveryLine t)) → Dec (k < messageCount t′) → ⊥
       go k o (yes b) = none k b o
       go k o (no b) = omega (arith, o .delivered, ap (λ (m : Message). m .received) (message-beyond t′ k (omega arith)))
 
   -- the new message is undelivered
-  send-no-higher : (j i : ℕ) → AtOrBelow (at (recoveryLine t)) (at (recoveryLine (afterSend t j i)))
+  send-no-higher : (j i : ℕ) → AtOrBelow (asLine (recoveryLine t)) (asLine (recoveryLine (afterSend t j i)))
   send-no-higher j i =
       no-higher (afterSend t j i) (λ p. omega (arith, recovery-latest t .under p, send-count t j i p))
       (send-each t j i NoOrphan (λ k _. no-orphan-of k) (λ o. omega (arith, o .delivered)))
 
   -- a listed message is received at the old count, which is above the line
   checkpoint-no-higher : (i : ℕ) (list : List ℕ) → firstCaught (checkpointChecks t i list) ≡ 0
-      → AtOrBelow (at (recoveryLine t)) (at (recoveryLine (afterCheckpoint t i list)))
+      → AtOrBelow (asLine (recoveryLine t)) (asLine (recoveryLine (afterCheckpoint t i list)))
   checkpoint-no-higher i list quiet =
       no-higher (afterCheckpoint t i list)
       (λ p. omega (arith, recovery-latest t .under p, checkpoint-grows t i list (checkpoint-known t i list quiet) p))
       (checkpoint-each t i list NoOrphan
       (λ k _ listed o.
-      let here : countOf t i ≤ at (recoveryLine t) i =
-      subst (λ (q : ℕ). countOf t i ≤ at (recoveryLine t) q) (checkpoint-waiting t i list quiet k listed .to-process) (o .received-before)
+      let here : countOf t i ≤ asLine (recoveryLine t) i =
+      subst (λ (q : ℕ). countOf t i ≤ asLine (recoveryLine t) q) (checkpoint-waiting t i list quiet k listed .to-process) (o .received-before)
       in
       omega (arith, o .delivered, recovery-latest t .under i))
       (λ k _. no-orphan-of k))
 
   -- a message that remains is undelivered or as it was
-  rollback-no-higher : AtOrBelow (at (recoveryLine t)) (at (recoveryLine (afterRollback t)))
+  rollback-no-higher : AtOrBelow (asLine (recoveryLine t)) (asLine (recoveryLine (afterRollback t)))
   rollback-no-higher =
       no-higher (afterRollback t) (λ p. omega (arith, last-checkpoint t p))
       (rollback-each t NoOrphan (λ k _ _ o. omega (arith, o .delivered)) (λ k _ _ _. no-orphan-of k))
 
-  pub rollback-line : (p : ℕ) → at (recoveryLine (afterRollback t)) p ≡ at (recoveryLine t) p
+  pub rollback-line : (p : ℕ) → asLine (recoveryLine (afterRollback t)) p ≡ asLine (recoveryLine t) p
   rollback-line p = omega (arith, rollback-no-higher p, recovery-latest (afterRollback t) .under p, last-checkpoint t p)
 
-  pub line-never-back : (s : Step) (p : ℕ) → at (recoveryLine t) p ≤ at (recoveryLine (step t s)) p
+  pub line-never-back : (s : Step) (p : ℕ) → asLine (recoveryLine t) p ≤ asLine (recoveryLine (step t s)) p
   unfolding step
   line-never-back (send j i) p =
-      step-cases (sendChecks t j i) (afterSend t j i) t (λ t′. at (recoveryLine t) p ≤ at (recoveryLine t′) p) (λ _. send-no-higher j i p) (omega arith)
+      step-cases (sendChecks t j i) (afterSend t j i) t (λ t′. asLine (recoveryLine t) p ≤ asLine (recoveryLine t′) p) (λ _. send-no-higher j i p) (omega arith)
   line-never-back (checkpoint i list) p =
-      step-cases (checkpointChecks t i list) (afterCheckpoint t i list) t (λ t′. at (recoveryLine t) p ≤ at (recoveryLine t′) p)
+      step-cases (checkpointChecks t i list) (afterCheckpoint t i list) t (λ t′. asLine (recoveryLine t) p ≤ asLine (recoveryLine t′) p)
       (λ quiet. checkpoint-no-higher i list quiet p) (omega arith)
   line-never-back rollback p = rollback-no-higher p

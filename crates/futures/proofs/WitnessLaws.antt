@@ -20,7 +20,7 @@ use lib.ListN.{getD}
 use lib.Seq.{ext-getD}
 use Rattle.consistency.proofs.CeilingLaws.{ceiling-at, ceiling-length, line-of-none}
 use Rattle.consistency.specs.Ceilings.{Holders, ceilingOf, lineOf, recoveryLine, single}
-use Rattle.consistency.specs.Lines.{at}
+use Rattle.consistency.specs.Lines.{asLine}
 use Rattle.consistency.specs.Lowering.{lineUnder}
 use Rattle.futures.proofs.KeptLaws.{Across, HolderWith, keeps-checkpoint, keeps-message}
 use Rattle.futures.proofs.StepLaws.{checkpoint-count-here, checkpoint-count-other, checkpoint-message, checkpoint-messages, checkpoint-processes, checkpoint-quiet, receivedAt-unlisted, step-taken}
@@ -152,15 +152,15 @@ module _ (t : Table) (holds : Holders) where
   others-message k = ap (λ (ms : List Message). getD ms k noMessage) (waited .same-messages)
 
   -- what lies on the line of the set, or is sent before it and not received before it, this future needs
-  pub others-need-checkpoint : (i c : ℕ) → c < countOf t i → at (lineOf t holds) i ≡ c → NeedsCheckpoint t (othersCheckpoint holds (processCount t)) i c
+  pub others-need-checkpoint : (i c : ℕ) → c < countOf t i → asLine (lineOf t holds) i ≡ c → NeedsCheckpoint t (othersCheckpoint holds (processCount t)) i c
   others-need-checkpoint i c b on = record {
     a-checkpoint = b;
     still-there = waited .all-there i c;
-    on-the-line = ap (λ (l : List ℕ). at l i) others-line ∙ on;
+    on-the-line = ap (λ (l : List ℕ). asLine l i) others-line ∙ on;
   }
 
-  pub others-need-message : (k : ℕ) → k < messageCount t → messageOf t k .sent < at (lineOf t holds) (messageOf t k .sender)
-      → (messageOf t k .received ≡ 0) ⊎ (at (lineOf t holds) (messageOf t k .receiver) < messageOf t k .received)
+  pub others-need-message : (k : ℕ) → k < messageCount t → messageOf t k .sent < asLine (lineOf t holds) (messageOf t k .sender)
+      → (messageOf t k .received ≡ 0) ⊎ (asLine (lineOf t holds) (messageOf t k .receiver) < messageOf t k .received)
       → NeedsMessage t (othersCheckpoint holds (processCount t)) k
   others-need-message k l sent-before not-received = record {
     a-message = l;
@@ -186,10 +186,10 @@ module _ (t : Table) where
       nobody : Holders
       nobody p = false
 
-      counts : (p : ℕ) → at (lineOf t nobody) p ≡ countOf t p
-      counts p = unfold countOf in ap (λ (x : List ℕ). at x p) (line-of-none t w)
+      counts : (p : ℕ) → asLine (lineOf t nobody) p ≡ countOf t p
+      counts p = unfold countOf in ap (λ (x : List ℕ). asLine x p) (line-of-none t w)
 
-      go : (messageOf t k .received ≡ 0) ⊎ HolderWith t (λ l. Across (messageOf t k) (at l)) → MessageNeeded t k
+      go : (messageOf t k .received ≡ 0) ⊎ HolderWith t (λ l. Across (messageOf t k) (asLine l)) → MessageNeeded t k
       go (inl waits) = (
         othersCheckpoint nobody (processCount t),
         others-need-message t nobody k l

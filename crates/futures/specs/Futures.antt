@@ -8,7 +8,7 @@ use mathlib.Core.Path.{_≡_}
 use Prim.Native.Nat.{ℕ, _≤_, _<_}
 use lib.ListN.{length, take}
 use Rattle.consistency.specs.Ceilings.{recoveryLine}
-use Rattle.consistency.specs.Lines.{at}
+use Rattle.consistency.specs.Lines.{asLine}
 use Rattle.futures.specs.Steps.{Step, checkpoint, remaining, rollback, send, stays, step}
 use Rattle.run_table.specs.Table.{Table, countOf, messageCount, messageOf}
 
@@ -26,7 +26,7 @@ endOf t (s ∷ rest) = endOf (step t s) rest
 unfoldable pub StepKeeps : Table → Step → ℕ → ℕ → Type 0
 StepKeeps t (send j i′) i c = Unit {0}
 StepKeeps t (checkpoint i′ list) i c = Unit {0}
-StepKeeps t rollback i c = c ≤ at (recoveryLine t) i
+StepKeeps t rollback i c = c ≤ asLine (recoveryLine t) i
 
 -- Checkpoint c of process i is still there at the end.
 unfoldable pub StillThere : Table → Future → ℕ → ℕ → Type 0
@@ -61,7 +61,7 @@ FollowedTo t future k k′ = placeOf t future (at-position k) ≡ at-position k�
 pub record NeedsCheckpoint (t : Table) (future : Future) (i c : ℕ) : Type 0 where
   pub a-checkpoint : c < countOf t i
   pub still-there : StillThere t future i c
-  pub on-the-line : at (recoveryLine (endOf t future)) i ≡ c
+  pub on-the-line : asLine (recoveryLine (endOf t future)) i ≡ c
 
 -- The message at position k of the first table, where it is still there, as (j, y) to (i, r) in E, and y < L of j, and r is 0 or
 -- above L of i.
@@ -69,9 +69,9 @@ pub record NeedsMessage (t : Table) (future : Future) (k : ℕ) : Type 0 where
   pub a-message : k < messageCount t
   pub position : ℕ
   pub still-there : FollowedTo t future k position
-  pub sent-before : messageOf (endOf t future) position .sent < at (recoveryLine (endOf t future)) (messageOf (endOf t future) position .sender)
+  pub sent-before : messageOf (endOf t future) position .sent < asLine (recoveryLine (endOf t future)) (messageOf (endOf t future) position .sender)
   pub not-received : (messageOf (endOf t future) position .received ≡ 0)
-      ⊎ (at (recoveryLine (endOf t future)) (messageOf (endOf t future) position .receiver) < messageOf (endOf t future) position .received)
+      ⊎ (asLine (recoveryLine (endOf t future)) (messageOf (endOf t future) position .receiver) < messageOf (endOf t future) position .received)
 
 -- Some future needs it.
 unfoldable pub CheckpointNeeded : Table → ℕ → ℕ → Type 0

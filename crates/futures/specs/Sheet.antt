@@ -6,7 +6,7 @@ use Prim.Native.Nat.{ℕ}
 use lib.Dec.{eqb, ltb}
 use lib.ListN.{length}
 use Rattle.consistency.specs.Ceilings.{lineOf, single}
-use Rattle.consistency.specs.Lines.{Line, at}
+use Rattle.consistency.specs.Lines.{Line, asLine}
 use Rattle.run_table.specs.Lists.{anyBelow, rows, select}
 use Rattle.run_table.specs.Numbers.{u16s}
 use Rattle.run_table.specs.Table.{Message, Table, countOf, messageCount, messageOf, processCount}
@@ -21,7 +21,7 @@ holderLines t = rows (holderLine t) (processCount t)
 
 -- Checkpoint c of process i is kept when c is below the count of i and some single holder's line has c at i.
 unfoldable pub keepsCheckpoint : Table → ℕ → ℕ → Bool
-keepsCheckpoint t i c = ltb c (countOf t i) && anyBelow (processCount t) (λ k. eqb (at (holderLine t k) i) c)
+keepsCheckpoint t i c = ltb c (countOf t i) && anyBelow (processCount t) (λ k. eqb (asLine (holderLine t k) i) c)
 
 -- A message crosses a line: y < L of its sender, and L of its receiver < r.
 unfoldable pub crosses : Line → Message → Bool
@@ -29,7 +29,7 @@ crosses l m = ltb (m .sent) (l (m .sender)) && ltb (l (m .receiver)) (m .receive
 
 -- A message is kept when it is undelivered, or when it crosses some single holder's line.
 unfoldable pub keepsMessage : Table → Message → Bool
-keepsMessage t m = eqb (m .received) 0 || anyBelow (processCount t) (λ k. crosses (at (holderLine t k)) m)
+keepsMessage t m = eqb (m .received) 0 || anyBelow (processCount t) (λ k. crosses (asLine (holderLine t k)) m)
 
 -- A checkpoint: its process and its number.
 pub record Checkpoint : Type 0 where

@@ -6,7 +6,7 @@ use Prim.Native.Nat.{ℕ, _+_, _-_}
 use lib.Dec.{eqb, leb, ltb}
 use lib.ListN.{set}
 use Rattle.consistency.specs.Ceilings.{recoveryLine}
-use Rattle.consistency.specs.Lines.{at}
+use Rattle.consistency.specs.Lines.{asLine}
 use Rattle.run_table.specs.Checks.{Check, firstCaught}
 use Rattle.run_table.specs.Lists.{any, tabulate}
 use Rattle.run_table.specs.Table.{Message, Table, countOf, messageCount, messageOf, processCount}
@@ -75,12 +75,12 @@ afterCheckpoint t i list = record {
 -- ---- rollback
 -- A message stays where it was sent before the line.
 unfoldable pub stays : List ℕ → Message → Bool
-stays l m = ltb (m .sent) (at l (m .sender))
+stays l m = ltb (m .sent) (asLine l (m .sender))
 
 -- One that was received after the line is undelivered again.
 unfoldable pub putBack : List ℕ → Message → Message
 putBack l m =
-    cond (ltb (at l (m .receiver)) (m .received)) (record { sender = m .sender; sent = m .sent; receiver = m .receiver; received = 0 }) m
+    cond (ltb (asLine l (m .receiver)) (m .received)) (record { sender = m .sender; sent = m .sent; receiver = m .receiver; received = 0 }) m
 
 -- The messages that stay, in order.
 unfoldable pub remaining : List ℕ → List Message → List Message

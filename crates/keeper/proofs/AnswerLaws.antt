@@ -14,7 +14,7 @@ use borrow.Author.Tests.{le-ltb, lt-ltb}
 use lib.Dec.{ltb}
 use lib.ListN.{length, drop}
 use Rattle.keeper.specs.Answers.{Yields, answer, bufferAfter, lengthAfter, numberOf, unless}
-use Rattle.run_table.proofs.CheckLaws.{append-passed, areRefusals, caught-first, clear, passed, stopped}
+use Rattle.run_table.proofs.CheckLaws.{append-passed, areRefusals, caught-first, passed, quiet-none, stopped}
 use Rattle.run_table.specs.Checks.{Check, firstCaught}
 use Rattle.run_table.specs.Numbers.{putAt}
 
@@ -30,7 +30,7 @@ sixteen e = absurd (omega (arith, e))
 -- None of these checks catches; each has the number of a refusal.
 pub record Quiet (checks : List Check) : Type 0 where
   pub refusals : areRefusals checks ≡ true
-  pub none : firstCaught checks ≡ 0
+  pub quiet : firstCaught checks ≡ 0
 
 module _ (checks : List Check) (bytes : List ℕ) (room : ℕ) where
   abbrev last : List Check
@@ -50,7 +50,7 @@ module _ (checks : List Check) (bytes : List ℕ) (room : ℕ) where
 
   module _ (quiet : Quiet checks) {size : ℕ} (is : size ≡ length bytes) where
     past : firstCaught (checks ++ last) ≡ firstCaught last
-    past = append-passed checks last (quiet .refusals) (quiet .none)
+    past = append-passed checks last (quiet .refusals) (quiet .quiet)
 
     -- 16 alone catches
     pub too-short : {buffer : List ℕ} {written : ℕ} → room < size → Yields (answer checks bytes room) 16 buffer buffer written written
@@ -61,5 +61,5 @@ module _ (checks : List Check) (bytes : List ℕ) (room : ℕ) where
         → Yields (answer checks bytes room) 0 buffer buffer′ written size
     unfolding answer unless numberOf bufferAfter lengthAfter
     answered enough put =
-        let none : firstCaught (checks ++ last) ≡ 0 = past ∙ passed _ _ _ (le-ltb room (length bytes) (omega arith)) clear in
-        rw none (record { number-is = refl; buffer-is = put ∙ put-in-front _ bytes; length-is = is })
+        let past-all : firstCaught (checks ++ last) ≡ 0 = past ∙ passed _ _ _ (le-ltb room (length bytes) (omega arith)) quiet-none in
+        rw past-all (record { number-is = refl; buffer-is = put ∙ put-in-front _ bytes; length-is = is })

@@ -13,13 +13,13 @@ use lib.Seq.{ext-getD}
 use Rattle.consistency.proofs.CeilingLaws.{ceiling-length, set-below}
 use Rattle.consistency.proofs.LoweringLaws.{line-latest, line-length}
 use Rattle.consistency.specs.Ceilings.{Holders, ceilingOf, lineOf, recoveryLine}
-use Rattle.consistency.specs.Lines.{Latest, at}
+use Rattle.consistency.specs.Lines.{Latest, asLine}
 use Rattle.consistency.specs.Lowering.{lineUnder}
 use Rattle.keeper.proofs.AnswerLaws.{put-in-front}
 use Rattle.keeper.specs.Calls.{HoldsLatest}
 use Rattle.lines.proofs.LineReads.{all-hold}
 use Rattle.process_set.specs.Sets.{allProcesses, member}
-use Rattle.run_table.proofs.AcceptLaws.{accepted}
+use Rattle.run_table.proofs.AcceptLaws.{facts}
 use Rattle.run_table.proofs.ListLaws.{getD-tabulate, length-tabulate}
 use Rattle.run_table.proofs.NumberLaws.{length-u16s, u16At-u16s}
 use Rattle.run_table.specs.Checks.{tableRefusal}
@@ -43,7 +43,7 @@ module _ (table ceiling buffer buffer′ : List ℕ) (size : length ceiling ≡ 
   abbrev line : List ℕ
   line = lineUnder (t .messages) ceiling
 
-  module _ (fits : (p : ℕ) → p < processCount t → at line p < 65536) (put : buffer′ ≡ putAt buffer 0 (u16s line)) where
+  module _ (fits : (p : ℕ) → p < processCount t → asLine line p < 65536) (put : buffer′ ≡ putAt buffer 0 (u16s line)) where
     line-size : length line ≡ processCount t
     line-size = line-length (t .messages) ceiling ∙ size
 
@@ -61,15 +61,15 @@ module _ (table ceiling buffer buffer′ : List ℕ) (size : length ceiling ≡ 
 
     pub answer-latest : HoldsLatest table ceiling buffer′
     unfolding HoldsLatest
-    answer-latest = subst⁻¹ (λ (l : List ℕ). Latest (t .messages) (at ceiling) (at l)) numbers-read (line-latest (t .messages) ceiling)
+    answer-latest = subst⁻¹ (λ (l : List ℕ). Latest (t .messages) (asLine ceiling) (asLine l)) numbers-read (line-latest (t .messages) ceiling)
 
 pub set-holds : (table : List ℕ) → tableRefusal table ≡ 0 → (holds : Holders) (buffer buffer′ : List ℕ)
     → buffer′ ≡ putAt buffer 0 (u16s (lineOf (decode table) holds)) → HoldsLatest table (ceilingOf (decode table) holds) buffer′
 unfolding lineOf
-set-holds table none holds buffer buffer′ put =
+set-holds table accepted holds buffer buffer′ put =
     answer-latest table (ceilingOf (decode table) holds) buffer buffer′ (ceiling-length (decode table) holds)
-    (λ p l. omega (arith, set-below (decode table) holds p, accepted table none .limits .counts-limit p l)) put
+    (λ p l. omega (arith, set-below (decode table) holds p, facts table accepted .limits .counts-limit p l)) put
 
 pub recovery-put : (table : List ℕ) → tableRefusal table ≡ 0 → (buffer buffer′ : List ℕ)
     → buffer′ ≡ putAt buffer 0 (u16s (lineOf (decode table) (member allProcesses))) → buffer′ ≡ putAt buffer 0 (u16s (recoveryLine (decode table)))
-recovery-put table none buffer buffer′ put = put ∙ ap (λ (l : List ℕ). putAt buffer 0 (u16s l)) (all-hold table none)
+recovery-put table accepted buffer buffer′ put = put ∙ ap (λ (l : List ℕ). putAt buffer 0 (u16s l)) (all-hold table accepted)

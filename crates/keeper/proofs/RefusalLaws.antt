@@ -12,7 +12,7 @@ use native.Mathlib.Omega.{arith}
 use borrow.Author.Tests.{le-leb, lt-leb}
 use lib.Dec.{leb}
 use Rattle.keeper.specs.Calls.{onTable}
-use Rattle.run_table.proofs.CheckLaws.{append-passed, caught-first, none-first, table-refusals}
+use Rattle.run_table.proofs.CheckLaws.{append-passed, caught-first, quiet-front, table-refusals}
 use Rattle.run_table.specs.Checks.{Check, firstCaught, tableChecks, tableRefusal}
 
 module _ (table : List ℕ) (own : List Check) where
@@ -22,11 +22,11 @@ module _ (table : List ℕ) (own : List Check) where
 
   pub own-caught : {n : ℕ} → tableRefusal table ≡ 0 → firstCaught own ≡ n → n ≡ firstCaught (onTable table own)
   unfolding tableRefusal
-  own-caught none e = sym (append-passed (tableChecks table) own (table-refusals table) none ∙ e)
+  own-caught accepted e = sym (append-passed (tableChecks table) own (table-refusals table) accepted ∙ e)
 
   pub table-accepted : firstCaught (onTable table own) ≡ 0 → tableRefusal table ≡ 0
   unfolding tableRefusal
-  table-accepted none = none-first (tableChecks table) own none
+  table-accepted quiet = quiet-front (tableChecks table) own quiet
 
 module _ (a b : Bool) where
   pub first-of : a ≡ true → (a || b) ≡ true

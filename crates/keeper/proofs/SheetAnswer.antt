@@ -11,7 +11,7 @@ use Rattle.futures.specs.Sheet.{holderLines}
 use Rattle.keeper.proofs.AnswerLaws.{Quiet, put-in-front}
 use Rattle.keeper.proofs.RefusalLaws.{own-caught}
 use Rattle.keeper.specs.Calls.{keepSheetChecks, linesUnless, scratchAfter}
-use Rattle.run_table.proofs.CheckLaws.{areRefusals, caughtBy, clear, passed, quiet, stopped}
+use Rattle.run_table.proofs.CheckLaws.{areRefusals, caughtBy, passed, quiet-none, quiet-number, stopped}
 use Rattle.run_table.specs.Checks.{firstCaught, tableChecks, tableRefusal}
 use Rattle.run_table.specs.Format.{decode}
 use Rattle.run_table.specs.Numbers.{putAt}
@@ -23,15 +23,15 @@ module _ (table : List ℕ) where
 
   pub long-scratch : (numbers : ℕ) → tableRefusal table ≡ 0 → square ≤ numbers → Quiet (keepSheetChecks table numbers)
   unfolding keepSheetChecks tableChecks areRefusals
-  long-scratch numbers none long = record { refusals = refl; none = sym (own-caught table _ none (passed _ _ 0 (le-ltb numbers square long) clear)) }
+  long-scratch numbers accepted long = record { refusals = refl; quiet = sym (own-caught table _ accepted (passed _ _ 0 (le-ltb numbers square long) quiet-none)) }
 
   pub short-scratch : (numbers : ℕ) → tableRefusal table ≡ 0 → numbers < square → _≡_ {A = ℕ} 15 (firstCaught (keepSheetChecks table numbers))
   unfolding keepSheetChecks
-  short-scratch numbers none short = own-caught table _ none (stopped _ _ (lt-ltb numbers square short))
+  short-scratch numbers accepted short = own-caught table _ accepted (stopped _ _ (lt-ltb numbers square short))
 
   pub scratch-long : (numbers : ℕ) → Quiet (keepSheetChecks table numbers) → square ≤ numbers
   unfolding keepSheetChecks tableChecks caughtBy
-  scratch-long numbers q = ltb-false numbers square (quiet (keepSheetChecks table numbers) (q .refusals) (q .none) 15)
+  scratch-long numbers q = ltb-false numbers square (quiet-number (keepSheetChecks table numbers) (q .refusals) (q .quiet) 15)
 
   module _ (scratch : List ℕ) where
     pub scratch-kept : (r : ℕ) → r ≡ firstCaught (keepSheetChecks table (length scratch)) → (r ≡ 0 → ⊥) → scratch ≡ scratchAfter table scratch
@@ -43,4 +43,4 @@ module _ (table : List ℕ) where
         → after ≡ scratchAfter table scratch
     unfolding scratchAfter linesUnless
     scratch-filled q after put =
-        put ∙ put-in-front scratch (holderLines (decode table)) ∙ sym (ap (λ (r : ℕ). linesUnless r (holderLines (decode table)) scratch) (q .none))
+        put ∙ put-in-front scratch (holderLines (decode table)) ∙ sym (ap (λ (r : ℕ). linesUnless r (holderLines (decode table)) scratch) (q .quiet))

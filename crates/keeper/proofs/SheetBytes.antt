@@ -18,7 +18,7 @@ use Rattle.futures.specs.Sheet.{Checkpoint, keptCheckpoints, keptMessages, shee
 use Rattle.keeper.proofs.AnswerLaws.{put-in-front}
 use Rattle.keeper.specs.Calls.{HoldsSheet, ListsCheckpoint, ListsMessage}
 use Rattle.sheet_writer.proofs.SheetReads.{kept-few}
-use Rattle.run_table.proofs.AcceptLaws.{accepted}
+use Rattle.run_table.proofs.AcceptLaws.{facts}
 use Rattle.run_table.proofs.NumberLaws.{u16At-u16s}
 use Rattle.run_table.proofs.ReadLaws.{messages-few, processes-few}
 use Rattle.run_table.specs.Checks.{tableRefusal}
@@ -26,7 +26,7 @@ use Rattle.run_table.specs.Format.{decode}
 use Rattle.run_table.specs.Numbers.{putAt, u16At}
 use Rattle.run_table.specs.Table.{Table, countOf, messageCount, mostCheckpoints, mostProcesses, processCount}
 
-module _ (table : List ℕ) (none : tableRefusal table ≡ 0) (before after : List ℕ) (put : after ≡ putAt before 0 (sheet (decode table))) where
+module _ (table : List ℕ) (accepted : tableRefusal table ≡ 0) (before after : List ℕ) (put : after ≡ putAt before 0 (sheet (decode table))) where
   abbrev t : Table
   t = decode table
 
@@ -58,17 +58,17 @@ module _ (table : List ℕ) (none : tableRefusal table ≡ 0) (before after : Li
       ap (λ (b : List ℕ). u16At b (2 * p)) (put ∙ put-in-front before (sheet t)) ∙ u16At-u16s ns (drop (length (sheet t)) before) p l (omega (arith, e)) ∙ e
 
   pub read-kept : u16At after 0 ≡ length ks
-  read-kept = read 0 (length ks) (omega (arith, size)) refl (omega (arith, kept-few table none .0))
+  read-kept = read 0 (length ks) (omega (arith, size)) refl (omega (arith, kept-few table accepted .0))
 
   pub read-logged : u16At after 2 ≡ length qs
-  read-logged = read 1 (length qs) (omega (arith, size)) refl (omega (arith, kept-few table none .1))
+  read-logged = read 1 (length qs) (omega (arith, size)) refl (omega (arith, kept-few table accepted .1))
 
   -- a checkpoint of the list has small numbers
   small : (x : Checkpoint) → Listed x ks → (x .process < mostProcesses) × (x .number < mostCheckpoints)
   small x h =
       let below : x .number < countOf t (x .process) = keeps-checkpoint t (x .process) (x .number) .0 (checkpoints-listed t (x .process) (x .number) .0 h) .0 in
       let known : x .process < processCount t = known-process t (x .process) (x .number) below in
-      (omega (arith, processes-few table none), omega (arith, accepted table none .limits .counts-limit (x .process) known))
+      (omega (arith, processes-few table accepted), omega (arith, facts table accepted .limits .counts-limit (x .process) known))
 
   module _ (n : ℕ) (d : Checkpoint) (l : n < length ks) where
     pub read-process : u16At after (4 + 2 * n) ≡ getD ks n d .process
@@ -93,10 +93,10 @@ module _ (table : List ℕ) (none : tableRefusal table ≡ 0) (before after : Li
         let inside : getD qs n d < messageCount t = messages-listed t (getD qs n d) .0 (listed-at qs n d l) .0 in
         ap (u16At after) (omega (arith, read-kept, sizes .0, sizes .1))
         ∙ read (suc (suc (length ps + (length ss + n)))) (getD qs n d) (omega (arith, size, sizes .0, sizes .1))
-        (getD-append-add ps (ss ++ qs) (length ss + n) 0 ∙ getD-append-add ss qs n 0 ∙ any-default qs n 0 d l) (omega (arith, messages-few table none))
+        (getD-append-add ps (ss ++ qs) (length ss + n) 0 ∙ getD-append-add ss qs n 0 ∙ any-default qs n 0 d l) (omega (arith, messages-few table accepted))
 
   abbrev demand : Demand3 t
-  demand = demand-3 t (accepted table none .well-formed)
+  demand = demand-3 t (facts table accepted .well-formed)
 
   abbrev entry : ℕ → ℕ → Checkpoint
   entry i c = record { process = i; number = c }

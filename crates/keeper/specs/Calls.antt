@@ -6,7 +6,7 @@ use Prim.Native.Nat.{ℕ, zero, suc, _+_, _*_, _<_}
 use lib.Dec.{leb, ltb}
 use lib.ListN.{length, take, drop}
 use Rattle.consistency.specs.Ceilings.{lineOf, recoveryLine}
-use Rattle.consistency.specs.Lines.{Latest, at}
+use Rattle.consistency.specs.Lines.{Latest, asLine}
 use Rattle.futures.specs.Futures.{CheckpointNeeded, MessageNeeded}
 use Rattle.futures.specs.Sheet.{holderLines, sheet}
 use Rattle.futures.specs.Steps.{afterCheckpoint, afterRollback, afterSend, checkpointChecks, sendChecks}
@@ -38,7 +38,7 @@ lineOfSetAnswer table set room = answer (lineOfSetChecks table set) (u16s (lineO
 -- The line that an answer's first N numbers give is the latest consistent one, of the table's messages, under this ceiling.
 unfoldable pub HoldsLatest : List ℕ → List ℕ → List ℕ → Type 0
 HoldsLatest table ceiling buffer =
-    Latest (decode table .messages) (at ceiling) (at (tabulate (processCount (decode table)) (λ p. u16At buffer (2 * p))))
+    Latest (decode table .messages) (asLine ceiling) (asLine (tabulate (processCount (decode table)) (λ p. u16At buffer (2 * p))))
 
 -- ---- the steps
 -- The checks of a send: the table's; 10 and 11; 14, that M is 4,096 already.
@@ -51,17 +51,17 @@ unfoldable pub sendAnswer : List ℕ → ℕ → ℕ → ℕ → Answer
 sendAnswer table from to room = answer (sendCallChecks table from to) (encode (afterSend (decode table) from to)) room
 
 -- The checks of a checkpoint: the table's; 10 and 13; 14, that the count of the process is 4,096 already.
-unfoldable pub saveCallChecks : List ℕ → ℕ → List ℕ → List Check
-saveCallChecks table process list =
+unfoldable pub checkpointCallChecks : List ℕ → ℕ → List ℕ → List Check
+checkpointCallChecks table process list =
     onTable table (checkpointChecks (decode table) process list ++ (record { caught = leb mostCheckpoints (countOf (decode table) process); number = 14 } ∷ []))
 
 -- The table after a checkpoint: these, and 16.
-unfoldable pub saveAnswer : List ℕ → ℕ → List ℕ → ℕ → Answer
-saveAnswer table process list room = answer (saveCallChecks table process list) (encode (afterCheckpoint (decode table) process list)) room
+unfoldable pub checkpointAnswer : List ℕ → ℕ → List ℕ → ℕ → Answer
+checkpointAnswer table process list room = answer (checkpointCallChecks table process list) (encode (afterCheckpoint (decode table) process list)) room
 
 -- The table after a rollback: the table's checks, 16.
-unfoldable pub fallBackAnswer : List ℕ → ℕ → Answer
-fallBackAnswer table room = answer (tableChecks table) (encode (afterRollback (decode table))) room
+unfoldable pub rollbackAnswer : List ℕ → ℕ → Answer
+rollbackAnswer table room = answer (tableChecks table) (encode (afterRollback (decode table))) room
 
 -- The first bytes of a buffer are an accepted table, and they read as this one.
 pub record HoldsTable (t : Table) (buffer : List ℕ) (size : ℕ) : Type 0 where

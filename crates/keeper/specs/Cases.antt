@@ -4,7 +4,7 @@ use mathlib.Core.List.{List, [], _∷_, _++_}
 use Prim.Native.Nat.{ℕ}
 use lib.Dec.{eqb}
 use Rattle.keeper.specs.Answers.{Answer, answered, refused, unless}
-use Rattle.keeper.specs.Calls.{fallBackAnswer, keepSheetAnswer, lineOfSetAnswer, recoveryLineAnswer}
+use Rattle.keeper.specs.Calls.{keepSheetAnswer, lineOfSetAnswer, recoveryLineAnswer, rollbackAnswer}
 use Rattle.run_table.specs.Checks.{tableRefusal}
 use Rattle.run_table.specs.Numbers.{u16s}
 
@@ -46,7 +46,7 @@ unfoldable pub answerOf : List ℕ → Call → Answer
 answerOf table checkTable = unless (tableRefusal table) []
 answerOf table recoveryLine = recoveryLineAnswer table 1000
 answerOf table (hold set) = lineOfSetAnswer table set 1000
-answerOf table fallBack = fallBackAnswer table 1000
+answerOf table fallBack = rollbackAnswer table 1000
 answerOf table keepSheet = keepSheetAnswer table 4 1000
 
 -- ---- whether a case holds

@@ -8,7 +8,7 @@ pub mod refusals;
 pub mod sizes;
 
 use lines::recovery_line;
-use refusals::save_refusal;
+use refusals::checkpoint_refusal;
 use refusals::send_refusal;
 use refusals::set_refusal;
 use refusals::sheet_refusal;
@@ -19,9 +19,9 @@ use sheet_writer::count_checkpoints;
 use sheet_writer::count_messages;
 use sheet_writer::fill_lines;
 use sheet_writer::put_sheet;
+use sizes::checkpoint_size;
 use sizes::line_size;
 use sizes::rollback_size;
-use sizes::save_size;
 use sizes::send_size;
 use sizes::sheet_size;
 use steps::checkpoint::put_checkpoint;
@@ -34,7 +34,7 @@ ghost use Rattle.consistency.specs.Ceilings.{ceilingOf};
 ghost use Rattle.futures.specs.Steps.{checkpoint, rollback, send, step};
 ghost use Rattle.keeper.specs.Answers.{Yields};
 ghost use Rattle.keeper.specs.Calls.{HoldsLatest, HoldsSheet, HoldsTable, scratchAfter};
-ghost use Rattle.keeper.specs.Calls.{fallBackAnswer, keepSheetAnswer, lineOfSetAnswer, recoveryLineAnswer, saveAnswer, sendAnswer};
+ghost use Rattle.keeper.specs.Calls.{checkpointAnswer, keepSheetAnswer, lineOfSetAnswer, recoveryLineAnswer, rollbackAnswer, sendAnswer};
 ghost use Rattle.process_set.specs.Sets.{member};
 ghost use Rattle.run_table.specs.Checks.{tableRefusal};
 ghost use Rattle.run_table.specs.Format.{decode};
@@ -131,16 +131,16 @@ pub extern "C" fn keeper_save(
     answer: &mut [u8],
     written: &mut usize,
 ) -> u32
-    ensures outcome { λ r. ⌜ Yields (saveAnswer (now (table .entry)) process (now (list .entry)) (length (now (answer .entry)))) r
+    ensures outcome { λ r. ⌜ Yields (checkpointAnswer (now (table .entry)) process (now (list .entry)) (length (now (answer .entry)))) r
         (now (answer .entry)) (now (answer .exit)) (now (written .entry)) (now (written .exit)) ⌝ }
     ensures table { λ (r : ℕ). ⌜ (r ≡ 0 → HoldsTable (step (decode (now (table .entry))) (checkpoint process (now (list .entry))))
         (now (answer .exit)) (now (written .exit))) ⌝ }
 {
-    let refusal = save_refusal(table, process, list);
+    let refusal = checkpoint_refusal(table, process, list);
     if refusal != 0 {
         return refusal;
     }
-    let size = save_size(table);
+    let size = checkpoint_size(table);
     if answer.len() < size {
         return 16;
     }
@@ -152,7 +152,7 @@ pub extern "C" fn keeper_save(
 // The table after a rollback (fall back) of the whole run to its recovery line.
 #[no_mangle]
 pub extern "C" fn keeper_fall_back(table: &[u8], answer: &mut [u8], written: &mut usize) -> u32
-    ensures outcome { λ r. ⌜ Yields (fallBackAnswer (now (table .entry)) (length (now (answer .entry)))) r
+    ensures outcome { λ r. ⌜ Yields (rollbackAnswer (now (table .entry)) (length (now (answer .entry)))) r
         (now (answer .entry)) (now (answer .exit)) (now (written .entry)) (now (written .exit)) ⌝ }
     ensures table { λ (r : ℕ). ⌜ (r ≡ 0 → HoldsTable (step (decode (now (table .entry))) rollback)
         (now (answer .exit)) (now (written .exit))) ⌝ }

@@ -9,7 +9,7 @@ use run_table::parts;
 use steps::checkpoint::bad_position;
 use steps::checkpoint::not_rising;
 ghost use mathlib.Core.Path.{_≡_};
-ghost use Rattle.keeper.specs.Calls.{keepSheetChecks, lineOfSetChecks, saveCallChecks, sendCallChecks};
+ghost use Rattle.keeper.specs.Calls.{checkpointCallChecks, keepSheetChecks, lineOfSetChecks, sendCallChecks};
 ghost use Rattle.run_table.specs.Checks.{firstCaught};
 
 // The line of a set: the table's checks, 12.
@@ -51,8 +51,8 @@ pub fn send_refusal(table: &[u8], from: u16, to: u16) -> u32
 }
 
 // A checkpoint: the table's checks, 10, 13, 14.
-pub fn save_refusal(table: &[u8], process: u16, list: &[u16]) -> u32
-    ensures { λ r. ⌜ r ≡ firstCaught (saveCallChecks (now (table .entry)) process (now (list .entry))) ⌝ }
+pub fn checkpoint_refusal(table: &[u8], process: u16, list: &[u16]) -> u32
+    ensures { λ r. ⌜ r ≡ firstCaught (checkpointCallChecks (now (table .entry)) process (now (list .entry))) ⌝ }
 {
     let refusal = check(table);
     if refusal != 0 {

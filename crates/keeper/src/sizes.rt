@@ -30,7 +30,7 @@ pub fn send_size(table: &[u8]) -> usize
 }
 
 // The table after a checkpoint, whichever it is: as long as it was.
-pub fn save_size(table: &[u8]) -> usize
+pub fn checkpoint_size(table: &[u8]) -> usize
     requires { ⌜ tableRefusal (now table) ≡ 0 ⌝ }
     ensures { λ (r : ℕ). ⌜ ((process : ℕ) (list : List ℕ) → r ≡ length (encode (afterCheckpoint (decode (now (table .entry))) process list))) ⌝ }
 {

@@ -18,7 +18,7 @@ use Rattle.consistency.proofs.CeilingLaws.{all-zero, ceiling-at, ceiling-length
 use Rattle.consistency.proofs.LineLaws.{latest-same}
 use Rattle.consistency.proofs.LoweringLaws.{line-is, line-latest, line-length}
 use Rattle.consistency.specs.Ceilings.{ceilingOf, lineOf, recoveryLine}
-use Rattle.consistency.specs.Lines.{at}
+use Rattle.consistency.specs.Lines.{asLine}
 use Rattle.consistency.specs.Lowering.{lineUnder}
 use Rattle.lines.specs.Arrays.{heightAt, messagesOf}
 use Rattle.process_set.proofs.SetLaws.{all-member}
@@ -37,7 +37,7 @@ use Rattle.run_table.specs.Table.{Message, countOf, messageCount, processCount}
 pub array-line : (ms : List Message) (c : List ℕ) → length c ≤ 32 → lineUnder ms (arrayOf c) ≡ arrayOf (lineUnder ms c)
 array-line ms c small =
     sym (line-is ms (arrayOf c) (arrayOf (lineUnder ms c)) (array-length (lineUnder ms c) ∙ sym (array-length c))
-    (latest-same ms (at c) (at (arrayOf c)) (at (lineUnder ms c)) (at (arrayOf (lineUnder ms c))) (λ p. sym (array-at c small p))
+    (latest-same ms (asLine c) (asLine (arrayOf c)) (asLine (lineUnder ms c)) (asLine (arrayOf (lineUnder ms c))) (λ p. sym (array-at c small p))
     (λ p. sym (array-at (lineUnder ms c) (subst⁻¹ (λ (x : ℕ). x ≤ 32) (line-length ms c) small) p)) (line-latest ms c)))
 
 module _ (n set : ℕ) (counts : List ℕ) (p : ℕ) where
@@ -57,18 +57,18 @@ height-read n set counts p count r holds l read is-held e =
     e ∙ ap₂ (λ (b : Bool) (c : ℕ). cond b (c - 1) c) is-held read ∙ sym (height-in n set counts p l)
 
 -- ---- the line that the code finds in an accepted table
-module _ (bytes : List ℕ) (none : tableRefusal bytes ≡ 0) where
+module _ (bytes : List ℕ) (accepted : tableRefusal bytes ≡ 0) where
   abbrev N : ℕ
   N = processCount (decode bytes)
 
-  height-is : (set p : ℕ) → heightAt N set (countsPart bytes) p ≡ at (ceilingOf (decode bytes) (member set)) p
+  height-is : (set p : ℕ) → heightAt N set (countsPart bytes) p ≡ asLine (ceilingOf (decode bytes) (member set)) p
   height-is set p = go (decLt p N) ∙ sym (ceiling-at (decode bytes) (member set) p)
     where
       wanted : ℕ → ℕ
       wanted c = cond (member set p) (c - 1) c
 
       go : Dec (p < N) → heightAt N set (countsPart bytes) p ≡ wanted (countOf (decode bytes) p)
-      go (yes l) = height-in N set (countsPart bytes) p l ∙ ap wanted (count-is bytes none p l)
+      go (yes l) = height-in N set (countsPart bytes) p l ∙ ap wanted (count-is bytes accepted p l)
       go (no l) =
           height-beyond N set (countsPart bytes) p (omega arith)
           ∙ sym (all-zero (member set p) (countOf (decode bytes) p) (count-beyond (decode bytes) p (omega arith)))
@@ -76,7 +76,7 @@ module _ (bytes : List ℕ) (none : tableRefusal bytes ≡ 0) where
   -- the ceiling: what the code must show of what it read, and what it has found
   module _ (n : ℕ) (counts : List ℕ) (read-n : n ≡ N) (read-c : counts ≡ countsPart bytes) where
     pub ceiling-needs : (n ≤ 32) × ((length counts ≡ 2 * n) × ((p : ℕ) → p < n → 0 < countAt counts p))
-    ceiling-needs = rw (read-n, read-c) (processes-few bytes none, (counts-size bytes none, counts-positive bytes none))
+    ceiling-needs = rw (read-n, read-c) (processes-few bytes accepted, (counts-size bytes accepted, counts-positive bytes accepted))
 
     pub ceiling-read : (set : ℕ) → tabulate 32 (heightAt n set counts) ≡ arrayOf (ceilingOf (decode bytes) (member set))
     unfolding arrayOf
@@ -93,10 +93,10 @@ module _ (bytes : List ℕ) (none : tableRefusal bytes ≡ 0) where
         × ((length receipts ≡ 4 * m) × (((k : ℕ) → k < m → processAt sends k < 32) × ((k : ℕ) → k < m → processAt receipts k < 32)))
     lower-needs =
         rw (read-m, read-s, read-r) (
-          sends-size bytes none,
+          sends-size bytes accepted,
           (
-            receipts-size bytes none,
-            ((λ k l. omega (arith, senders-known bytes none k l, processes-few bytes none)), (λ k l. omega (arith, receivers-known bytes none k l, processes-few bytes none))),
+            receipts-size bytes accepted,
+            ((λ k l. omega (arith, senders-known bytes accepted k l, processes-few bytes accepted)), (λ k l. omega (arith, receivers-known bytes accepted k l, processes-few bytes accepted))),
           ),
         )
 
@@ -106,7 +106,7 @@ module _ (bytes : List ℕ) (none : tableRefusal bytes ≡ 0) where
   -- the line of a set, under its ceiling; the numbers of an answer
   module _ (set : ℕ) where
     few : length (ceilingOf (decode bytes) (member set)) ≤ 32
-    few = subst⁻¹ (λ (x : ℕ). x ≤ 32) (ceiling-length (decode bytes) (member set)) (processes-few bytes none)
+    few = subst⁻¹ (λ (x : ℕ). x ≤ 32) (ceiling-length (decode bytes) (member set)) (processes-few bytes accepted)
 
     pub set-read : lineUnder (decode bytes .messages) (arrayOf (ceilingOf (decode bytes) (member set))) ≡ arrayOf (lineOf (decode bytes) (member set))
     unfolding lineOf
@@ -115,11 +115,11 @@ module _ (bytes : List ℕ) (none : tableRefusal bytes ≡ 0) where
     pub set-front : (line : List ℕ) → line ≡ arrayOf (lineOf (decode bytes) (member set)) → take N line ≡ lineOf (decode bytes) (member set)
     set-front line e =
         let size = set-length (decode bytes) (member set) in
-        array-front (lineOf (decode bytes) (member set)) line N e (sym size) (subst⁻¹ (λ (x : ℕ). x ≤ 32) size (processes-few bytes none))
+        array-front (lineOf (decode bytes) (member set)) line N e (sym size) (subst⁻¹ (λ (x : ℕ). x ≤ 32) size (processes-few bytes accepted))
 
 pub all-hold : (bytes : List ℕ) → tableRefusal bytes ≡ 0 → lineOf (decode bytes) (member allProcesses) ≡ recoveryLine (decode bytes)
 unfolding recoveryLine lineOf ceilingOf
-all-hold bytes none =
+all-hold bytes accepted =
     ap (lineUnder (decode bytes .messages))
     (tabulate-ext (processCount (decode bytes)) _ _
-    (λ p l. ap (λ (b : Bool). cond b (countOf (decode bytes) p - 1) (countOf (decode bytes) p)) (all-member p (omega (arith, processes-few bytes none)))))
+    (λ p l. ap (λ (b : Bool). cond b (countOf (decode bytes) p - 1) (countOf (decode bytes) p)) (all-member p (omega (arith, processes-few bytes accepted)))))

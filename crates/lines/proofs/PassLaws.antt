@@ -13,7 +13,7 @@ use native.Mathlib.Nat.{le-refl}
 use native.Mathlib.Omega.{arith}
 use lib.ListN.{length, getD, set, length-set, List·getD-eq-default}
 use Rattle.consistency.proofs.LoweringLaws.{line-consistent, line-put-back, put-back-falls}
-use Rattle.consistency.specs.Lines.{Consistent, Orphan, at}
+use Rattle.consistency.specs.Lines.{Consistent, Orphan, asLine}
 use Rattle.consistency.specs.Lowering.{lineUnder}
 use Rattle.lines.specs.Arrays.{messagesOf}
 use Rattle.run_table.proofs.CodingLaws.{message-path}
@@ -31,7 +31,7 @@ pub record Passing (ms : List Message) (m : ℕ) (start line : List ℕ) (lowere
   pub same-size : length line ≡ length start
   pub same-line : lineUnder ms line ≡ lineUnder ms start
   pub unchanged : lowered ≡ false → line ≡ start
-  pub no-orphans : lowered ≡ false → (j : ℕ) → k ≤ j → j < m → Orphan (getD ms j noMessage) (at line) → ⊥
+  pub no-orphans : lowered ≡ false → (j : ℕ) → k ≤ j → j < m → Orphan (getD ms j noMessage) (asLine line) → ⊥
   pub falls : lowered ≡ true → sum line < sum start
 
 module _ (ms : List Message) (m : ℕ) (start : List ℕ) where
@@ -46,7 +46,7 @@ module _ (ms : List Message) (m : ℕ) (start : List ℕ) where
   }
 
   module _ (line : List ℕ) (lowered : Bool) (k : ℕ) (p : Passing ms m start line lowered k) (pos : 0 < k) where
-    pub pass-skips : (Orphan (getD ms (k - 1) noMessage) (at line) → ⊥) → Passing ms m start line lowered (k - 1)
+    pub pass-skips : (Orphan (getD ms (k - 1) noMessage) (asLine line) → ⊥) → Passing ms m start line lowered (k - 1)
     pass-skips none = record {
       within = omega (arith, p .within);
       same-size = p .same-size;
@@ -56,11 +56,11 @@ module _ (ms : List Message) (m : ℕ) (start : List ℕ) where
       falls = p .falls;
     }
       where
-        by-place : (j : ℕ) → k - 1 ≤ j → j < m → lowered ≡ false → Dec (j ≡ k - 1) → Orphan (getD ms j noMessage) (at line) → ⊥
-        by-place j l l′ e (yes h) = subst⁻¹ (λ (i : ℕ). Orphan (getD ms i noMessage) (at line) → ⊥) h none
+        by-place : (j : ℕ) → k - 1 ≤ j → j < m → lowered ≡ false → Dec (j ≡ k - 1) → Orphan (getD ms j noMessage) (asLine line) → ⊥
+        by-place j l l′ e (yes h) = subst⁻¹ (λ (i : ℕ). Orphan (getD ms i noMessage) (asLine line) → ⊥) h none
         by-place j l l′ e (no h) = p .no-orphans e j (omega arith) l′
 
-    pub pass-lowers : (x : Message) → getD ms (k - 1) noMessage ≡ x → Orphan x (at line) → Passing ms m start (set line (x .receiver) (x .received - 1)) true (k - 1)
+    pub pass-lowers : (x : Message) → getD ms (k - 1) noMessage ≡ x → Orphan x (asLine line) → Passing ms m start (set line (x .receiver) (x .received - 1)) true (k - 1)
     pass-lowers x e o = record {
       within = omega (arith, p .within);
       same-size = length-set line (x .receiver) (x .received - 1) ∙ p .same-size;
@@ -82,13 +82,13 @@ module _ (ms : List Message) (m : ℕ) (start : List ℕ) where
       → line ≡ lineUnder ms start
   pass-ends e line lowered k p z f = line-consistent ms line consistent ∙ p .same-line
     where
-      by-place : (j : ℕ) → Dec (j < m) → Orphan (getD ms j noMessage) (at line) → ⊥
+      by-place : (j : ℕ) → Dec (j < m) → Orphan (getD ms j noMessage) (asLine line) → ⊥
       by-place j (yes l) o = p .no-orphans f j (omega arith) l o
       by-place j (no l) o =
           let beyond : length ms ≤ j = omega (arith, e) in
           omega (arith, o .delivered, ap (λ (x : Message). x .received) (List·getD-eq-default ms noMessage beyond))
 
-      consistent : Consistent ms (at line)
+      consistent : Consistent ms (asLine line)
       consistent j = by-place j (decLt j m)
 
 -- ---- the message that the code read
@@ -103,10 +103,10 @@ module _ (m : ℕ) (sends receipts : List ℕ) (k j y i r : ℕ) (l : k < m)
 
   module _ (line : List ℕ) where
     abbrev Free : Type 0
-    Free = Orphan (getD (messagesOf m sends receipts) k noMessage) (at line) → ⊥
+    Free = Orphan (getD (messagesOf m sends receipts) k noMessage) (asLine line) → ⊥
 
-    free : (Orphan here (at line) → ⊥) → Free
-    free f = subst⁻¹ (λ (x : Message). Orphan x (at line) → ⊥) message-read f
+    free : (Orphan here (asLine line) → ⊥) → Free
+    free f = subst⁻¹ (λ (x : Message). Orphan x (asLine line) → ⊥) message-read f
 
     pub undelivered : r ≡ 0 → Free
     undelivered e = free (λ o. omega (arith, o .delivered))
@@ -117,7 +117,7 @@ module _ (m : ℕ) (sends receipts : List ℕ) (k j y i r : ℕ) (l : k < m)
     pub received-after : getD line i 0 < r → Free
     received-after h = free (λ o. omega (arith, o .received-before))
 
-    pub orphan : (r ≡ 0 → ⊥) → getD line j 0 ≤ y → r ≤ getD line i 0 → Orphan here (at line)
+    pub orphan : (r ≡ 0 → ⊥) → getD line j 0 ≤ y → r ≤ getD line i 0 → Orphan here (asLine line)
     orphan d s b = record { delivered = omega arith; sent-after = s; received-before = b }
 
 pub messages-length : (m : ℕ) (sends receipts : List ℕ) → length (messagesOf m sends receipts) ≡ m

@@ -20,13 +20,13 @@ use lib.ListN.{length, set, replicate}
 use Rattle.consistency.proofs.CeilingLaws.{ceiling-at, orphan-in}
 use Rattle.consistency.proofs.LoweringLaws.{line-consistent}
 use Rattle.consistency.specs.Ceilings.{Holders, ceilingOf, lineOf}
-use Rattle.consistency.specs.Lines.{Orphan, at}
+use Rattle.consistency.specs.Lines.{Orphan, asLine}
 use Rattle.lines.specs.Propagation.{orphaned, propagatesFrom}
 use Rattle.process_set.proofs.SetLaws.{member-one}
 use Rattle.process_set.specs.Sets.{member}
-use Rattle.run_table.proofs.AcceptLaws.{accepted}
+use Rattle.run_table.proofs.AcceptLaws.{facts}
 use Rattle.run_table.proofs.ListLaws.{anyBelow-found, set-tabulate, tabulate-ext}
-use Rattle.run_table.proofs.ReadLaws.{count-is, counts-size, message-good, received-read, receipts-size, sender-read, sends-size, sent-read}
+use Rattle.run_table.proofs.ReadLaws.{count-is, counts-size, message-good, receipts-size, received-read, sender-read, sends-size, sent-read}
 use Rattle.run_table.specs.Checks.{WellFormed, tableRefusal}
 use Rattle.run_table.specs.Format.{countAt, countsPart, decode, receiptsPart, sendsPart}
 use Rattle.run_table.specs.Lists.{anyBelow, tabulate}
@@ -76,20 +76,20 @@ module _ (t : Table) where
 -- ---- what the code read
 -- The parts of an accepted table, as the code read them.
 pub record Parts (bytes counts sends receipts : List ℕ) : Type 0 where
-  pub none : tableRefusal bytes ≡ 0
+  pub accepted : tableRefusal bytes ≡ 0
   pub read-c : counts ≡ countsPart bytes
   pub read-s : sends ≡ sendsPart bytes
   pub read-r : receipts ≡ receiptsPart bytes
 
 module _ {bytes counts sends receipts : List ℕ} (parts : Parts bytes counts sends receipts) where
   pub counts-length : length counts ≡ 2 * processCount (decode bytes)
-  counts-length = ap length (parts .read-c) ∙ counts-size bytes (parts .none)
+  counts-length = ap length (parts .read-c) ∙ counts-size bytes (parts .accepted)
 
   pub sends-length : length sends ≡ 4 * messageCount (decode bytes)
-  sends-length = ap length (parts .read-s) ∙ sends-size bytes (parts .none)
+  sends-length = ap length (parts .read-s) ∙ sends-size bytes (parts .accepted)
 
   pub receipts-length : length receipts ≡ 4 * messageCount (decode bytes)
-  receipts-length = ap length (parts .read-r) ∙ receipts-size bytes (parts .none)
+  receipts-length = ap length (parts .read-r) ∙ receipts-size bytes (parts .accepted)
 
 -- a message, from the numbers that the code read
 module _ {bytes counts sends receipts : List ℕ} (parts : Parts bytes counts sends receipts)
@@ -98,25 +98,25 @@ module _ {bytes counts sends receipts : List ℕ} (parts : Parts bytes counts se
   T = decode bytes
 
   pub sender-is : sender ≡ messageOf T k .sender
-  sender-is = sender-read bytes (parts .none) k l sends sender (parts .read-s) read-sender
+  sender-is = sender-read bytes (parts .accepted) k l sends sender (parts .read-s) read-sender
 
   pub sender-known : sender < processCount T
-  sender-known = omega (arith, sender-is, message-good bytes (parts .none) k l .sender-known)
+  sender-known = omega (arith, sender-is, message-good bytes (parts .accepted) k l .sender-known)
 
   module _ {count sent : ℕ} (read-count : count ≡ u16At counts (2 * sender)) (read-sent : sent ≡ u16At sends (4 * k + 2)) where
     count-of : count ≡ countOf T sender
     unfolding countAt
-    count-of = read-count ∙ ap (λ (part : List ℕ). u16At part (2 * sender)) (parts .read-c) ∙ count-is bytes (parts .none) sender sender-known
+    count-of = read-count ∙ ap (λ (part : List ℕ). u16At part (2 * sender)) (parts .read-c) ∙ count-is bytes (parts .accepted) sender sender-known
 
     pub count-positive : 0 < count
-    count-positive = omega (arith, count-of, accepted bytes (parts .none) .well-formed .some-checkpoint sender sender-known)
+    count-positive = omega (arith, count-of, facts bytes (parts .accepted) .well-formed .some-checkpoint sender sender-known)
 
     -- with the receipt number, as it was read or is in the part
     orphaned-is : (received : ℕ) → received ≡ u16At receipts (4 * k + 2) → orphaned T (messageOf T k) ≡ (leb (count - 1) sent && ltb 0 received)
     unfolding orphaned
     orphaned-is received e =
-        let r = received-read bytes (parts .none) k l receipts received (parts .read-r) e in
-        let y = sent-read bytes (parts .none) k l sends sent (parts .read-s) read-sent in
+        let r = received-read bytes (parts .accepted) k l receipts received (parts .read-r) e in
+        let y = sent-read bytes (parts .accepted) k l sends sent (parts .read-s) read-sent in
         rw (← r, ← y, ← sender-is, ← count-of)
 
     pub sent-before : sent < count - 1 → orphaned T (messageOf T k) ≡ false
@@ -137,7 +137,7 @@ module _ (t : Table) (w : WellFormed t) where
   unfolding lineOf messageOf propagatesFrom orphaned
   line-is-ceiling holds none = sym (line-consistent (t .messages) (ceilingOf t holds) (λ k o. go k o (holds (messageOf t k .sender)) refl))
     where
-      go : (k : ℕ) → Orphan (messageOf t k) (at (ceilingOf t holds)) → (b : Bool) → holds (messageOf t k .sender) ≡ b → ⊥
+      go : (k : ℕ) → Orphan (messageOf t k) (asLine (ceilingOf t holds)) → (b : Bool) → holds (messageOf t k .sender) ≡ b → ⊥
       go k o true e =
           let m = messageOf t k in
           let last : countOf t (m .sender) - 1 ≤ m .sent = omega (arith, o .sent-after, rw e at (ceiling-at t holds (m .sender))) in
@@ -149,6 +149,6 @@ module _ (t : Table) (w : WellFormed t) where
 
 pub holder-ceiling : (bytes : List ℕ) → tableRefusal bytes ≡ 0 → (k : ℕ) → propagatesFrom (decode bytes) k ≡ false
     → ceilingOf (decode bytes) (member (2 ^ k)) ≡ lineOf (decode bytes) (member (2 ^ k))
-holder-ceiling bytes none k e =
-    sym (line-is-ceiling (decode bytes) (accepted bytes none .well-formed) (member (2 ^ k))
+holder-ceiling bytes accepted k e =
+    sym (line-is-ceiling (decode bytes) (facts bytes accepted .well-formed) (member (2 ^ k))
     (λ p h. ap (propagatesFrom (decode bytes)) (eqb-true p k (sym (member-one k p) ∙ h)) ∙ e))

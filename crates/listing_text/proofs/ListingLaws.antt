@@ -16,11 +16,11 @@ use lib.ListN.{length, take, drop, getD, length-append, length-drop, length-take
 use lib.Seq.{getD-drop, take-append-seam}
 use Rattle.consistency.proofs.CeilingLaws.{set-length}
 use Rattle.consistency.specs.Ceilings.{recoveryLine}
-use Rattle.consistency.specs.Lines.{at}
+use Rattle.consistency.specs.Lines.{asLine}
 use Rattle.futures.specs.Sheet.{Checkpoint, holderLine, holderLines, keptCheckpoints, keptMessages, sheet}
 use Rattle.keeper.proofs.AnswerLaws.{Quiet, answered, put-in-front, refused, too-short}
 use Rattle.keeper.proofs.RefusalLaws.{table-caught}
-use Rattle.keeper.proofs.SheetBytes.{read-kept, read-logged, read-position, read-process, read-checkpoint}
+use Rattle.keeper.proofs.SheetBytes.{read-checkpoint, read-kept, read-logged, read-position, read-process}
 use Rattle.keeper.proofs.SheetAnswer.{long-scratch, scratch-filled}
 use Rattle.keeper.specs.Answers.{Yields, answer, bufferAfter, lengthAfter, numberOf, unless}
 use Rattle.keeper.specs.Calls.{keepSheetAnswer, keepSheetChecks, scratchAfter}
@@ -31,9 +31,9 @@ use Rattle.listing_text.specs.Rows.{Answered, checkpointAt, checkpointRo
 use Rattle.listing_text.specs.Text.{Laid, each, overlay}
 use Rattle.sheet_writer.proofs.SheetReads.{entry-is, holder-length, kept-few, lines-length, lines-stand, sheet-length}
 use Rattle.sheet_entries.specs.Scratch.{linesIn}
-use Rattle.run_table.proofs.AcceptLaws.{accepted}
+use Rattle.run_table.proofs.AcceptLaws.{facts}
 use Rattle.run_table.proofs.ArrayLaws.{array-front, array-length}
-use Rattle.run_table.proofs.CheckLaws.{areRefusals, clear, passed, stopped}
+use Rattle.run_table.proofs.CheckLaws.{areRefusals, passed, quiet-none, stopped}
 use Rattle.run_table.proofs.ListLaws.{rows-ext, tabulate-ext, tabulate-getD}
 use Rattle.run_table.proofs.ReadLaws.{processes-few}
 use Rattle.run_table.specs.Arrays.{arrayOf}
@@ -59,11 +59,11 @@ sum-some (x ∷ l) (suc p) = omega (arith, sum-some l p)
 
 pub sum-positive : (table : List ℕ) → tableRefusal table ≡ 0 → 0 < sum (decode table .counts)
 unfolding countOf
-sum-positive table none =
-    omega (arith, sum-some (decode table .counts) 0, accepted table none .well-formed .some-checkpoint 0 (accepted table none .well-formed .some-process))
+sum-positive table accepted =
+    omega (arith, sum-some (decode table .counts) 0, facts table accepted .well-formed .some-checkpoint 0 (facts table accepted .well-formed .some-process))
 
 pub share-fits : (table : List ℕ) (kept total : ℕ) → tableRefusal table ≡ 0 → kept ≡ length (keptCheckpoints (decode table)) → 100 * kept / total ≤ 102400
-share-fits table kept total none is = omega (arith, div-le-self (100 * kept) total, kept-few table none .0)
+share-fits table kept total accepted is = omega (arith, div-le-self (100 * kept) total, kept-few table accepted .0)
 
 -- ---- the call for a keep sheet, with a scratch and a buffer that are always long enough
 module _ (table scratch bytes : List ℕ) (long : 1024 ≤ length scratch) (room : 12292 ≤ length bytes) where
@@ -71,17 +71,17 @@ module _ (table scratch bytes : List ℕ) (long : 1024 ≤ length scratch) (room
   t = decode table
 
   lines-room : tableRefusal table ≡ 0 → processCount t * processCount t ≤ length scratch
-  lines-room none = omega (arith, long, mul-le-mul (processes-few table none) (processes-few table none))
+  lines-room accepted = omega (arith, long, mul-le-mul (processes-few table accepted) (processes-few table accepted))
 
-  calm : tableRefusal table ≡ 0 → Quiet (keepSheetChecks table (length scratch))
-  calm none = long-scratch table (length scratch) none (lines-room none)
+  quiet-call : tableRefusal table ≡ 0 → Quiet (keepSheetChecks table (length scratch))
+  quiet-call accepted = long-scratch table (length scratch) accepted (lines-room accepted)
 
-  answered-by : (none : tableRefusal table ≡ 0) (written : ℕ)
+  answered-by : (accepted : tableRefusal table ≡ 0) (written : ℕ)
       → Yields (keepSheetAnswer table (length scratch) (length bytes)) 0 bytes (putAt bytes 0 (sheet t)) written (length (sheet t))
   unfolding keepSheetAnswer
-  answered-by none written =
-      answered (keepSheetChecks table (length scratch)) (sheet t) (length bytes) (calm none) refl
-      (omega (arith, room, sheet-length t, kept-few table none .0, kept-few table none .1)) refl
+  answered-by accepted written =
+      answered (keepSheetChecks table (length scratch)) (sheet t) (length bytes) (quiet-call accepted) refl
+      (omega (arith, room, sheet-length t, kept-few table accepted .0, kept-few table accepted .1)) refl
 
   module _ (r : ℕ) (after scratch′ : List ℕ) (written written′ : ℕ)
       (y : Yields (keepSheetAnswer table (length scratch) (length bytes)) r bytes after written written′) (filled : scratch′ ≡ scratchAfter table scratch) where
@@ -98,32 +98,32 @@ module _ (table scratch bytes : List ℕ) (long : 1024 ≤ length scratch) (room
       go (suc k) e = y .number-is ∙ sym (refused-by k e .number-is)
 
     pub sheet-answered : tableRefusal table ≡ 0 → Answered t scratch′ after
-    sheet-answered none = record {
+    sheet-answered accepted = record {
       lines-are =
-          lines-stand t scratch scratch′ (lines-room none)
-          (filled ∙ sym (scratch-filled table scratch (calm none) (putAt scratch 0 (holderLines t)) refl));
+          lines-stand t scratch scratch′ (lines-room accepted)
+          (filled ∙ sym (scratch-filled table scratch (quiet-call accepted) (putAt scratch 0 (holderLines t)) refl));
       sheet-is =
-          ap (take (length (sheet t))) (y .buffer-is ∙ sym (answered-by none written .buffer-is) ∙ put-in-front bytes (sheet t))
+          ap (take (length (sheet t))) (y .buffer-is ∙ sym (answered-by accepted written .buffer-is) ∙ put-in-front bytes (sheet t))
           ∙ take-append-seam (sheet t) (drop (length (sheet t)) bytes);
     }
 
 -- ---- the parts of the listing, from what was read
 pub record Reading (table : List ℕ) (n : ℕ) (line scratch bytes : List ℕ) (k q : ℕ) : Type 0 where
-  pub none : tableRefusal table ≡ 0
+  pub accepted : tableRefusal table ≡ 0
   pub answered : Answered (decode table) scratch bytes
   pub n-is : n ≡ processCount (decode table)
   pub line-is : line ≡ arrayOf (recoveryLine (decode table))
   pub k-is : k ≡ u16At bytes 0
   pub q-is : q ≡ u16At bytes 2
 
-module _ (table : List ℕ) (none : tableRefusal table ≡ 0) where
+module _ (table : List ℕ) (accepted : tableRefusal table ≡ 0) where
   abbrev t₂ : Table
   t₂ = decode table
 
   recovery-read : (n : ℕ) (line : List ℕ) → n ≡ processCount t₂ → line ≡ arrayOf (recoveryLine t₂) → (n ≤ length line) × (take n line ≡ recoveryLine t₂)
   unfolding recoveryLine
   recovery-read n line read-n is =
-      let few : processCount t₂ ≤ 32 = processes-few table none in
+      let few : processCount t₂ ≤ 32 = processes-few table accepted in
       let size : length (recoveryLine t₂) ≡ processCount t₂ = set-length t₂ (λ p. true) in
       let fits : n ≤ length line = omega (arith, ap length is, array-length (recoveryLine t₂)) in
       (fits, array-front (recoveryLine t₂) line n is (omega arith) (omega arith))
@@ -139,7 +139,7 @@ module _ (table : List ℕ) (none : tableRefusal table ≡ 0) where
         let n₀ : ℕ = processCount t₂ in
         let inside : n₀ ≤ length (drop (n₀ * k) scratch) = omega (arith, lines-fit, line-in n₀ k l, length-drop (n₀ * k) scratch) in
         take-tabulate n₀ (drop (n₀ * k) scratch) inside
-        ∙ tabulate-ext n₀ _ _ (λ i b. getD-drop (n₀ * k) scratch i 0 ∙ entry-is table none scratch (h .lines-are) k i l b)
+        ∙ tabulate-ext n₀ _ _ (λ i b. getD-drop (n₀ * k) scratch i 0 ∙ entry-is table accepted scratch (h .lines-are) k i l b)
         ∙ ap (λ (m : ℕ). tabulate m (λ i. getD (holderLine t₂ k) i 0)) (sym (holder-length t₂ k)) ∙ tabulate-getD (holderLine t₂ k) 0
 
     holds-read : (n : ℕ) → n ≡ processCount t₂ → holdRows scratch n ≡ rows (λ k. holdRow k (holderLine t₂ k)) (processCount t₂)
@@ -152,10 +152,10 @@ module _ (table : List ℕ) (none : tableRefusal table ≡ 0) where
         sym (take-append-drop (length (sheet t₂)) bytes) ∙ ap (λ (x : List ℕ). x ++ drop (length (sheet t₂)) bytes) (h .sheet-is) ∙ sym (put-in-front bytes (sheet t₂))
 
     kept-read : u16At bytes 0 ≡ length (keptCheckpoints t₂)
-    kept-read = read-kept table none bytes bytes put
+    kept-read = read-kept table accepted bytes bytes put
 
     logged-read : u16At bytes 2 ≡ length (keptMessages t₂)
-    logged-read = read-logged table none bytes bytes put
+    logged-read = read-logged table accepted bytes bytes put
 
     sheet-room : 4 + 4 * length (keptCheckpoints t₂) + 2 * length (keptMessages t₂) ≤ length bytes
     sheet-room = omega (arith, sheet-length t₂, ap length (h .sheet-is), length-take (length (sheet t₂)) bytes)
@@ -169,8 +169,8 @@ module _ (table : List ℕ) (none : tableRefusal table ≡ 0) where
         ap (rows (λ e. checkpointRow (checkpointAt bytes k e))) (is ∙ kept-read)
         ∙ rows-ext _ _ (length (keptCheckpoints t₂))
         (λ e l.
-        ap₂ (λ (p c : ℕ). checkpointRow (record { process = p; number = c })) (read-process table none bytes bytes put e no-checkpoint l)
-        (ap (λ (x : ℕ). u16At bytes (4 + 2 * x + 2 * e)) is ∙ read-checkpoint table none bytes bytes put e no-checkpoint l))
+        ap₂ (λ (p c : ℕ). checkpointRow (record { process = p; number = c })) (read-process table accepted bytes bytes put e no-checkpoint l)
+        (ap (λ (x : ℕ). u16At bytes (4 + 2 * x + 2 * e)) is ∙ read-checkpoint table accepted bytes bytes put e no-checkpoint l))
         ∙ sym (each-rows checkpointRow no-checkpoint (keptCheckpoints t₂))
 
     messages-read : (k q : ℕ) → k ≡ u16At bytes 0 → q ≡ u16At bytes 2 → messageRows bytes k q ≡ each messageRow (keptMessages t₂)
@@ -178,7 +178,7 @@ module _ (table : List ℕ) (none : tableRefusal table ≡ 0) where
     messages-read k q is is₂ =
         ap (rows (λ e. messageRow (u16At bytes (4 + 4 * k + 2 * e)))) (is₂ ∙ logged-read)
         ∙ rows-ext _ _ (length (keptMessages t₂))
-        (λ e l. ap messageRow (ap (λ (x : ℕ). u16At bytes (4 + 4 * x + 2 * e)) is ∙ read-position table none bytes bytes put e 0 l))
+        (λ e l. ap messageRow (ap (λ (x : ℕ). u16At bytes (4 + 4 * x + 2 * e)) is ∙ read-position table accepted bytes bytes put e 0 l))
         ∙ sym (each-rows messageRow 0 (keptMessages t₂))
 
 module _ {table : List ℕ} {n : ℕ} {line scratch bytes : List ℕ} {k q : ℕ} (r : Reading table n line scratch bytes k q) where
@@ -187,30 +187,30 @@ module _ {table : List ℕ} {n : ℕ} {line scratch bytes : List ℕ} {k q : ℕ
 
   -- what the rows need of the buffers
   pub line-room : n ≤ length line
-  line-room = recovery-read table (r .none) n line (r .n-is) (r .line-is) .0
+  line-room = recovery-read table (r .accepted) n line (r .n-is) (r .line-is) .0
 
   pub line-taken : n ≡ length (take n line)
   line-taken = omega (arith, line-room, length-take n line)
 
   pub holds-needs : (n ≤ 32) × (n * n ≤ length scratch)
-  holds-needs = (omega (arith, r .n-is, processes-few table (r .none)), rw (r .n-is) (lines-fit table (r .none) scratch bytes (r .answered)))
+  holds-needs = (omega (arith, r .n-is, processes-few table (r .accepted)), rw (r .n-is) (lines-fit table (r .accepted) scratch bytes (r .answered)))
 
   pub kept-is : k ≡ length (keptCheckpoints t₃)
-  kept-is = r .k-is ∙ kept-read table (r .none) scratch bytes (r .answered)
+  kept-is = r .k-is ∙ kept-read table (r .accepted) scratch bytes (r .answered)
 
   pub sheet-needs : 4 + 4 * k + 2 * q ≤ length bytes
   sheet-needs =
-      omega (arith, kept-is, r .q-is, logged-read table (r .none) scratch bytes (r .answered), sheet-room table (r .none) scratch bytes (r .answered))
+      omega (arith, kept-is, r .q-is, logged-read table (r .accepted) scratch bytes (r .answered), sheet-room table (r .accepted) scratch bytes (r .answered))
 
   -- the listing, in the parts that the code puts
   pub listing-parts : (s : ℕ) → s ≡ share t₃
       → Parts (listing t₃) (lineRow (take n line)) (holdRows scratch n ++ (checkpointRows bytes k ++ (messageRows bytes k q ++ shareRow s)))
   unfolding listing
   listing-parts s is =
-      let a : take n line ≡ recoveryLine t₃ = recovery-read table (r .none) n line (r .n-is) (r .line-is) .1 in
-      let b = holds-read table (r .none) scratch bytes (r .answered) n (r .n-is) in
-      let c = checkpoints-read table (r .none) scratch bytes (r .answered) k (r .k-is) in
-      let d = messages-read table (r .none) scratch bytes (r .answered) k q (r .k-is) (r .q-is) in
+      let a : take n line ≡ recoveryLine t₃ = recovery-read table (r .accepted) n line (r .n-is) (r .line-is) .1 in
+      let b = holds-read table (r .accepted) scratch bytes (r .answered) n (r .n-is) in
+      let c = checkpoints-read table (r .accepted) scratch bytes (r .answered) k (r .k-is) in
+      let d = messages-read table (r .accepted) scratch bytes (r .answered) k q (r .k-is) (r .q-is) in
       record { is = rw (a, b, c, d, is) }
 
 -- the first two numbers of a sheet stand in its bytes
@@ -225,7 +225,7 @@ refused-text table (suc n) e nonzero = ap (λ (r : ℕ). listingUnless r (listin
 
 pub accepted-text : (table : List ℕ) → tableRefusal table ≡ 0 → listing (decode table) ≡ listingOf table
 unfolding listingOf listingUnless
-accepted-text table none = rw none
+accepted-text table accepted = rw accepted
 
 -- ---- the call's answer, once the text was measured by an empty buffer
 module _ (table buffer last : List ℕ) (size written : ℕ) (measured : Laid [] last 0 (listingOf table) size) where
@@ -239,7 +239,7 @@ module _ (table buffer last : List ℕ) (size written : ℕ) (measured : Laid []
   -- no check but 16
   no-checks : Quiet []
   unfolding areRefusals
-  no-checks = record { refusals = refl; none = clear }
+  no-checks = record { refusals = refl; quiet = quiet-none }
 
   pub listing-refused : length (last ++ buffer) < size → Yields (listingAnswer table (length buffer)) 16 buffer (last ++ buffer) written written
   unfolding listingAnswer
@@ -271,7 +271,7 @@ answer-inside table buffer buffer′ written written′ y = go (ltb (length buff
       let caught : refusal ≡ 16 = stopped _ _ e in
       absurd (omega (arith, (rw caught at (y .number-is))))
   go false e =
-      let passes : refusal ≡ 0 = passed _ _ _ e clear in
+      let passes : refusal ≡ 0 = passed _ _ _ e quiet-none in
       omega (arith, (rw passes at (y .length-is)), ap length (rw passes at (y .buffer-is)), length-append text (drop (length text) buffer))
 
 -- in a buffer that is always long enough

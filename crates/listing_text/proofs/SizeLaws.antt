@@ -19,7 +19,7 @@ use Rattle.listing_text.proofs.TextLaws.{decimal-few, each-rows, tens}
 use Rattle.listing_text.specs.Listing.{checkpointRow, holdRow, lineRow, listing, listingOf, listingUnless, messageRow, refusedRow, share, shareRow}
 use Rattle.listing_text.specs.Text.{each, field, row}
 use Rattle.sheet_writer.proofs.SheetReads.{kept-few}
-use Rattle.run_table.proofs.AcceptLaws.{accepted}
+use Rattle.run_table.proofs.AcceptLaws.{facts}
 use Rattle.run_table.proofs.ListLaws.{rows-most}
 use Rattle.run_table.proofs.ReadLaws.{messages-few, processes-few}
 use Rattle.run_table.specs.Checks.{tableRefusal}
@@ -54,7 +54,7 @@ unfolding each
 no-fields = omega arith
 
 -- ---- the rows of an accepted table
-module _ (table : List ℕ) (none : tableRefusal table ≡ 0) where
+module _ (table : List ℕ) (accepted : tableRefusal table ≡ 0) where
   abbrev t : Table
   t = decode table
 
@@ -64,9 +64,9 @@ module _ (table : List ℕ) (none : tableRefusal table ≡ 0) where
       let size : length (lineOf t holds) ≡ processCount t = set-length t holds in
       omega (
         arith,
-        processes-few table none,
+        processes-few table accepted,
         size,
-        fields-few 3 (lineOf t holds) (λ p l. omega (arith, set-below t holds p, accepted table none .limits .counts-limit p (omega (arith, l, size)))),
+        fields-few 3 (lineOf t holds) (λ p l. omega (arith, set-below t holds p, facts table accepted .limits .counts-limit p (omega (arith, l, size)))),
       )
 
   line-few : length (lineRow (recoveryLine t)) ≤ 165
@@ -75,7 +75,7 @@ module _ (table : List ℕ) (none : tableRefusal table ≡ 0) where
 
   hold-few : (k : ℕ) → k < processCount t → length (holdRow k (holderLine t k)) ≤ 168
   unfolding holdRow holderLine tens
-  hold-few k l = row-few _ _ 163 (fields-more 1 k _ 160 (omega (arith, processes-few table none)) (line-fields (single k)))
+  hold-few k l = row-few _ _ 163 (fields-more 1 k _ 160 (omega (arith, processes-few table accepted)) (line-fields (single k)))
 
   -- a kept checkpoint has small numbers
   checkpoint-few : (x : Checkpoint) → Listed x (keptCheckpoints t) → length (checkpointRow x) ≤ 19
@@ -84,16 +84,16 @@ module _ (table : List ℕ) (none : tableRefusal table ≡ 0) where
       let below : x .number < countOf t (x .process) = keeps-checkpoint t (x .process) (x .number) .0 (checkpoints-listed t (x .process) (x .number) .0 h) .0 in
       let known : x .process < processCount t = known-process t (x .process) (x .number) below in
       row-few _ _ 8
-      (fields-more 1 (x .process) _ 5 (omega (arith, processes-few table none))
-      (fields-more 3 (x .number) [] 0 (omega (arith, accepted table none .limits .counts-limit (x .process) known)) no-fields))
+      (fields-more 1 (x .process) _ 5 (omega (arith, processes-few table accepted))
+      (fields-more 3 (x .number) [] 0 (omega (arith, facts table accepted .limits .counts-limit (x .process) known)) no-fields))
 
   message-few : (k : ℕ) → k < messageCount t → length (messageRow k) ≤ 13
   unfolding messageRow tens
-  message-few k l = row-few _ _ 5 (fields-more 3 k [] 0 (omega (arith, messages-few table none)) no-fields)
+  message-few k l = row-few _ _ 5 (fields-more 3 k [] 0 (omega (arith, messages-few table accepted)) no-fields)
 
   share-few : length (shareRow (share t)) ≤ 13
   unfolding shareRow share tens
-  share-few = row-few _ _ 7 (fields-more 5 (share t) [] 0 (omega (arith, share-fits table (length (keptCheckpoints t)) (sum (t .counts)) none refl)) no-fields)
+  share-few = row-few _ _ 7 (fields-more 5 (share t) [] 0 (omega (arith, share-fits table (length (keptCheckpoints t)) (sum (t .counts)) accepted refl)) no-fields)
 
   pub listing-few : length (listing t) ≤ 80000
   unfolding listing
@@ -110,9 +110,9 @@ module _ (table : List ℕ) (none : tableRefusal table ≡ 0) where
         arith,
         line-few,
         share-few,
-        processes-few table none,
-        kept-few table none .0,
-        kept-few table none .1,
+        processes-few table accepted,
+        kept-few table accepted .0,
+        kept-few table accepted .1,
         length-append (lineRow (recoveryLine t)) (holds ++ (checkpoints ++ (messages ++ shareRow (share t)))),
         length-append holds (checkpoints ++ (messages ++ shareRow (share t))),
         length-append checkpoints (messages ++ shareRow (share t)),

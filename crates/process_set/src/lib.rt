@@ -2,7 +2,7 @@
 // (docs/MANUAL.md, "Lines": processes that hold).
 ghost use mathlib.Core.Path.{_≡_};
 ghost use Prim.Native.Nat.{_<_, _^_};
-ghost use Rattle.process_set.specs.Sets.{member, highBit};
+ghost use Rattle.process_set.specs.Sets.{highBit, member};
 
 // The set of all 32 processes.
 pub const ALL: u32 = 4294967295;

@@ -20,16 +20,16 @@ use lib.Dec.{ltb}
 use lib.ListN.{length, getD, take, length-append}
 use lib.Seq.{take-all}
 use Rattle.consistency.specs.Ceilings.{recoveryLine}
-use Rattle.consistency.specs.Lines.{at}
+use Rattle.consistency.specs.Lines.{asLine}
 use Rattle.futures.proofs.StepLaws.{putBack-receiver, putBack-sender, putBack-sent, recovery-latest, recovery-length, rollback-count, rollback-fewer, rollback-place, rollback-processes, withReceipt}
 use Rattle.futures.specs.Steps.{afterRollback, putBack, remaining, stays}
-use Rattle.run_table.proofs.AcceptLaws.{accepted}
+use Rattle.run_table.proofs.AcceptLaws.{facts}
 use Rattle.run_table.proofs.ArrayLaws.{array-at, array-front}
 use Rattle.run_table.proofs.CodingLaws.{entries-append}
 use Rattle.run_table.proofs.FormatLaws.{length-entries}
 use Rattle.run_table.proofs.NumberLaws.{length-putAt, length-u16s, putAt-none, u16s-append}
 use Rattle.table_writer.proofs.PlaceLaws.{both-more}
-use Rattle.run_table.proofs.ReadLaws.{message-good, processes-few, received-read, receiver-read, receipts-size, sender-read, sends-size, sent-read}
+use Rattle.run_table.proofs.ReadLaws.{message-good, processes-few, receipts-size, received-read, receiver-read, sender-read, sends-size, sent-read}
 use Rattle.run_table.specs.Arrays.{arrayOf}
 use Rattle.run_table.specs.Checks.{tableRefusal}
 use Rattle.run_table.specs.Format.{decode, entriesOf, receiptsOf, receiptsPart, sendsOf, sendsPart}
@@ -195,7 +195,7 @@ module _ (t : Table) (start m : ℕ) (before : List ℕ) where
                 ∙ ap₂ (λ (s z : List ℕ). putAt (putAt before start s) (start + 4 * m) z) (grown (λ x. x .sender) (λ x. x .sent) j y ej ey) (grown (λ x. x .receiver) (λ x. x .received) i r ei er)
 
 -- ---- what the code reads of an accepted table
-module _ (bytes : List ℕ) (none : tableRefusal bytes ≡ 0) where
+module _ (bytes : List ℕ) (accepted : tableRefusal bytes ≡ 0) where
   abbrev t : Table
   t = decode bytes
 
@@ -203,36 +203,36 @@ module _ (bytes : List ℕ) (none : tableRefusal bytes ≡ 0) where
   module _ (part : List ℕ) (k : ℕ) (h : k < messageCount t) where
     module _ (read : part ≡ sendsPart bytes) where
       pub send-within : 4 * k + 3 < length part
-      send-within = rw read (omega (arith, sends-size bytes none))
+      send-within = rw read (omega (arith, sends-size bytes accepted))
 
       module _ (v : ℕ) (e : v ≡ u16At part (4 * k)) where
         pub sender-small : v < 32
-        sender-small = omega (arith, sender-read bytes none k h part v read e, message-good bytes none k h .sender-known, processes-few bytes none)
+        sender-small = omega (arith, sender-read bytes accepted k h part v read e, message-good bytes accepted k h .sender-known, processes-few bytes accepted)
 
         pub sender-left : v ≡ putBack (recoveryLine t) (messageOf t k) .sender
-        sender-left = sender-read bytes none k h part v read e ∙ sym (putBack-sender (recoveryLine t) (messageOf t k))
+        sender-left = sender-read bytes accepted k h part v read e ∙ sym (putBack-sender (recoveryLine t) (messageOf t k))
 
       pub sent-left : (v : ℕ) → v ≡ u16At part (4 * k + 2) → v ≡ putBack (recoveryLine t) (messageOf t k) .sent
-      sent-left v e = sent-read bytes none k h part v read e ∙ sym (putBack-sent (recoveryLine t) (messageOf t k))
+      sent-left v e = sent-read bytes accepted k h part v read e ∙ sym (putBack-sent (recoveryLine t) (messageOf t k))
 
     module _ (read : part ≡ receiptsPart bytes) where
       pub receipt-within : 4 * k + 3 < length part
-      receipt-within = rw read (omega (arith, receipts-size bytes none))
+      receipt-within = rw read (omega (arith, receipts-size bytes accepted))
 
       module _ (v : ℕ) (e : v ≡ u16At part (4 * k)) where
         pub receiver-small : v < 32
-        receiver-small = omega (arith, receiver-read bytes none k h part v read e, message-good bytes none k h .receiver-known, processes-few bytes none)
+        receiver-small = omega (arith, receiver-read bytes accepted k h part v read e, message-good bytes accepted k h .receiver-known, processes-few bytes accepted)
 
         pub receiver-left : v ≡ putBack (recoveryLine t) (messageOf t k) .receiver
-        receiver-left = receiver-read bytes none k h part v read e ∙ sym (putBack-receiver (recoveryLine t) (messageOf t k))
+        receiver-left = receiver-read bytes accepted k h part v read e ∙ sym (putBack-receiver (recoveryLine t) (messageOf t k))
 
   -- beside the line
   module _ (line : List ℕ) (same : line ≡ arrayOf (recoveryLine t)) where
-    line-at : (p : ℕ) → getD line p 0 ≡ at (recoveryLine t) p
-    line-at p = ap (λ (l : List ℕ). getD l p 0) same ∙ array-at (recoveryLine t) (omega (arith, recovery-length t, processes-few bytes none)) p
+    line-at : (p : ℕ) → getD line p 0 ≡ asLine (recoveryLine t) p
+    line-at p = ap (λ (l : List ℕ). getD l p 0) same ∙ array-at (recoveryLine t) (omega (arith, recovery-length t, processes-few bytes accepted)) p
 
     pub line-small : (n : ℕ) → n ≡ processCount t → (p : ℕ) → p < n → getD line p 0 < 65535
-    line-small n e p l = omega (arith, line-at p, recovery-latest t .under p, accepted bytes none .limits .counts-limit p (omega arith))
+    line-small n e p l = omega (arith, line-at p, recovery-latest t .under p, facts bytes accepted .limits .counts-limit p (omega arith))
 
     -- the count that is left of a process
     pub count-left : (p : ℕ) → p < processCount t → getD line p 0 + 1 ≡ getD (afterRollback t .counts) p 0
@@ -244,7 +244,7 @@ module _ (bytes : List ℕ) (none : tableRefusal bytes ≡ 0) where
       module _ (read : part ≡ sendsPart bytes) where
         stays-read : ltb c (getD line p 0) ≡ stays (recoveryLine t) (messageOf t k)
         unfolding stays
-        stays-read = ap₂ ltb (sent-read bytes none k h part c read read-c) (line-at p ∙ ap (at (recoveryLine t)) (sender-read bytes none k h part p read read-p))
+        stays-read = ap₂ ltb (sent-read bytes accepted k h part c read read-c) (line-at p ∙ ap (asLine (recoveryLine t)) (sender-read bytes accepted k h part p read read-p))
 
         pub found-staying : c < getD line p 0 → stays (recoveryLine t) (messageOf t k) ≡ true
         found-staying l = sym stays-read ∙ lt-ltb c (getD line p 0) l
@@ -255,8 +255,8 @@ module _ (bytes : List ℕ) (none : tableRefusal bytes ≡ 0) where
       pub received-left : part ≡ receiptsPart bytes → (v : ℕ) → v ≡ receiptLeft (getD line p 0) c → v ≡ putBack (recoveryLine t) (messageOf t k) .received
       unfolding putBack receiptLeft
       received-left read v is =
-          is ∙ ap₂ (λ (a b : ℕ). cond (ltb a b) 0 b) (line-at p ∙ ap (at (recoveryLine t)) (receiver-read bytes none k h part p read read-p)) (received-read bytes none k h part c read read-c)
-          ∙ go (ltb (at (recoveryLine t) (here .receiver)) (here .received))
+          is ∙ ap₂ (λ (a b : ℕ). cond (ltb a b) 0 b) (line-at p ∙ ap (asLine (recoveryLine t)) (receiver-read bytes accepted k h part p read read-p)) (received-read bytes accepted k h part c read read-c)
+          ∙ go (ltb (asLine (recoveryLine t) (here .receiver)) (here .received))
         where
           here : Message
           here = messageOf t k
@@ -269,7 +269,7 @@ module _ (bytes : List ℕ) (none : tableRefusal bytes ≡ 0) where
   pub counts-front : (counts : List ℕ) (n : ℕ) → counts ≡ arrayOf (afterRollback t .counts) → n ≡ processCount t → take n counts ≡ afterRollback t .counts
   unfolding processCount
   counts-front counts n e same =
-      array-front (afterRollback t .counts) counts n e (same ∙ sym (rollback-processes t)) (omega (arith, rollback-processes t, processes-few bytes none))
+      array-front (afterRollback t .counts) counts n e (same ∙ sym (rollback-processes t)) (omega (arith, rollback-processes t, processes-few bytes accepted))
 
 -- ---- a receipt number beside the line's
 module _ (height received : ℕ) where

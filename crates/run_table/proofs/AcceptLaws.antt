@@ -12,7 +12,7 @@ use native.Mathlib.Omega.{arith}
 use borrow.Author.Tests.{eqb-false, eqb-true, leb-false, ltb-false, lt-leb, ne-eqb, not-false}
 use lib.Dec.{eqb, leb, ltb}
 use lib.ListN.{length}
-use Rattle.run_table.proofs.CheckLaws.{caughtBy, clear, few-messages, not-short, passed, process-count as checked-processes, quiet, right-length, table-refusals}
+use Rattle.run_table.proofs.CheckLaws.{caughtBy, few-messages, not-short, passed, process-count as checked-processes, quiet-none, quiet-number, right-length, table-refusals}
 use Rattle.run_table.proofs.CodingLaws.{AreBytes, Fits16, decode-encode, encode-decode}
 use Rattle.run_table.proofs.FormatLaws.{decode-messages, decode-processes, encode-length}
 use Rattle.run_table.proofs.ListLaws.{any-none, none-of, or-false-left, or-false-right}
@@ -89,10 +89,10 @@ module _ (bytes : List ℕ) where
   unfolding messageCount messageOf
   each-message test e k l = none-of test (t .messages) noMessage e k l
 
-  pub accepted : tableRefusal bytes ≡ 0 → Accepted bytes
+  pub facts : tableRefusal bytes ≡ 0 → Accepted bytes
   unfolding tableRefusal tableChecks caughtBy
-  accepted none =
-      let by = quiet (tableChecks bytes) (table-refusals bytes) none in
+  facts accepted =
+      let by = quiet-number (tableChecks bytes) (table-refusals bytes) accepted in
       record {
         whole = sizes-right (by 4);
         well-formed = record {
@@ -156,7 +156,7 @@ module _ (bytes : List ℕ) where
         (passed _ _ _ (no-message toItself (λ k l. not-to-itself t (messageOf t k) (good k l)))
         (passed _ _ _ (no-message (badSend t) (λ k l. good-send t (messageOf t k) (good k l)))
         (passed _ _ _ (no-message (badReceipt t) (λ k l. good-receipt t (messageOf t k) (good k l)))
-        clear))))))))
+        quiet-none))))))))
 
     -- an accepted table's bytes, read and written again
     pub rewritten : AreBytes bytes → encode (decode bytes) ≡ bytes

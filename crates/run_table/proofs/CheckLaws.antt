@@ -1,7 +1,7 @@
 -- Laws of the checks.
---     passed, stopped, clear      the first check of a list that catches
---     cleared, caughtBy, quiet    none of a list catches: its first check, and the check of any number
---     append-stopped, append-passed, caught-first, none-first    further checks behind a list
+--     passed, stopped, quiet-none     the first check of a list that catches
+--     quiet-cons, caughtBy, quiet-number    none of a list catches, it is quiet: its first check, and the check of any number
+--     append-stopped, append-passed, caught-first, quiet-front    further checks behind a list
 --     parts-refusal               checks 5 to 9 on the parts of a table are the document's, on the decoded table
 -- Assumes nothing.
 use mathlib.Core.Bool.{Bool, true, false, cond, not, _&&_, _||_}
@@ -30,14 +30,14 @@ pub stopped : (c : Check) (rest : List Check) → c .caught ≡ true → firstCa
 unfolding firstCaught
 stopped c rest e = rw e
 
-pub clear : firstCaught [] ≡ 0
+pub quiet-none : firstCaught [] ≡ 0
 unfolding firstCaught
-clear = refl
+quiet-none = refl
 
 -- where a list of refusals catches nothing, neither its first check does nor the rest
-pub cleared : (c : Check) (rest : List Check) → 0 < c .number → firstCaught (c ∷ rest) ≡ 0 → (c .caught ≡ false) × (firstCaught rest ≡ 0)
+pub quiet-cons : (c : Check) (rest : List Check) → 0 < c .number → firstCaught (c ∷ rest) ≡ 0 → (c .caught ≡ false) × (firstCaught rest ≡ 0)
 unfolding firstCaught
-cleared c rest positive e = go (c .caught) e
+quiet-cons c rest positive e = go (c .caught) e
   where
     go : (b : Bool) → cond b (c .number) (firstCaught rest) ≡ 0 → (b ≡ false) × (firstCaught rest ≡ 0)
     go true e = absurd (omega arith)
@@ -59,8 +59,8 @@ pub caught-first : (xs ys : List Check) (r : ℕ) → r ≡ firstCaught xs → (
 caught-first xs ys zero e nonzero = absurd (nonzero refl)
 caught-first xs ys (suc n) e nonzero = sym (append-stopped xs ys n (sym e))
 
-pub none-first : (xs ys : List Check) → firstCaught (xs ++ ys) ≡ 0 → firstCaught xs ≡ 0
-none-first xs ys none = go (firstCaught xs) refl
+pub quiet-front : (xs ys : List Check) → firstCaught (xs ++ ys) ≡ 0 → firstCaught xs ≡ 0
+quiet-front xs ys quiet = go (firstCaught xs) refl
   where
     go : (k : ℕ) → firstCaught xs ≡ k → firstCaught xs ≡ 0
     go zero e = e
@@ -76,12 +76,12 @@ caughtBy n [] = false
 caughtBy n (c ∷ rest) = cond (eqb n (c .number)) (c .caught) (caughtBy n rest)
 
 -- where a list of refusals catches nothing, the check of each number is quiet, wherever it stands
-pub quiet : (checks : List Check) → areRefusals checks ≡ true → firstCaught checks ≡ 0 → (n : ℕ) → caughtBy n checks ≡ false
+pub quiet-number : (checks : List Check) → areRefusals checks ≡ true → firstCaught checks ≡ 0 → (n : ℕ) → caughtBy n checks ≡ false
 unfolding areRefusals caughtBy
-quiet [] p e n = refl
-quiet (c ∷ rest) p e n =
-    let none = cleared c rest (ltb-true 0 (c .number) (and-left (ltb 0 (c .number)) (areRefusals rest) p)) e in
-    go (eqb n (c .number)) (none .0) (quiet rest (and-right (ltb 0 (c .number)) (areRefusals rest) p) (none .1) n)
+quiet-number [] p e n = refl
+quiet-number (c ∷ rest) p e n =
+    let both = quiet-cons c rest (ltb-true 0 (c .number) (and-left (ltb 0 (c .number)) (areRefusals rest) p)) e in
+    go (eqb n (c .number)) (both .0) (quiet-number rest (and-right (ltb 0 (c .number)) (areRefusals rest) p) (both .1) n)
   where
     go : (b : Bool) → c .caught ≡ false → caughtBy n rest ≡ false → cond b (c .caught) (caughtBy n rest) ≡ false
     go true here later = here
@@ -91,8 +91,8 @@ pub append-passed : (xs ys : List Check) → areRefusals xs ≡ true → firstCa
 unfolding areRefusals
 append-passed [] ys p e = refl
 append-passed (c ∷ rest) ys p e =
-    let none = cleared c rest (ltb-true 0 (c .number) (and-left (ltb 0 (c .number)) (areRefusals rest) p)) e in
-    passed c (rest ++ ys) _ (none .0) (append-passed rest ys (and-right (ltb 0 (c .number)) (areRefusals rest) p) (none .1))
+    let both = quiet-cons c rest (ltb-true 0 (c .number) (and-left (ltb 0 (c .number)) (areRefusals rest) p)) e in
+    passed c (rest ++ ys) _ (both .0) (append-passed rest ys (and-right (ltb 0 (c .number)) (areRefusals rest) p) (both .1))
 
 pub table-refusals : (bytes : List ℕ) → areRefusals (tableChecks bytes) ≡ true
 unfolding areRefusals tableChecks
@@ -176,12 +176,12 @@ module _ (bytes : List ℕ) where
   abbrev t : Table
   t = decode bytes
 
-  abbrev at : ℕ → Message
-  at = messageAt (sendsPart bytes) (receiptsPart bytes)
+  abbrev message : ℕ → Message
+  message = messageAt (sendsPart bytes) (receiptsPart bytes)
 
-  any-message : (test : Message → Bool) → any test (t .messages) ≡ anyBelow M (λ k. test (at k))
+  any-message : (test : Message → Bool) → any test (t .messages) ≡ anyBelow M (λ k. test (message k))
   unfolding decode
-  any-message test = any-tabulate test M at
+  any-message test = any-tabulate test M message
 
   check-5 : any badCount (t .counts) ≡ anyBelow N (badCountAt (countsPart bytes))
   unfolding decode badCountAt
@@ -192,7 +192,7 @@ module _ (bytes : List ℕ) where
   unfolding unknownProcess unknownAt messageAt
   check-6 =
       any-message (unknownProcess (processCount t))
-      ∙ ap (λ (n : ℕ). anyBelow M (λ k. unknownProcess n (at k))) (decode-processes bytes)
+      ∙ ap (λ (n : ℕ). anyBelow M (λ k. unknownProcess n (message k))) (decode-processes bytes)
       ∙ anyBelow-or (unknownAt N (sendsPart bytes)) (unknownAt N (receiptsPart bytes)) M
 
   check-7 : any toItself (t .messages) ≡ anyBelow M (toItselfAt (sendsPart bytes) (receiptsPart bytes))
@@ -209,13 +209,13 @@ module _ (bytes : List ℕ) where
 
   check-8 : anyBelow M (unknownAt N (sendsPart bytes)) ≡ false → any (badSend t) (t .messages) ≡ anyBelow M (notBelowAt (countsPart bytes) (sendsPart bytes))
   unfolding badSend messageAt
-  check-8 none = any-message (badSend t) ∙ anyBelow-ext (λ k. badSend t (at k)) (notBelowAt (countsPart bytes) (sendsPart bytes)) M (count-at (sendsPart bytes) none)
+  check-8 none = any-message (badSend t) ∙ anyBelow-ext (λ k. badSend t (message k)) (notBelowAt (countsPart bytes) (sendsPart bytes)) M (count-at (sendsPart bytes) none)
 
   check-9 : anyBelow M (unknownAt N (receiptsPart bytes)) ≡ false
       → any (badReceipt t) (t .messages) ≡ anyBelow M (notBelowAt (countsPart bytes) (receiptsPart bytes))
   unfolding badReceipt messageAt
   check-9 none =
-      any-message (badReceipt t) ∙ anyBelow-ext (λ k. badReceipt t (at k)) (notBelowAt (countsPart bytes) (receiptsPart bytes)) M (count-at (receiptsPart bytes) none)
+      any-message (badReceipt t) ∙ anyBelow-ext (λ k. badReceipt t (message k)) (notBelowAt (countsPart bytes) (receiptsPart bytes)) M (count-at (receiptsPart bytes) none)
 
   -- where the sizes are right, the refusal is that of the parts
   pub parts-refusal : tooShort bytes ≡ false → badProcessCount bytes ≡ false → tooManyMessages bytes ≡ false → badLength bytes ≡ false

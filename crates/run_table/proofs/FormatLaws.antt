@@ -9,7 +9,7 @@ use Prim.Native.Nat.{ℕ, _+_, _*_, _<_, _≤_}
 use native.Mathlib.Omega.{arith}
 use lib.ListN.{length, length-append, drop, length-take, length-drop, List·getD-eq-default}
 use Rattle.run_table.proofs.ListLaws.{getD-tabulate, length-tabulate}
-use Rattle.run_table.proofs.NumberLaws.{length-u16s, u16At-take, u16At-drop}
+use Rattle.run_table.proofs.NumberLaws.{length-u16s, u16At-drop, u16At-take}
 use Rattle.run_table.specs.Format.{checkpointAt, countAt, countsAt, countsPart, decode, encode, entriesOf, messageAt, messagesIn, processAt, processesIn, receiptsAt, receiptsOf, receiptsPart, sendsAt, sendsOf, sendsPart, tableLength}
 use Rattle.run_table.specs.Numbers.{u16At}
 use Rattle.run_table.specs.Table.{Message, Table, countOf, messageCount, messageOf, noMessage, processCount}

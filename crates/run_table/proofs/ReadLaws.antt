@@ -12,14 +12,14 @@ use mathlib.Core.Path.{_≡_, sym, ap, ap₂, _∙_}
 use Prim.Native.Nat.{ℕ, _+_, _-_, _*_, _<_, _≤_}
 use native.Mathlib.Omega.{arith}
 use lib.ListN.{length, take, drop}
-use Rattle.run_table.proofs.AcceptLaws.{accepted}
+use Rattle.run_table.proofs.AcceptLaws.{facts}
 use Rattle.run_table.proofs.FormatLaws.{counts-length, decode-count, decode-message, decode-messages, decode-processes, receipts-length, sends-length}
 use Rattle.run_table.specs.Checks.{GoodMessage, tableRefusal}
 use Rattle.run_table.specs.Format.{checkpointAt, countAt, countsAt, countsPart, decode, messageAt, messagesIn, processAt, processesIn, receiptsAt, receiptsPart, sendsAt, sendsPart, tableLength}
 use Rattle.run_table.specs.Numbers.{u16At}
 use Rattle.run_table.specs.Table.{Message, countOf, messageCount, messageOf, mostCheckpoints, mostMessages, mostProcesses, processCount}
 
-module _ (bytes : List ℕ) (none : tableRefusal bytes ≡ 0) where
+module _ (bytes : List ℕ) (accepted : tableRefusal bytes ≡ 0) where
   abbrev N : ℕ
   N = processCount (decode bytes)
 
@@ -27,16 +27,16 @@ module _ (bytes : List ℕ) (none : tableRefusal bytes ≡ 0) where
   M = messageCount (decode bytes)
 
   pub whole : length bytes ≡ tableLength N M
-  whole = accepted bytes none .whole
+  whole = facts bytes accepted .whole
 
   pub long-enough : 4 ≤ length bytes
   long-enough = omega (arith, whole)
 
   pub processes-few : N ≤ mostProcesses
-  processes-few = accepted bytes none .limits .processes-limit
+  processes-few = facts bytes accepted .limits .processes-limit
 
   pub messages-few : M ≤ mostMessages
-  messages-few = accepted bytes none .limits .messages-limit
+  messages-few = facts bytes accepted .limits .messages-limit
 
   -- ---- the parts
   whole-length : length bytes ≡ tableLength (processesIn bytes) (messagesIn bytes)
@@ -78,17 +78,17 @@ module _ (bytes : List ℕ) (none : tableRefusal bytes ≡ 0) where
     count-is = sym (decode-count bytes p (omega (arith, decode-processes bytes)))
 
     pub counts-positive : 0 < countAt (countsPart bytes) p
-    counts-positive = omega (arith, count-is, accepted bytes none .well-formed .some-checkpoint p l)
+    counts-positive = omega (arith, count-is, facts bytes accepted .well-formed .some-checkpoint p l)
 
     pub counts-small : countAt (countsPart bytes) p ≤ mostCheckpoints
-    counts-small = omega (arith, count-is, accepted bytes none .limits .counts-limit p l)
+    counts-small = omega (arith, count-is, facts bytes accepted .limits .counts-limit p l)
 
   module _ (k : ℕ) (l : k < M) where
     pub message-is : messageAt (sendsPart bytes) (receiptsPart bytes) k ≡ messageOf (decode bytes) k
     message-is = sym (decode-message bytes k (omega (arith, decode-messages bytes)))
 
     pub message-good : GoodMessage (decode bytes) (messageOf (decode bytes) k)
-    message-good = accepted bytes none .well-formed .good-messages k l
+    message-good = facts bytes accepted .well-formed .good-messages k l
 
     pub senders-known : processAt (sendsPart bytes) k < N
     unfolding messageAt

@@ -2,7 +2,7 @@
 use Prim.Native.Nat.{ℕ}
 use Rattle.run_table.specs.Table.{Message}
 use Rattle.run_table.specs.declared.lookups.Field.{Field}
-use Rattle.run_table.specs.declared.lookups.Field.the-variants.{Sender, Sent, Receiver, Received}
+use Rattle.run_table.specs.declared.lookups.Field.the-variants.{Received, Receiver, Sender, Sent}
 
 -- The number of a message that a field names.
 abbrev pub numberOf : Field → Message → ℕ

@@ -1,5 +1,5 @@
 -- The laws of the code that finds what is kept.
---     SearchLaws       what loops over n lines find
+--     SearchLaws     what loops over n lines find
 --     ScratchLaws    lines in a scratch
-pub mod SearchLaws
 pub mod ScratchLaws
+pub mod SearchLaws

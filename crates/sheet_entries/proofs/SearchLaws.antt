@@ -20,7 +20,7 @@ use lib.Dec.{eqb, ltb}
 use lib.ListN.{length, getD, length-append, length-map}
 use Rattle.consistency.specs.Lines.{Line}
 use Rattle.futures.specs.Sheet.{crosses}
-use Rattle.sheet_entries.specs.Kept.{First, checkpointsAt, crossesLine, isKept, leastBelow, lowestAt, lowestLine, shows, keptOf}
+use Rattle.sheet_entries.specs.Kept.{First, checkpointsAt, crossesLine, isKept, keptOf, leastBelow, lowestAt, lowestLine, shows}
 use Rattle.run_table.proofs.ArrayLaws.{array-at}
 use Rattle.run_table.proofs.ListLaws.{anyBelow-found, anyBelow-more, anyBelow-none, found-below, getD-tabulate, length-tabulate, none-below}
 use Rattle.run_table.proofs.ListLaws.{rows-more, select-gap, select-more, select-skip, select-small}

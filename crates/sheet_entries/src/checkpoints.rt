@@ -1,10 +1,10 @@
 // The kept checkpoints: those below a process's count that some line has there.
-use crate::scratch::entry;
+use crate::scratch::number_in_line;
 use run_table::numbers::u16_at;
 ghost use mathlib.Core.Path.{_≡_};
 ghost use Prim.Native.Nat.{_*_, _<_, _≤_};
 ghost use lib.ListN.{length};
-ghost use Rattle.sheet_entries.specs.Kept.{First, checkpointsOf, shows, keptOf};
+ghost use Rattle.sheet_entries.specs.Kept.{First, checkpointsOf, keptOf, shows};
 ghost use Rattle.sheet_entries.specs.Scratch.{linesIn};
 
 // The first checkpoint from a start on, below a count, that some line has at process i; the count where
@@ -18,7 +18,7 @@ pub fn next_kept(scratch: &[u16], n: usize, i: usize, from: u16, count: u16) -> 
     let mut least = count;
     let mut k = 0;
     while k < n {
-        let checkpoint = entry(scratch, n, k, i);
+        let checkpoint = number_in_line(scratch, n, k, i);
         k += 1;
         if checkpoint < from {
             continue;

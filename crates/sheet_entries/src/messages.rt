@@ -1,6 +1,6 @@
 // The kept messages: undelivered, or crossing some line.
 use crate::checkpoints::next_kept;
-use crate::scratch::entry;
+use crate::scratch::number_in_line;
 use run_table::numbers::u16_at;
 ghost use mathlib.Core.Path.{_≡_};
 ghost use Prim.Native.Nat.{ℕ, _+_, _*_, _<_, _≤_};
@@ -43,11 +43,11 @@ fn crosses_line(
     while k < n {
         let here = k;
         k += 1;
-        let of_receiver = entry(scratch, n, here, receiver);
+        let of_receiver = number_in_line(scratch, n, here, receiver);
         if received <= of_receiver {
             continue;
         }
-        let of_sender = entry(scratch, n, here, sender);
+        let of_sender = number_in_line(scratch, n, here, sender);
         if of_sender <= sent {
             continue;
         }

@@ -5,7 +5,7 @@ ghost use lib.ListN.{length};
 ghost use Rattle.sheet_entries.specs.Scratch.{linesIn};
 
 // The number of line k at process i.
-pub fn entry(scratch: &[u16], n: usize, k: usize, i: usize) -> u16
+pub fn number_in_line(scratch: &[u16], n: usize, k: usize, i: usize) -> u16
     requires { ⌜ n * n ≤ length (now scratch) ⌝ }
     requires { ⌜ k < n ⌝ }
     requires { ⌜ i < n ⌝ }

@@ -11,7 +11,7 @@ use native.Mathlib.Omega.{arith}
 use borrow.Author.Tests.{eq-eqb, ne-eqb}
 use lib.Dec.{eqb, ltb}
 use lib.ListN.{length, length-append, length-map}
-use Rattle.consistency.specs.Lines.{at}
+use Rattle.consistency.specs.Lines.{asLine}
 use Rattle.futures.specs.Sheet.{Checkpoint, holderLine, keepsCheckpoint, keptCheckpoints}
 use Rattle.run_table.proofs.ListLaws.{rows-most}
 use Rattle.run_table.specs.Lists.{anyBelow, select}
@@ -76,8 +76,8 @@ module _ (t : Table) where
   kept-at-few i =
       omega (
         arith,
-        select-and (λ c. ltb c (countOf t i)) (λ c. anyBelow (processCount t) (λ k. eqb (at (holderLine t k) i) c)) (countOf t i),
-        select-few (λ k. at (holderLine t k) i) (processCount t) (countOf t i),
+        select-and (λ c. ltb c (countOf t i)) (λ c. anyBelow (processCount t) (λ k. eqb (asLine (holderLine t k) i) c)) (countOf t i),
+        select-few (λ k. asLine (holderLine t k) i) (processCount t) (countOf t i),
       )
 
   abbrev checkpointAt : ℕ → ℕ → Checkpoint

@@ -22,7 +22,7 @@ use Rattle.sheet_writer.specs.Writing.{Put}
 use Rattle.sheet_writer.specs.Writers.{standing, written}
 use Rattle.sheet_writer.specs.declared.writer.SheetWriter.{SheetWriter}
 use Rattle.sheet_writer.specs.declared.writing.Part.{Part}
-use Rattle.sheet_writer.specs.declared.writing.Part.the-variants.{Sizes, Processes, Checkpoints, Positions}
+use Rattle.sheet_writer.specs.declared.writing.Part.the-variants.{Checkpoints, Positions, Processes, Sizes}
 use Rattle.run_table.proofs.NumberLaws.{length-u16s}
 use Rattle.run_table.proofs.ReadLaws.{messages-few}
 use Rattle.run_table.specs.Checks.{tableRefusal}

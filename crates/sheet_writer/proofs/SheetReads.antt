@@ -19,7 +19,7 @@ use lib.ListN.{length, getD, take, drop, length-append, length-map, length-take}
 use lib.Seq.{getD-take, take-at}
 use Rattle.consistency.proofs.CeilingLaws.{set-length}
 use Rattle.consistency.specs.Ceilings.{ceilingOf, lineOf, single}
-use Rattle.consistency.specs.Lines.{Line, at}
+use Rattle.consistency.specs.Lines.{Line, asLine}
 use Rattle.consistency.specs.Lowering.{lineUnder}
 use Rattle.futures.specs.Sheet.{Checkpoint, crosses, holderLine, holderLines, keepsCheckpoint, keepsMessage, keptCheckpoints, keptMessages, sheet}
 use Rattle.lines.proofs.LineReads.{set-front}
@@ -27,7 +27,7 @@ use Rattle.process_set.proofs.SetLaws.{member-one}
 use Rattle.process_set.specs.Sets.{member}
 use Rattle.sheet_writer.proofs.FewLaws.{checkpoints-few}
 use Rattle.sheet_entries.proofs.ScratchLaws.{cell-below}
-use Rattle.sheet_entries.specs.Kept.{checkpointsAt, checkpointsOf, columnAt, columnOf, crossesLine, isKept, positionsOf, shows, keptOf}
+use Rattle.sheet_entries.specs.Kept.{checkpointsAt, checkpointsOf, columnAt, columnOf, crossesLine, isKept, keptOf, positionsOf, shows}
 use Rattle.sheet_entries.specs.Scratch.{linesIn}
 use Rattle.run_table.proofs.ListLaws.{anyBelow-ext, map-rows, rows-at, rows-ext, rows-length, select-ext, select-small, tabulate-ext}
 use Rattle.run_table.proofs.NumberLaws.{length-u16s}
@@ -83,7 +83,7 @@ module _ (t : Table) where
       )
 
   -- what lines say is kept that are those of single holders
-  module _ (line : ℕ → Line) (are : (k i : ℕ) → k < N → i < N → line k i ≡ at (holderLine t k) i) where
+  module _ (line : ℕ → Line) (are : (k i : ℕ) → k < N → i < N → line k i ≡ asLine (holderLine t k) i) where
     numbers-are : (i : ℕ) → i < N → keptOf N line i (countOf t i) ≡ select (keepsCheckpoint t i) (countOf t i)
     unfolding keptOf shows keepsCheckpoint
     numbers-are i l =
@@ -110,21 +110,21 @@ module _ (t : Table) where
 -- at most N × N checkpoints, and M messages
 pub kept-few : (bytes : List ℕ) → tableRefusal bytes ≡ 0 → (length (keptCheckpoints (decode bytes)) ≤ 1024) × (length (keptMessages (decode bytes)) ≤ mostMessages)
 unfolding keptMessages
-kept-few bytes none =
+kept-few bytes accepted =
     let t = decode bytes in
-    let few = processes-few bytes none in (
+    let few = processes-few bytes accepted in (
       omega (arith, checkpoints-few t, mul-le-mul few few),
-      omega (arith, messages-few bytes none, select-small (λ k. keepsMessage t (messageOf t k)) (messageCount t)),
+      omega (arith, messages-few bytes accepted, select-small (λ k. keepsMessage t (messageOf t k)) (messageCount t)),
     )
 
 -- the line of holder k, as the code finds it
-pub holder-front : (bytes : List ℕ) (none : tableRefusal bytes ≡ 0) (n k : ℕ) (line : List ℕ) → n ≡ processCount (decode bytes)
+pub holder-front : (bytes : List ℕ) (accepted : tableRefusal bytes ≡ 0) (n k : ℕ) (line : List ℕ) → n ≡ processCount (decode bytes)
     → line ≡ arrayOf (lineOf (decode bytes) (member (2 ^ k))) → take n line ≡ holderLine (decode bytes) k
-holder-front bytes none n k line read-n e =
-    ap (λ (x : ℕ). take x line) read-n ∙ set-front bytes none (2 ^ k) line e ∙ holder-line (decode bytes) k (2 ^ k) refl
+holder-front bytes accepted n k line read-n e =
+    ap (λ (x : ℕ). take x line) read-n ∙ set-front bytes accepted (2 ^ k) line e ∙ holder-line (decode bytes) k (2 ^ k) refl
 
 -- ---- what the code finds in a scratch that has the lines of an accepted table
-module _ (bytes : List ℕ) (none : tableRefusal bytes ≡ 0) (s : List ℕ)
+module _ (bytes : List ℕ) (accepted : tableRefusal bytes ≡ 0) (s : List ℕ)
     (stand : take (processCount (decode bytes) * processCount (decode bytes)) s ≡ holderLines (decode bytes)) where
   abbrev t : Table
   t = decode bytes
@@ -132,7 +132,7 @@ module _ (bytes : List ℕ) (none : tableRefusal bytes ≡ 0) (s : List ℕ)
   scratch-room : N t * N t ≤ length s
   scratch-room = omega (arith, ap length stand, lines-length t, length-take (N t * N t) s)
 
-  pub entry-is : (k i : ℕ) → k < N t → i < N t → linesIn s (N t) k i ≡ at (holderLine t k) i
+  pub entry-is : (k i : ℕ) → k < N t → i < N t → linesIn s (N t) k i ≡ asLine (holderLine t k) i
   unfolding linesIn holderLines
   entry-is k i l b =
       sym (getD-take (N t * N t) s (N t * k + i) 0 (cell-below (N t) k i l b)) ∙ ap (λ (x : List ℕ). getD x (N t * k + i) 0) stand
@@ -141,10 +141,10 @@ module _ (bytes : List ℕ) (none : tableRefusal bytes ≡ 0) (s : List ℕ)
   -- from what the code read
   module _ (n : ℕ) (counts : List ℕ) (read-n : n ≡ N t) (read-c : counts ≡ countsPart bytes) where
     pub checkpoints-needs : (n * n ≤ length s) × ((n ≤ 32) × (length counts ≡ 2 * n))
-    checkpoints-needs = rw (read-n, read-c) (scratch-room, (processes-few bytes none, counts-size bytes none))
+    checkpoints-needs = rw (read-n, read-c) (scratch-room, (processes-few bytes accepted, counts-size bytes accepted))
 
     pub checkpoints-found : checkpointsOf n (linesIn s n) counts ≡ keptCheckpoints t
-    checkpoints-found = rw (read-n, read-c) (checkpoints-are t (linesIn s (N t)) entry-is (countsPart bytes) (count-is bytes none))
+    checkpoints-found = rw (read-n, read-c) (checkpoints-are t (linesIn s (N t)) entry-is (countsPart bytes) (count-is bytes accepted))
 
     -- one array of the sheet: the numbers of the kept checkpoints, or else their processes
     pub column-found : (checkpoints : Bool) → columnOf checkpoints n (linesIn s n) counts ≡ map (λ k. cond checkpoints (k .number) (k .process)) (keptCheckpoints t)
@@ -163,12 +163,12 @@ module _ (bytes : List ℕ) (none : tableRefusal bytes ≡ 0) (s : List ℕ)
         rw (read-n, read-m, read-s, read-r) (
           scratch-room,
           (
-            processes-few bytes none,
-            (sends-size bytes none, (receipts-size bytes none, ((λ k l. senders-known bytes none k l), (λ k l. receivers-known bytes none k l)))),
+            processes-few bytes accepted,
+            (sends-size bytes accepted, (receipts-size bytes accepted, ((λ k l. senders-known bytes accepted k l), (λ k l. receivers-known bytes accepted k l)))),
           ),
         )
 
     pub positions-found : positionsOf n (linesIn s n) sends receipts m ≡ keptMessages t
     positions-found =
         rw (read-n, read-m, read-s, read-r)
-        (positions-are t (linesIn s (N t)) entry-is (sendsPart bytes) (receiptsPart bytes) (message-is bytes none) (message-good bytes none))
+        (positions-are t (linesIn s (N t)) entry-is (sendsPart bytes) (receiptsPart bytes) (message-is bytes accepted) (message-good bytes accepted))

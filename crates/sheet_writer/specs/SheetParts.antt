@@ -6,7 +6,7 @@ use Prim.Native.Nat.{ℕ, _+_, _*_, _≤_}
 use lib.ListN.{length, take}
 use Rattle.futures.specs.Sheet.{holderLines, keptCheckpoints, keptMessages}
 use Rattle.sheet_writer.specs.declared.writing.Part.{Part}
-use Rattle.sheet_writer.specs.declared.writing.Part.the-variants.{Sizes, Processes, Checkpoints, Positions}
+use Rattle.sheet_writer.specs.declared.writing.Part.the-variants.{Checkpoints, Positions, Processes, Sizes}
 use Rattle.run_table.specs.Checks.{tableRefusal}
 use Rattle.run_table.specs.Format.{decode}
 use Rattle.run_table.specs.Table.{Table, processCount}

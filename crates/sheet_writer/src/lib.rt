@@ -1,5 +1,4 @@
-// Retention: the lines of single holders, the sizes of what a run must keep, and the keep sheet that
-// says it.
+// The keep sheet: the lines of single holders that it is read off, the sizes of its arrays, its bytes.
 pub mod writer;
 pub mod writing;
 

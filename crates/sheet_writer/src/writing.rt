@@ -11,7 +11,7 @@ ghost use mathlib.Core.List.{_∷_, []};
 ghost use mathlib.Core.Path.{_≡_};
 ghost use Prim.Native.Nat.{ℕ, _+_, _*_, _<_, _≤_};
 ghost use lib.ListN.{length};
-ghost use Rattle.sheet_entries.specs.Kept.{columnAt, columnOf, positionsOf, keptOf};
+ghost use Rattle.sheet_entries.specs.Kept.{columnAt, columnOf, keptOf, positionsOf};
 ghost use Rattle.sheet_entries.specs.Scratch.{linesIn};
 ghost use Rattle.sheet_writer.specs.SheetParts.{CanPut, numbersOf};
 ghost use Rattle.sheet_writer.specs.Writing.{Put};

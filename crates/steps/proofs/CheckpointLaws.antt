@@ -25,7 +25,7 @@ use Rattle.run_table.specs.Table.{Message, Table, countOf, messageCount, proces
 use Rattle.steps.proofs.SendLaws.{Read, count-read, front-set}
 use Rattle.steps.specs.Receipts.{newReceipt, receiptNumbers}
 
-module _ (bytes : List ℕ) (none : tableRefusal bytes ≡ 0) (i : ℕ) (list : List ℕ) where
+module _ (bytes : List ℕ) (accepted : tableRefusal bytes ≡ 0) (i : ℕ) (list : List ℕ) where
   abbrev t : Table
   t = decode bytes
 
@@ -34,10 +34,10 @@ module _ (bytes : List ℕ) (none : tableRefusal bytes ≡ 0) (i : ℕ) (list : 
 
   -- the sends
   sender-kept : (k : ℕ) → k < messageCount t → receivedAt t i list k .sender ≡ u16At (sendsPart bytes) (4 * k)
-  sender-kept k l = receivedAt-sender t i list k ∙ sym (sender-read bytes none k l (sendsPart bytes) _ refl refl)
+  sender-kept k l = receivedAt-sender t i list k ∙ sym (sender-read bytes accepted k l (sendsPart bytes) _ refl refl)
 
   sent-kept : (k : ℕ) → k < messageCount t → receivedAt t i list k .sent ≡ u16At (sendsPart bytes) (4 * k + 2)
-  sent-kept k l = receivedAt-sent t i list k ∙ sym (sent-read bytes none k l (sendsPart bytes) _ refl refl)
+  sent-kept k l = receivedAt-sent t i list k ∙ sym (sent-read bytes accepted k l (sendsPart bytes) _ refl refl)
 
   sends-kept : (m : ℕ) → m ≡ messageCount t → tabulate (2 * m) (λ e. u16At (sendsPart bytes) (2 * e)) ≡ sendsOf (after .messages)
   unfolding afterCheckpoint
@@ -49,7 +49,7 @@ module _ (bytes : List ℕ) (none : tableRefusal bytes ≡ 0) (i : ℕ) (list : 
   -- the receipts
   receiver-kept : (k : ℕ) → k < messageCount t → processAt (receiptsPart bytes) k ≡ receivedAt t i list k .receiver
   unfolding processAt
-  receiver-kept k l = receiver-read bytes none k l (receiptsPart bytes) _ refl refl ∙ sym (receivedAt-receiver t i list k)
+  receiver-kept k l = receiver-read bytes accepted k l (receiptsPart bytes) _ refl refl ∙ sym (receivedAt-receiver t i list k)
 
   received-new : (k : ℕ) → k < messageCount t → newReceipt (receiptsPart bytes) list (countOf t i) k ≡ receivedAt t i list k .received
   unfolding newReceipt checkpointAt
@@ -57,7 +57,7 @@ module _ (bytes : List ℕ) (none : tableRefusal bytes ≡ 0) (i : ℕ) (list : 
     where
       go : (b : Bool) → any (eqb k) list ≡ b → cond b (countOf t i) (checkpointAt (receiptsPart bytes) k) ≡ receivedAt t i list k .received
       go true e = sym (ap (λ (m : Message). m .received) (receivedAt-listed t i list k e))
-      go false e = received-read bytes none k l (receiptsPart bytes) _ refl refl ∙ sym (ap (λ (m : Message). m .received) (receivedAt-unlisted t i list k e))
+      go false e = received-read bytes accepted k l (receiptsPart bytes) _ refl refl ∙ sym (ap (λ (m : Message). m .received) (receivedAt-unlisted t i list k e))
 
   receipts-upto : (k : ℕ) → k ≤ messageCount t → receiptNumbers k (receiptsPart bytes) list (countOf t i) ≡ receiptsOf (tabulate k (receivedAt t i list))
   unfolding receiptNumbers tabulate entriesOf
@@ -84,8 +84,8 @@ module _ {bytes : List ℕ} {n m : ℕ} {array : List ℕ} (r : Read bytes n m a
       let t = decode bytes in
       let size : n ≡ processCount (afterCheckpoint t i list) = r .read-n ∙ sym (checkpoint-processes t i list) in
       table-put (afterCheckpoint t i list) n m (take n (set array i (number + 1))) _ _ size (r .read-m ∙ sym (checkpoint-messages t i list)) grown
-      (ap (λ (p : List ℕ). tabulate (2 * m) (λ k. u16At p (2 * k))) is-s ∙ sends-kept bytes (r .none) i list m (r .read-m))
-      (ap₂ (λ (p : List ℕ) (x : ℕ). receiptNumbers m p list x) is-r (is-number ∙ count-read r i) ∙ receipts-new bytes (r .none) i list m (r .read-m)) b₀ b₁ b₂ b₃ room
+      (ap (λ (p : List ℕ). tabulate (2 * m) (λ k. u16At p (2 * k))) is-s ∙ sends-kept bytes (r .accepted) i list m (r .read-m))
+      (ap₂ (λ (p : List ℕ) (x : ℕ). receiptNumbers m p list x) is-r (is-number ∙ count-read r i) ∙ receipts-new bytes (r .accepted) i list m (r .read-m)) b₀ b₁ b₂ b₃ room
       (w₁ ∙ ap (λ (x : ℕ). putAt b₀ 0 (u16s (x ∷ m ∷ take n (set array i (number + 1))))) (ap length grown ∙ sym size)) (rw at-s at w₂) (rw at-r at w₃)
     where
       grown : take n (set array i (number + 1)) ≡ afterCheckpoint (decode bytes) i list .counts

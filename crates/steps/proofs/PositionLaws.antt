@@ -17,7 +17,7 @@ use lib.Dec.{eqb}
 use lib.ListN.{length, getD, set, take, length-append}
 use lib.Seq.{set-append-left, set-append-seam, take-all, take-suc}
 use Rattle.futures.proofs.StepLaws.{Waiting, good-position, rising, waiting-position}
-use Rattle.futures.specs.Steps.{badPosition, notRisingAfter, notRising}
+use Rattle.futures.specs.Steps.{badPosition, notRising, notRisingAfter}
 use Rattle.run_table.proofs.CodingLaws.{even-number, odd-number}
 use Rattle.run_table.proofs.ListLaws.{any-last, any-none, any-some, none-of, or-none, tabulate-more}
 use Rattle.table_writer.proofs.PlaceLaws.{number-within}
@@ -83,7 +83,7 @@ is-bad t i k not-waiting = go (badPosition t i k) refl
     go true e = refl
     go false e = absurd (not-waiting (good-position t i k e))
 
-module _ (bytes : List ℕ) (none : tableRefusal bytes ≡ 0) (i k : ℕ) where
+module _ (bytes : List ℕ) (accepted : tableRefusal bytes ≡ 0) (i k : ℕ) where
   abbrev t : Table
   t = decode bytes
 
@@ -92,17 +92,17 @@ module _ (bytes : List ℕ) (none : tableRefusal bytes ≡ 0) (i k : ℕ) where
 
   module _ (l : k < messageCount t) (receipts : List ℕ) (is-r : receipts ≡ receiptsPart bytes) where
     pub bad-receiver : (r : ℕ) → r ≡ u16At receipts (4 * k) → (r ≡ i → ⊥) → badPosition t i k ≡ true
-    bad-receiver r read other = is-bad t i k (λ w. other (receiver-read bytes none k l receipts r is-r read ∙ w .to-process))
+    bad-receiver r read other = is-bad t i k (λ w. other (receiver-read bytes accepted k l receipts r is-r read ∙ w .to-process))
 
     pub bad-received : (r : ℕ) → r ≡ u16At receipts (4 * k + 2) → (r ≡ 0 → ⊥) → badPosition t i k ≡ true
-    bad-received r read delivered = is-bad t i k (λ w. delivered (received-read bytes none k l receipts r is-r read ∙ w .undelivered))
+    bad-received r read delivered = is-bad t i k (λ w. delivered (received-read bytes accepted k l receipts r is-r read ∙ w .undelivered))
 
     pub good-here : (r s : ℕ) → r ≡ u16At receipts (4 * k) → s ≡ u16At receipts (4 * k + 2) → r ≡ i → s ≡ 0 → badPosition t i k ≡ false
     good-here r s read read′ same zero-is =
         waiting-position t i k (record {
           a-message = l;
-          to-process = sym (receiver-read bytes none k l receipts r is-r read) ∙ same;
-          undelivered = sym (received-read bytes none k l receipts s is-r read′) ∙ zero-is;
+          to-process = sym (receiver-read bytes accepted k l receipts r is-r read) ∙ same;
+          undelivered = sym (received-read bytes accepted k l receipts s is-r read′) ∙ zero-is;
         })
 
 -- ---- a loop over the listed positions, which writes their receipts
@@ -205,4 +205,4 @@ module _ (receipts : List ℕ) (number : ℕ) where
 
 -- the positions of a list in which none is bad
 pub positions-below : (t : Table) (i : ℕ) (list : List ℕ) → any (badPosition t i) list ≡ false → (m : ℕ) → m ≡ messageCount t → (a : ℕ) → a < length list → getD list a 0 < m
-positions-below t i list none m e a l = omega (arith, good-position t i (getD list a 0) (none-of (badPosition t i) list 0 none a l) .a-message)
+positions-below t i list accepted m e a l = omega (arith, good-position t i (getD list a 0) (none-of (badPosition t i) list 0 accepted a l) .a-message)

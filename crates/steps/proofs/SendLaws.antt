@@ -11,7 +11,7 @@ use lib.ListN.{length, getD, set, take, length-set}
 use lib.Seq.{length-take-le}
 use Rattle.futures.proofs.StepLaws.{send-messages, send-processes}
 use Rattle.futures.specs.Steps.{afterSend}
-use Rattle.run_table.proofs.AcceptLaws.{accepted}
+use Rattle.run_table.proofs.AcceptLaws.{facts}
 use Rattle.run_table.proofs.ArrayLaws.{array-at, array-front, array-length, array-set}
 use Rattle.run_table.proofs.CodingLaws.{entries-append, receipts-numbers, sends-numbers}
 use Rattle.run_table.proofs.FormatLaws.{decode-messages}
@@ -27,17 +27,17 @@ use Rattle.run_table.specs.Table.{Table, countOf, messageCount, mostCheckpoints
 
 -- ---- what a step has read of an accepted table: its sizes, and its counts as an array
 pub record Read (bytes : List ℕ) (n m : ℕ) (array : List ℕ) : Type 0 where
-  pub none : tableRefusal bytes ≡ 0
+  pub accepted : tableRefusal bytes ≡ 0
   pub read-n : n ≡ processCount (decode bytes)
   pub read-m : m ≡ messageCount (decode bytes)
   pub read-counts : array ≡ arrayOf (decode bytes .counts)
 
 module _ {bytes : List ℕ} {n m : ℕ} {array : List ℕ} (r : Read bytes n m array) where
   pub n-few : n ≤ mostProcesses
-  n-few = omega (arith, r .read-n, processes-few bytes (r .none))
+  n-few = omega (arith, r .read-n, processes-few bytes (r .accepted))
 
   pub m-few : m ≤ mostMessages
-  m-few = omega (arith, r .read-m, messages-few bytes (r .none))
+  m-few = omega (arith, r .read-m, messages-few bytes (r .accepted))
 
   size : n ≡ length (decode bytes .counts)
   unfolding processCount
@@ -66,17 +66,17 @@ module _ {bytes : List ℕ} {n m : ℕ} {array : List ℕ} (r : Read bytes n m a
 
   module _ (p : ℕ) (known : p < processCount (decode bytes)) where
     pub count-positive : 0 < getD array p 0
-    count-positive = omega (arith, count-read p, accepted bytes (r .none) .well-formed .some-checkpoint p known)
+    count-positive = omega (arith, count-read p, facts bytes (r .accepted) .well-formed .some-checkpoint p known)
 
     pub count-small : getD array p 0 ≤ mostCheckpoints
-    count-small = omega (arith, count-read p, accepted bytes (r .none) .limits .counts-limit p known)
+    count-small = omega (arith, count-read p, facts bytes (r .accepted) .limits .counts-limit p known)
 
   module _ (part : List ℕ) where
     pub sends-long : part ≡ sendsPart bytes → length part ≡ 4 * m
-    sends-long e = ap length e ∙ sends-size bytes (r .none) ∙ ap (λ (x : ℕ). 4 * x) (sym (r .read-m))
+    sends-long e = ap length e ∙ sends-size bytes (r .accepted) ∙ ap (λ (x : ℕ). 4 * x) (sym (r .read-m))
 
     pub receipts-long : part ≡ receiptsPart bytes → length part ≡ 4 * m
-    receipts-long e = ap length e ∙ receipts-size bytes (r .none) ∙ ap (λ (x : ℕ). 4 * x) (sym (r .read-m))
+    receipts-long e = ap length e ∙ receipts-size bytes (r .accepted) ∙ ap (λ (x : ℕ). 4 * x) (sym (r .read-m))
 
 -- two numbers after an array of m entries
 pub longer-put : (before after later : List ℕ) (at m : ℕ) (f : ℕ → ℕ) (a b : ℕ) → after ≡ putAt before at (u16s (tabulate (2 * m) f))

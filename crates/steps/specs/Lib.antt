@@ -1,3 +1,3 @@
--- What the code of a save writes, part by part.
---     Receipts      the receipts after a checkpoint
+-- What the code of a checkpoint writes, part by part.
+--     Receipts    the receipts after a checkpoint
 pub mod Receipts

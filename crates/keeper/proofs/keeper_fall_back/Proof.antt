@@ -6,7 +6,7 @@ use mathlib.Core.Path.{_≡_, sym, _∙_}
 use denote.Ref.{now}
 use Rattle.keeper.proofs.AnswerLaws.{Quiet, answered, refused, sixteen, too-short}
 use Rattle.keeper.proofs.StepAnswers.{rollback-bytes, rollback-taken, table-holds}
-use Rattle.keeper.specs.Calls.{fallBackAnswer}
+use Rattle.keeper.specs.Calls.{rollbackAnswer}
 use Rattle.run_table.proofs.CheckLaws.{table-refusals}
 use Rattle.run_table.specs.Checks.{tableChecks, tableRefusal}
 use Rattle.run_table.specs.Format.{decode}
@@ -22,10 +22,10 @@ accepted c = sym (c .before .check .ensures) ∙ c .if1 .left
 
 quiet : (c : tie.Else1) → Quiet (tableChecks (now (start c .args .table)))
 unfolding tableRefusal
-quiet c = record { refusals = table-refusals _; none = accepted c }
+quiet c = record { refusals = table-refusals _; quiet = accepted c }
 
 pub keeper-fall-back-spec : {M : Type 1} → statement M
-unfolding fallBackAnswer tableRefusal
+unfolding rollbackAnswer tableRefusal
 keeper-fall-back-spec =
     tie.close
     (tie.spec

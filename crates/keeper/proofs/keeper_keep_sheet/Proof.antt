@@ -26,11 +26,11 @@ start c = c .before .before .before .before .before
 
 quiet : (c : tie.Else1) → Quiet (keepSheetChecks (now (start c .args .table)) (length (now (start c .args .scratch))))
 unfolding keepSheetChecks tableChecks areRefusals
-quiet c = record { refusals = refl; none = sym (c .before .sheet-refusal .ensures) ∙ c .if1 .left }
+quiet c = record { refusals = refl; quiet = sym (c .before .sheet-refusal .ensures) ∙ c .if1 .left }
 
 accepted : (c : tie.Else1) → tableRefusal (now (start c .args .table)) ≡ 0
 unfolding keepSheetChecks
-accepted c = table-accepted _ _ (quiet c .none)
+accepted c = table-accepted _ _ (quiet c .quiet)
 
 -- the scratch has the lines, from where it was filled
 abbrev t : tie.After-fill-lines → Table
@@ -72,8 +72,8 @@ keeper-keep-sheet-spec =
     -- 16
     (λ c.
     let full = filled (c .before .before .before .before) in
-    let calm = quiet (full .before .before) in
-    (too-short _ _ _ calm (size (c .before)) (c .if2 .taken), (scratch-filled _ _ calm _ (full .fill-lines .ensures), sixteen)))
+    let q = quiet (full .before .before) in
+    (too-short _ _ _ q (size (c .before)) (c .if2 .taken), (scratch-filled _ _ q _ (full .fill-lines .ensures), sixteen)))
     -- asked by `put_sheet`
     (λ c κs.
     let sized = c .before .before .before in
@@ -89,8 +89,8 @@ keeper-keep-sheet-spec =
     let put = c .before .before in
     let sized = put .before .before .before .before in
     let full = filled (sized .before .before .before) in
-    let calm = quiet (full .before .before) in
+    let q = quiet (full .before .before) in
     let sheet = put .put-sheet .ensures in (
-      answered _ _ _ calm (size sized) (put .before .before .before .if2 .left) sheet,
-      (scratch-filled _ _ calm _ (full .fill-lines .ensures), λ _. sheet-holds _ (accepted (full .before .before)) _ _ sheet),
+      answered _ _ _ q (size sized) (put .before .before .before .if2 .left) sheet,
+      (scratch-filled _ _ q _ (full .fill-lines .ensures), λ _. sheet-holds _ (accepted (full .before .before)) _ _ sheet),
     )))

@@ -19,11 +19,11 @@ start c = c .before .before .before .before
 
 quiet : (c : tie.Else1) → Quiet (lineOfSetChecks (now (start c .args .table)) (start c .args .set))
 unfolding lineOfSetChecks tableChecks areRefusals
-quiet c = record { refusals = refl; none = sym (c .before .set-refusal .ensures) ∙ c .if1 .left }
+quiet c = record { refusals = refl; quiet = sym (c .before .set-refusal .ensures) ∙ c .if1 .left }
 
 accepted : (c : tie.Else1) → tableRefusal (now (start c .args .table)) ≡ 0
 unfolding lineOfSetChecks
-accepted c = table-accepted _ _ (quiet c .none)
+accepted c = table-accepted _ _ (quiet c .quiet)
 
 pub keeper-line-of-set-spec : {M : Type 1} → statement M
 unfolding lineOfSetAnswer

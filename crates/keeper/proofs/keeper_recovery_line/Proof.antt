@@ -23,7 +23,7 @@ accepted c = sym (c .before .check .ensures) ∙ c .if1 .left
 
 quiet : (c : tie.Else1) → Quiet (tableChecks (now (start c .args .table)))
 unfolding tableRefusal
-quiet c = record { refusals = table-refusals _; none = accepted c }
+quiet c = record { refusals = table-refusals _; quiet = accepted c }
 
 pub keeper-recovery-line-spec : {M : Type 1} → statement M
 unfolding recoveryLineAnswer tableRefusal recoveryLine allProcesses

@@ -7,7 +7,7 @@ use denote.Ref.{now}
 use Rattle.futures.specs.Steps.{sendChecks}
 use Rattle.keeper.proofs.AnswerLaws.{Quiet, answered, refused, sixteen, too-short}
 use Rattle.keeper.proofs.RefusalLaws.{table-accepted}
-use Rattle.keeper.proofs.StepAnswers.{send-bytes, send-known, send-taken, table-holds}
+use Rattle.keeper.proofs.StepAnswers.{send-bytes, send-taken, sender-known, table-holds}
 use Rattle.keeper.specs.Calls.{sendAnswer, sendCallChecks}
 use Rattle.run_table.proofs.CheckLaws.{areRefusals}
 use Rattle.run_table.specs.Checks.{tableChecks, tableRefusal}
@@ -21,11 +21,11 @@ start c = c .before .before .before .before
 
 quiet : (c : tie.Else1) → Quiet (sendCallChecks (now (start c .args .table)) (start c .args .from) (start c .args .to))
 unfolding sendCallChecks sendChecks tableChecks areRefusals
-quiet c = record { refusals = refl; none = sym (c .before .send-refusal .ensures) ∙ c .if1 .left }
+quiet c = record { refusals = refl; quiet = sym (c .before .send-refusal .ensures) ∙ c .if1 .left }
 
 accepted : (c : tie.Else1) → tableRefusal (now (start c .args .table)) ≡ 0
 unfolding sendCallChecks
-accepted c = table-accepted _ _ (quiet c .none)
+accepted c = table-accepted _ _ (quiet c .quiet)
 
 pub keeper-send-spec : {M : Type 1} → statement M
 unfolding sendAnswer
@@ -44,7 +44,7 @@ keeper-send-spec =
     let sized = c .before .before in
     let bytes = send-bytes (decode (now (start (sized .before) .args .table))) 0 0 in
     let is = sized .send-size .ensures 0 0 in
-    (accepted (sized .before), (send-known _ _ _ (quiet (sized .before)), omega (arith, c .before .if2 .left, is, bytes))))
+    (accepted (sized .before), (sender-known _ _ _ (quiet (sized .before)), omega (arith, c .before .if2 .left, is, bytes))))
     (λ c. search needs)
     -- the answer
     (λ c.

@@ -18,7 +18,7 @@ use Rattle.listing_text.proofs.put_listing.Tie as tie
 -- what was read
 reading : (c : tie.After-recovery-line) → Reading (now (c .before .before .before .before .before .before .before .before .args .table)) (c .before .before .before .process-count .result) (c .recovery-line .result) (now (c .before .before .before .before .before .before .before .before .args .scratch)) (now (c .before .before .before .before .before .before .before .before .args .sheet)) (c .before .before .u16-at .result) (c .before .u16-at2 .result)
 reading c = record {
-  none = c .before .before .before .before .before .before .before .before .pre .0;
+  accepted = c .before .before .before .before .before .before .before .before .pre .0;
   answered = c .before .before .before .before .before .before .before .before .pre .1;
   n-is = c .before .before .before .process-count .ensures;
   line-is = c .recovery-line .ensures;

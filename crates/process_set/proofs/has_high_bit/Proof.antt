@@ -2,7 +2,7 @@
 -- Assumes nothing.
 use mathlib.Core.Path.{sym}
 use borrow.Author.Needs.{needs}
-use Rattle.process_set.proofs.SetLaws.{no-high-bit-from-32, high-bit-is}
+use Rattle.process_set.proofs.SetLaws.{high-bit-is, no-high-bit-from-32}
 use Rattle.process_set.proofs.has_high_bit.Statement.{statement}
 use Rattle.process_set.proofs.has_high_bit.Tie as tie
 

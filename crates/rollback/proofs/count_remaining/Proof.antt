@@ -12,7 +12,7 @@ use Rattle.futures.specs.Steps.{stays}
 use Rattle.run_table.proofs.ReadLaws.{messages-few}
 use Rattle.run_table.specs.Format.{decode}
 use Rattle.run_table.specs.Table.{Table, messageOf}
-use Rattle.rollback.proofs.RollbackLaws.{soFar, counted-none, counted-skips, counted-adds, counted-fits, counted-all, send-within, sender-small, found-staying, found-going}
+use Rattle.rollback.proofs.RollbackLaws.{counted-adds, counted-all, counted-fits, counted-none, counted-skips, found-going, found-staying, send-within, sender-small, soFar}
 use Rattle.rollback.proofs.count_remaining.Statement.{statement}
 use Rattle.rollback.proofs.count_remaining.Tie as tie
 

@@ -11,7 +11,7 @@ use Rattle.consistency.specs.Ceilings.{recoveryLine}
 use Rattle.futures.specs.Steps.{stays}
 use Rattle.run_table.specs.Format.{decode}
 use Rattle.run_table.specs.Table.{Table, messageOf}
-use Rattle.rollback.proofs.RollbackLaws.{Gathered, gathered-none, gathered-skips, gathered-adds, gathered-room, gathered-all, send-within, receipt-within, sender-small, receiver-small, found-staying, found-going, sender-left, sent-left, receiver-left, received-left}
+use Rattle.rollback.proofs.RollbackLaws.{Gathered, found-going, found-staying, gathered-adds, gathered-all, gathered-none, gathered-room, gathered-skips, receipt-within, received-left, receiver-left, receiver-small, send-within, sender-left, sender-small, sent-left}
 use Rattle.rollback.proofs.put_messages.Statement.{statement}
 use Rattle.rollback.proofs.put_messages.Tie as tie
 

@@ -1,6 +1,6 @@
 -- `receipt_left` meets its contract, on either side of its test.
 -- Assumes nothing.
-use Rattle.rollback.proofs.RollbackLaws.{receipt-undone, receipt-kept}
+use Rattle.rollback.proofs.RollbackLaws.{receipt-kept, receipt-undone}
 use Rattle.rollback.proofs.receipt_left.Statement.{statement}
 use Rattle.rollback.proofs.receipt_left.Tie as tie
 

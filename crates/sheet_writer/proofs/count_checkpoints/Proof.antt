@@ -3,7 +3,7 @@
 use borrow.Author.Needs.{needs}
 use mathlib.Core.Path.{ap, _∙_}
 use lib.ListN.{length}
-use Rattle.sheet_writer.proofs.SheetReads.{checkpoints-needs, checkpoints-found}
+use Rattle.sheet_writer.proofs.SheetReads.{checkpoints-found, checkpoints-needs}
 use Rattle.sheet_writer.proofs.count_checkpoints.Statement.{statement}
 use Rattle.sheet_writer.proofs.count_checkpoints.Tie as tie
 

@@ -49,12 +49,12 @@ use Rattle.run_table.specs.Format.{decode}
 use Rattle.run_table.specs.Table.{processCount}
 use Rattle.sheet_writer.specs.declared.writer.SheetWriter.{SheetWriter}
 use Rattle.sheet_writer.specs.declared.writing.Part.{Part}
-use Rattle.sheet_writer.specs.declared.writing.Part.the-variants.{Sizes, Processes, Checkpoints, Positions}
+use Rattle.sheet_writer.specs.declared.writing.Part.the-variants.{Checkpoints, Positions, Processes, Sizes}
 use Rattle.sheet_writer.specs.SheetParts.{CanPut, numbersOf}
 use Rattle.sheet_writer.specs.Writers.{written}
-use Rattle.sheet_writer.proofs.PartLaws.{Asked, begun, sized, processed, numbered, filled, can-sizes, can-processes, can-checkpoints, can-positions}
-use Rattle.sheet_writer.proofs.PartLaws.{sheet-put, same-size}
-use Rattle.sheet_writer.proofs.Walking.{life, row, machine, lent, lent-goes, part-val, part-typed, and-local, freed}
+use Rattle.sheet_writer.proofs.PartLaws.{Asked, begun, can-checkpoints, can-positions, can-processes, can-sizes, filled, numbered, processed, sized}
+use Rattle.sheet_writer.proofs.PartLaws.{same-size, sheet-put}
+use Rattle.sheet_writer.proofs.Walking.{and-local, freed, lent, lent-goes, life, machine, part-typed, part-val, row}
 use Rattle.sheet_writer.proofs.writer.SheetWriter as T
 use Rattle.sheet_writer.proofs.writer.SheetWriter.Laws as T′
 use Rattle.sheet_writer.proofs.writing.Part as P

@@ -9,7 +9,7 @@ use lib.Dec.{leb}
 use Rattle.futures.specs.Steps.{sendChecks}
 use Rattle.keeper.proofs.RefusalLaws.{first-of, le-read, lt-read, neither, own-caught, read-le, read-lt, second-of, table-caught}
 use Rattle.keeper.specs.Calls.{sendCallChecks}
-use Rattle.run_table.proofs.CheckLaws.{clear, passed, stopped}
+use Rattle.run_table.proofs.CheckLaws.{passed, quiet-none, stopped}
 use Rattle.run_table.specs.Checks.{tableRefusal}
 use Rattle.run_table.specs.Format.{decode}
 use Rattle.run_table.specs.Table.{processCount}
@@ -58,4 +58,4 @@ send-refusal-spec =
     let two = c .before .before in
     own-caught _ _ (accepted (two .before .before .before .before))
     (passed _ _ _ (known (two .before))
-    (passed _ _ _ (ne-eqb _ _ (two .if4 .left)) (passed _ _ _ (lt-read (c .before .message-count .ensures) (c .if5 .left)) clear)))))
+    (passed _ _ _ (ne-eqb _ _ (two .if4 .left)) (passed _ _ _ (lt-read (c .before .message-count .ensures) (c .if5 .left)) quiet-none)))))

@@ -6,7 +6,7 @@ use denote.Ref.{now}
 use Rattle.keeper.proofs.RefusalLaws.{own-caught, table-caught}
 use Rattle.keeper.specs.Calls.{lineOfSetChecks}
 use Rattle.process_set.specs.Sets.{highBit}
-use Rattle.run_table.proofs.CheckLaws.{clear, passed, stopped}
+use Rattle.run_table.proofs.CheckLaws.{passed, quiet-none, stopped}
 use Rattle.run_table.specs.Checks.{tableRefusal}
 use Rattle.run_table.specs.Format.{decode}
 use Rattle.run_table.specs.Table.{processCount}
@@ -36,4 +36,4 @@ set-refusal-spec =
     -- 12
     (λ c. own-caught _ _ (accepted (c .before .before .before)) (stopped _ _ (twelve (c .before) ∙ c .if2 .taken)))
     -- none
-    (λ c. own-caught _ _ (accepted (c .before .before .before)) (passed _ _ _ (twelve (c .before) ∙ c .if2 .left) clear)))
+    (λ c. own-caught _ _ (accepted (c .before .before .before)) (passed _ _ _ (twelve (c .before) ∙ c .if2 .left) quiet-none)))

@@ -39,4 +39,4 @@ sheet-refusal-spec =
     -- none
     (λ c.
     let read = c .before in
-    sym (long-scratch _ _ (accepted (read .before)) (omega (arith, c .if2 .left, ap (λ (n : ℕ). n * n) (read .process-count .ensures))) .none)))
+    sym (long-scratch _ _ (accepted (read .before)) (omega (arith, c .if2 .left, ap (λ (n : ℕ). n * n) (read .process-count .ensures))) .quiet)))

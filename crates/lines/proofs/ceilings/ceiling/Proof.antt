@@ -3,7 +3,7 @@
 use native.Mathlib.Omega.{arith}
 use mathlib.Core.Path.{subst⁻¹}
 use Prim.Native.Nat.{ℕ, _-_, _<_}
-use Rattle.lines.proofs.LineReads.{height-read, height-beyond}
+use Rattle.lines.proofs.LineReads.{height-beyond, height-read}
 use Rattle.run_table.proofs.ArrayLaws.{Filling, filling-all, filling-more, filling-none}
 use Rattle.lines.specs.Arrays.{heightAt}
 use Rattle.run_table.specs.Format.{countAt}

@@ -9,9 +9,9 @@ use Prim.Native.Nat.{ℕ, _-_, _<_}
 use borrow.Author.Tests.{not-false, not-true}
 use lib.ListN.{getD}
 use denote.Ref.{now}
-use Rattle.consistency.specs.Lines.{Orphan, at}
+use Rattle.consistency.specs.Lines.{Orphan, asLine}
 use Rattle.consistency.specs.Lowering.{lineUnder}
-use Rattle.lines.proofs.PassLaws.{Passing, pass-begins, pass-skips, pass-lowers, pass-ends, message-read, messages-length, undelivered, sent-before, received-after, orphan}
+use Rattle.lines.proofs.PassLaws.{Passing, message-read, messages-length, orphan, pass-begins, pass-ends, pass-lowers, pass-skips, received-after, sent-before, undelivered}
 use Rattle.lines.specs.Arrays.{messagesOf}
 use Rattle.run_table.specs.Format.{processAt}
 use Rattle.run_table.specs.Lists.{sum}
@@ -53,7 +53,7 @@ receiver-small c = subst⁻¹ (λ (x : ℕ). x < 32) (c .before .u16-at3 .ensure
 abbrev messages : Here → List Message
 messages c = messagesOf (c .before .before .before .before .before .before .before .before .before .args .m) (now (c .before .before .before .before .before .before .before .before .before .args .sends)) (now (c .before .before .before .before .before .before .before .before .before .args .receipts))
 
-skipped : (c : Here) → (Orphan (getD (messages c) (c .before .before .before .before .before .loop .k - 1) noMessage) (at (line c)) → ⊥)
+skipped : (c : Here) → (Orphan (getD (messages c) (c .before .before .before .before .before .loop .k - 1) noMessage) (asLine (line c)) → ⊥)
     → Passing (messages c) (c .before .before .before .before .before .before .before .before .before .args .m) (c .before .before .before .before .before .before .passes .line) (line c) (c .before .before .before .before .before .loop .lowered) (c .before .before .before .before .before .loop .k - 1)
 skipped c = pass-skips _ _ _ _ _ _ (c .before .before .before .before .before .loop .inv) (c .before .before .before .before .loop-test .taken)
 
@@ -92,10 +92,10 @@ array-write-line c = receiver-small (c .before .before .before)
 
 loop-again-4 : tie.Need-loop-again-4 Inv-loop μ-loop Inv-passes μ-passes
 loop-again-4 c =
-    let at = c .before .before .before in
-    pass-lowers _ _ _ _ _ _ (at .before .before .before .before .before .loop .inv) (at .before .before .before .before .loop-test .taken) _
-    (message-read _ _ _ _ _ _ _ _ (position at) (at .before .before .before .u16-at .ensures) (at .before .before .u16-at2 .ensures) (at .before .u16-at3 .ensures) (at .u16-at4 .ensures))
-    (orphan _ _ _ _ _ _ _ _ (position at) (at .before .before .before .u16-at .ensures) (at .before .before .u16-at2 .ensures) (at .before .u16-at3 .ensures) (at .u16-at4 .ensures) (line at) (c .before .before .if1 .left) (c .before .if2 .left) (c .if3 .left))
+    let here = c .before .before .before in
+    pass-lowers _ _ _ _ _ _ (here .before .before .before .before .before .loop .inv) (here .before .before .before .before .loop-test .taken) _
+    (message-read _ _ _ _ _ _ _ _ (position here) (here .before .before .before .u16-at .ensures) (here .before .before .u16-at2 .ensures) (here .before .u16-at3 .ensures) (here .u16-at4 .ensures))
+    (orphan _ _ _ _ _ _ _ _ (position here) (here .before .before .before .u16-at .ensures) (here .before .before .u16-at2 .ensures) (here .before .u16-at3 .ensures) (here .u16-at4 .ensures) (line here) (c .before .before .if1 .left) (c .before .if2 .left) (c .if3 .left))
 
 passes-less : tie.Need-passes-less Inv-loop μ-loop Inv-passes μ-passes
 passes-less c = c .before .before .loop .inv .falls (not-false _ (c .if4 .left))

@@ -5,7 +5,7 @@ use native.Mathlib.Omega.{arith}
 use mathlib.Core.List.{List}
 use Prim.Native.Nat.{ℕ, _-_, _<_}
 use denote.Ref.{now}
-use Rattle.lines.proofs.PropagationLaws.{Parts, Seen, seen-none, seen-skips, seen-marks, seen-all, counts-length, sends-length, receipts-length, sender-is, sender-known, count-positive, sent-before, undelivered, orphaned-here}
+use Rattle.lines.proofs.PropagationLaws.{Parts, Seen, count-positive, counts-length, orphaned-here, receipts-length, seen-all, seen-marks, seen-none, seen-skips, sender-is, sender-known, sends-length, sent-before, undelivered}
 use Rattle.run_table.proofs.ReadLaws.{processes-few}
 use Rattle.run_table.specs.Format.{decode}
 use Rattle.run_table.specs.Table.{messageCount, processCount}
@@ -27,7 +27,7 @@ bytes c = now (c .before .before .before .before .before .before .before .args .
 
 parts : (c : Turn) → Parts (bytes c) (now (c .before .before .before .before .counts .result)) (now (c .before .before .before .sends .result)) (now (c .before .before .receipts .result))
 parts c = record {
-  none = c .before .before .before .before .before .before .before .pre;
+  accepted = c .before .before .before .before .before .before .before .pre;
   read-c = c .before .before .before .before .counts .ensures;
   read-s = c .before .before .before .sends .ensures;
   read-r = c .before .before .receipts .ensures;
@@ -58,7 +58,7 @@ u16-at-requires-2 : tie.Need-u16-at-requires-2 Inv-loop μ-loop
 u16-at-requires-2 c κs = omega (arith, sends-length (parts (c .before)), position (c .before))
 
 mul-u16-at-3 : tie.Need-mul-u16-at-3 Inv-loop μ-loop
-mul-u16-at-3 c = omega (arith, known (c .before), processes-few _ (parts (c .before .before) .none))
+mul-u16-at-3 c = omega (arith, known (c .before), processes-few _ (parts (c .before .before) .accepted))
 
 u16-at-requires-3 : tie.Need-u16-at-requires-3 Inv-loop μ-loop
 u16-at-requires-3 c κs = omega (arith, known (c .before), counts-length (parts (c .before .before)))
@@ -90,13 +90,13 @@ loop-again-2 c =
     (undelivered (parts turn) (position turn) (c .before .before .before .before .before .u16-at .ensures) (c .before .before .before .u16-at3 .ensures) (c .before .before .before .before .u16-at2 .ensures) (c .before .u16-at4 .ensures) (c .if2 .taken))
 
 array-write-propagates : tie.Need-array-write-propagates Inv-loop μ-loop
-array-write-propagates c = omega (arith, known (c .before .before .before .before .before), processes-few _ (parts (c .before .before .before .before .before .before) .none))
+array-write-propagates c = omega (arith, known (c .before .before .before .before .before), processes-few _ (parts (c .before .before .before .before .before .before) .accepted))
 
 loop-again-3 : tie.Need-loop-again-3 Inv-loop μ-loop
 loop-again-3 c =
     let turn = c .before .before .before .before .before .before in
     seen-marks _ _ _ (turn .before .loop .inv) (position turn) _
-    (sender-is (parts turn) (position turn) (c .before .before .before .before .before .u16-at .ensures)) (omega (arith, known (c .before .before .before .before .before), processes-few _ (parts turn .none)))
+    (sender-is (parts turn) (position turn) (c .before .before .before .before .before .u16-at .ensures)) (omega (arith, known (c .before .before .before .before .before), processes-few _ (parts turn .accepted)))
     (orphaned-here (parts turn) (position turn) (c .before .before .before .before .before .u16-at .ensures) (c .before .before .before .u16-at3 .ensures) (c .before .before .before .before .u16-at2 .ensures) (c .before .u16-at4 .ensures) (c .before .before .if1 .left) (c .if2 .left))
 
 returns : tie.Need-returns Inv-loop μ-loop

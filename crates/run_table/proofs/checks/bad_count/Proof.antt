@@ -5,7 +5,7 @@ use mathlib.Core.Path.{_∙_}
 use Prim.Native.Nat.{_-_}
 use mathlib.Core.Path.{sym}
 use Rattle.run_table.proofs.ListLaws.{anyBelow-found}
-use Rattle.run_table.proofs.ScanLaws.{Passed, passed-none, passed-more, passed-all, count-read, outside-zero, outside-above, inside}
+use Rattle.run_table.proofs.ScanLaws.{Passed, count-read, inside, outside-above, outside-zero, passed-all, passed-more, passed-none}
 use Rattle.run_table.specs.Parts.{badCountAt}
 use Rattle.run_table.proofs.checks.bad_count.Statement.{statement}
 use Rattle.run_table.proofs.checks.bad_count.Tie as tie

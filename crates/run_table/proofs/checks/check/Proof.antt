@@ -7,8 +7,8 @@ use mathlib.Core.List.{List}
 use mathlib.Core.Path.{_≡_, sym, _∙_}
 use Prim.Native.Nat.{ℕ}
 use denote.Ref.{now}
-use Rattle.run_table.proofs.CheckLaws.{passed, stopped, short, not-short, process-count, many-messages, few-messages, wrong-length, right-length, parts-read, parts-refusal}
-use Rattle.run_table.proofs.ScanLaws.{outside-zero, outside-above, inside}
+use Rattle.run_table.proofs.CheckLaws.{few-messages, many-messages, not-short, parts-read, parts-refusal, passed, process-count, right-length, short, stopped, wrong-length}
+use Rattle.run_table.proofs.ScanLaws.{inside, outside-above, outside-zero}
 use Rattle.run_table.specs.Checks.{badLength, badProcessCount, tableChecks, tableRefusal, tooManyMessages, tooShort}
 use Rattle.run_table.proofs.checks.check.Statement.{statement}
 use Rattle.run_table.proofs.checks.check.Tie as tie

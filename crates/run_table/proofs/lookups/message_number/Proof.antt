@@ -7,7 +7,7 @@ use Rattle.run_table.proofs.FormatLaws.{message-none, received-there, r
 use Rattle.run_table.specs.Fields.{numberOf}
 use Rattle.run_table.specs.Table.{Message, noMessage}
 use Rattle.run_table.specs.declared.lookups.Field.{Field}
-use Rattle.run_table.specs.declared.lookups.Field.the-variants.{Sender, Sent, Receiver, Received}
+use Rattle.run_table.specs.declared.lookups.Field.the-variants.{Received, Receiver, Sender, Sent}
 use Rattle.run_table.proofs.lookups.message_number.Statement.{statement}
 use Rattle.run_table.proofs.lookups.message_number.Tie as tie
 

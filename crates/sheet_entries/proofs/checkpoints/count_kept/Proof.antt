@@ -2,7 +2,7 @@
 -- Assumes nothing.
 use native.Mathlib.Omega.{arith}
 use Prim.Native.Nat.{_-_}
-use Rattle.sheet_entries.proofs.SearchLaws.{Totalled, totalled-none, totalled-more, totalled-all, kept-read, kept-small}
+use Rattle.sheet_entries.proofs.SearchLaws.{Totalled, kept-read, kept-small, totalled-all, totalled-more, totalled-none}
 use Rattle.sheet_entries.specs.Kept.{checkpointsAt, checkpointsOf, keptOf}
 use Rattle.sheet_entries.specs.Scratch.{linesIn}
 use Rattle.run_table.specs.Format.{countAt}

@@ -2,8 +2,8 @@
 -- Assumes nothing.
 use native.Mathlib.Omega.{arith}
 use Prim.Native.Nat.{_-_}
-use Rattle.sheet_entries.proofs.SearchLaws.{Standing, Tallied, stands, tallied-first, tallied-small, tallied-next, tallied-all}
-use Rattle.sheet_entries.specs.Kept.{shows, keptOf}
+use Rattle.sheet_entries.proofs.SearchLaws.{Standing, Tallied, stands, tallied-all, tallied-first, tallied-next, tallied-small}
+use Rattle.sheet_entries.specs.Kept.{keptOf, shows}
 use Rattle.sheet_entries.specs.Scratch.{linesIn}
 use Rattle.sheet_entries.proofs.checkpoints.count_kept_of.Statement.{statement}
 use Rattle.sheet_entries.proofs.checkpoints.count_kept_of.Tie as tie

@@ -2,7 +2,7 @@
 -- Assumes nothing.
 use native.Mathlib.Omega.{arith}
 use Prim.Native.Nat.{_-_}
-use Rattle.sheet_entries.proofs.SearchLaws.{Searching, search-begins, search-passes, search-finds, search-ends}
+use Rattle.sheet_entries.proofs.SearchLaws.{Searching, search-begins, search-ends, search-finds, search-passes}
 use Rattle.sheet_entries.specs.Scratch.{linesIn}
 use Rattle.sheet_entries.proofs.checkpoints.next_kept.Statement.{statement}
 use Rattle.sheet_entries.proofs.checkpoints.next_kept.Tie as tie
@@ -23,7 +23,7 @@ loop-again-2 : tie.Need-loop-again-2 Inv-loop μ-loop
 loop-again-2 c = search-passes (c .before .before .before .before .loop .inv) (omega arith) (λ b. omega arith)
 
 loop-again-3 : tie.Need-loop-again-3 Inv-loop μ-loop
-loop-again-3 c = search-finds (c .before .before .before .before .loop .inv) (omega arith) _ (c .before .before .entry .ensures) (omega arith) (omega arith)
+loop-again-3 c = search-finds (c .before .before .before .before .loop .inv) (omega arith) _ (c .before .before .number-in-line .ensures) (omega arith) (omega arith)
 
 returns : tie.Need-returns Inv-loop μ-loop
 returns c = search-ends (c .before .loop .inv) (c .loop-test .left)

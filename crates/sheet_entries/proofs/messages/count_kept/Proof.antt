@@ -4,7 +4,7 @@ use borrow.Author.Needs.{needs}
 use native.Mathlib.Omega.{arith}
 use borrow.Author.Tests.{not-true, not-false}
 use Prim.Native.Nat.{_-_}
-use Rattle.sheet_entries.proofs.SearchLaws.{Tallied, tallied-none, tallied-small, tallied-skip, tallied-more, tallied-all, lowest-read}
+use Rattle.sheet_entries.proofs.SearchLaws.{Tallied, lowest-read, tallied-all, tallied-more, tallied-none, tallied-skip, tallied-small}
 use Rattle.sheet_entries.specs.Kept.{isKept, positionsOf}
 use Rattle.sheet_entries.specs.Scratch.{linesIn}
 use Rattle.run_table.specs.Format.{messageAt, processAt}

@@ -2,7 +2,7 @@
 -- Assumes nothing.
 use native.Mathlib.Omega.{arith}
 use Prim.Native.Nat.{_-_}
-use Rattle.sheet_entries.proofs.SearchLaws.{Uncrossed, uncrossed-none, sent-after, received-before, crossed, uncrossed-all}
+use Rattle.sheet_entries.proofs.SearchLaws.{Uncrossed, crossed, received-before, sent-after, uncrossed-all, uncrossed-none}
 use Rattle.sheet_entries.specs.Scratch.{linesIn}
 use Rattle.sheet_entries.proofs.messages.crosses_line.Statement.{statement}
 use Rattle.sheet_entries.proofs.messages.crosses_line.Tie as tie

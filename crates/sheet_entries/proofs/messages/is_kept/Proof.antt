@@ -2,7 +2,7 @@
 -- Assumes nothing.
 use borrow.Author.Needs.{needs}
 use native.Mathlib.Omega.{arith}
-use Rattle.sheet_entries.proofs.SearchLaws.{undelivered-kept, old-kept, delivered-kept}
+use Rattle.sheet_entries.proofs.SearchLaws.{delivered-kept, old-kept, undelivered-kept}
 use Rattle.run_table.specs.Format.{checkpointAt, messageAt, processAt}
 use Rattle.sheet_entries.proofs.messages.is_kept.Statement.{statement}
 use Rattle.sheet_entries.proofs.messages.is_kept.Tie as tie

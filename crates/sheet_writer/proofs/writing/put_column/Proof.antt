@@ -3,7 +3,7 @@
 use native.Mathlib.Omega.{arith}
 use mathlib.Core.Path.{refl}
 use Prim.Native.Nat.{_-_, zero-le}
-use Rattle.sheet_writer.proofs.PutLaws.{Putting, putting-none, putting-length, putting-all, row-room, row-more, column-read}
+use Rattle.sheet_writer.proofs.PutLaws.{Putting, column-read, putting-all, putting-length, putting-none, row-more, row-room}
 use Rattle.sheet_entries.specs.Kept.{columnAt, columnOf, keptOf}
 use Rattle.sheet_entries.specs.Scratch.{linesIn}
 use Rattle.run_table.specs.Format.{countAt}

@@ -2,7 +2,7 @@
 -- Assumes nothing.
 use borrow.Author.Needs.{needs}
 use mathlib.Core.Bool.{true, false}
-use Rattle.sheet_writer.proofs.PartLaws.{sizes-needs, sizes-put, column-needs, column-put, positions-needs, positions-put}
+use Rattle.sheet_writer.proofs.PartLaws.{column-needs, column-put, positions-needs, positions-put, sizes-needs, sizes-put}
 use Rattle.sheet_writer.proofs.writing.put_part.Statement.{statement}
 use Rattle.sheet_writer.proofs.writing.put_part.Tie as tie
 

@@ -6,7 +6,7 @@ use mathlib.Core.Path.{refl}
 use borrow.Author.Tests.{not-true, not-false}
 use Prim.Native.Nat.{_-_, zero-le}
 use Rattle.sheet_entries.proofs.SearchLaws.{lowest-read}
-use Rattle.sheet_writer.proofs.PutLaws.{Putting, putting-none, putting-length, putting-all, passing-room, passing-skip, passing-more}
+use Rattle.sheet_writer.proofs.PutLaws.{Putting, passing-more, passing-room, passing-skip, putting-all, putting-length, putting-none}
 use Rattle.sheet_entries.specs.Kept.{isKept, positionsOf}
 use Rattle.sheet_entries.specs.Scratch.{linesIn}
 use Rattle.run_table.specs.Format.{messageAt, processAt}

@@ -2,8 +2,8 @@
 -- Assumes nothing.
 use native.Mathlib.Omega.{arith}
 use Prim.Native.Nat.{_-_}
-use Rattle.sheet_writer.proofs.PutLaws.{Laying, laying-first, laying-room, laying-more, putting-all, putting-length}
-use Rattle.sheet_entries.specs.Kept.{shows, keptOf}
+use Rattle.sheet_writer.proofs.PutLaws.{Laying, laying-first, laying-more, laying-room, putting-all, putting-length}
+use Rattle.sheet_entries.specs.Kept.{keptOf, shows}
 use Rattle.sheet_entries.specs.Scratch.{linesIn}
 use Rattle.sheet_writer.proofs.writing.put_process.Statement.{statement}
 use Rattle.sheet_writer.proofs.writing.put_process.Tie as tie

@@ -6,7 +6,7 @@ use mathlib.Core.Path.{ap}
 use Prim.Native.Nat.{_-_}
 use lib.ListN.{length}
 use Rattle.run_table.proofs.ReadLaws.{messages-few, receipts-size}
-use Rattle.steps.proofs.PositionLaws.{Positions, positions-none, positions-more, positions-all, position-bad, bad-beyond, bad-receiver, bad-received, good-here}
+use Rattle.steps.proofs.PositionLaws.{Positions, bad-beyond, bad-received, bad-receiver, good-here, position-bad, positions-all, positions-more, positions-none}
 use Rattle.run_table.specs.Format.{decode}
 use Rattle.steps.proofs.checkpoint.bad_position.Statement.{statement}
 use Rattle.steps.proofs.checkpoint.bad_position.Tie as tie

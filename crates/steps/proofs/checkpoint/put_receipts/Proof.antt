@@ -6,7 +6,7 @@ use mathlib.Core.Path.{refl}
 use Prim.Native.Nat.{_-_, _<_}
 use lib.ListN.{getD, length}
 use denote.Ref.{now}
-use Rattle.steps.proofs.PositionLaws.{Received, received-none, received-more, received-all}
+use Rattle.steps.proofs.PositionLaws.{Received, received-all, received-more, received-none}
 use Rattle.steps.proofs.checkpoint.put_receipts.Statement.{statement}
 use Rattle.steps.proofs.checkpoint.put_receipts.Tie as tie
 

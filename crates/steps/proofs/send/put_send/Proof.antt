@@ -24,7 +24,7 @@ start c = c .before .before .before .before .before
 -- what was read of the table
 known : (c : tie.After-count-array) → Read (now (start c .args .table)) (c .before .before .process-count .result) (c .before .message-count .result) (c .count-array .result)
 known c = record {
-  none = start c .pre .0;
+  accepted = start c .pre .0;
   read-n = c .before .before .process-count .ensures;
   read-m = c .before .message-count .ensures;
   read-counts = c .count-array .ensures;

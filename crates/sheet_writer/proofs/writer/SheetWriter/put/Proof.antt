@@ -52,7 +52,7 @@ use Rattle.sheet_writer.specs.Writing.{Put}
 use Rattle.sheet_writer.specs.Writers.{standing}
 use Rattle.run_table.specs.Format.{decode}
 use Rattle.sheet_writer.proofs.Loans.{Waiting, lend-on, take-back}
-use Rattle.sheet_writer.proofs.Walking.{life, row, machine, lent, lent-goes, part-val, part-typed, and-local, freed}
+use Rattle.sheet_writer.proofs.Walking.{and-local, freed, lent, lent-goes, life, machine, part-typed, part-val, row}
 use Rattle.sheet_writer.proofs.writer.SheetWriter as T
 use Rattle.sheet_writer.proofs.writer.SheetWriter.Laws as T′
 use Rattle.sheet_writer.proofs.writing.Part as P

@@ -1,11 +1,11 @@
--- `scratch::entry` meets its contract: the place is within the n × n numbers.
+-- `scratch::number_in_line` meets its contract: the place is within the n × n numbers.
 -- Assumes nothing.
 use native.Mathlib.Omega.{arith}
 use Rattle.sheet_entries.proofs.ScratchLaws.{cell-below}
 use Rattle.sheet_entries.specs.Scratch.{linesIn}
 use mathlib.Core.Path.{refl}
-use Rattle.sheet_entries.proofs.scratch.entry.Statement.{statement}
-use Rattle.sheet_entries.proofs.scratch.entry.Tie as tie
+use Rattle.sheet_entries.proofs.scratch.number_in_line.Statement.{statement}
+use Rattle.sheet_entries.proofs.scratch.number_in_line.Tie as tie
 
 mul-result : tie.Need-mul-result
 mul-result c = omega (arith, cell-below _ _ _ (c .pre .1 .0) (c .pre .1 .1))
@@ -23,6 +23,6 @@ returns : tie.Need-returns
 unfolding linesIn
 returns c = refl
 
-pub entry-spec : {M : Type 1} → statement M
-entry-spec =
+pub number-in-line-spec : {M : Type 1} → statement M
+number-in-line-spec =
     tie.close (tie.spec mul-result add-result mul-result-2 shared-slice-read-result returns)

@@ -1,4 +1,4 @@
--- `refusals::save_refusal` meets its contract: the checks, one after another.
+-- `refusals::checkpoint_refusal` meets its contract: the checks, one after another.
 -- Assumes nothing.
 use borrow.Author.Needs.{needs}
 use mathlib.Core.Bool.{false, _||_}
@@ -7,14 +7,14 @@ use denote.Ref.{now}
 use lib.Dec.{leb}
 use Rattle.futures.specs.Steps.{badPosition, checkpointChecks, notRising}
 use Rattle.keeper.proofs.RefusalLaws.{first-of, le-read, lt-read, neither, own-caught, read-le, read-lt, second-of, table-caught}
-use Rattle.keeper.specs.Calls.{saveCallChecks}
-use Rattle.run_table.proofs.CheckLaws.{clear, passed, stopped}
+use Rattle.keeper.specs.Calls.{checkpointCallChecks}
+use Rattle.run_table.proofs.CheckLaws.{passed, quiet-none, stopped}
 use Rattle.run_table.specs.Checks.{tableRefusal}
 use Rattle.run_table.specs.Format.{decode}
 use Rattle.run_table.specs.Lists.{any}
 use Rattle.run_table.specs.Table.{processCount}
-use Rattle.keeper.proofs.refusals.save_refusal.Statement.{statement}
-use Rattle.keeper.proofs.refusals.save_refusal.Tie as tie
+use Rattle.keeper.proofs.refusals.checkpoint_refusal.Statement.{statement}
+use Rattle.keeper.proofs.refusals.checkpoint_refusal.Tie as tie
 
 -- the table is accepted
 accepted : (c : tie.Else1) → tableRefusal (now (c .before .before .before .before .args .table)) ≡ 0
@@ -37,9 +37,9 @@ listed c =
     let good = c .before .before in
     neither _ _ (sym (good .before .bad-position .ensures) ∙ good .if3 .left) (sym (c .before .not-rising .ensures) ∙ c .if4 .left)
 
-pub save-refusal-spec : {M : Type 1} → statement M
-unfolding saveCallChecks checkpointChecks
-save-refusal-spec =
+pub checkpoint-refusal-spec : {M : Type 1} → statement M
+unfolding checkpointCallChecks checkpointChecks
+checkpoint-refusal-spec =
     tie.close
     (tie.spec
     (λ c κs. search needs)
@@ -72,4 +72,4 @@ save-refusal-spec =
     (λ c.
     let list = c .before .before in
     own-caught _ _ (accepted (process list .before .before))
-    (passed _ _ _ (known (process list)) (passed _ _ _ (listed list) (passed _ _ _ (lt-read (c .before .count .ensures) (c .if5 .left)) clear)))))
+    (passed _ _ _ (known (process list)) (passed _ _ _ (listed list) (passed _ _ _ (lt-read (c .before .count .ensures) (c .if5 .left)) quiet-none)))))
