@@ -1,3 +1,3 @@
--- What the code of a rollback writes.
---     Rollback    a receipt beside the recovery line
+-- What the code of a rollback is given and writes.
+--     Rollback    a table at its recovery line; a receipt beside it
 pub mod Rollback

@@ -7,14 +7,12 @@ use table_writer::put_head;
 ghost use mathlib.Core.Path.{_≡_};
 ghost use Prim.Native.Nat.{_+_, _*_, _≤_};
 ghost use lib.ListN.{length};
-ghost use Rattle.consistency.specs.Ceilings.{recoveryLine};
 ghost use Rattle.futures.specs.Steps.{afterRollback};
 ghost use Rattle.run_table.specs.Arrays.{arrayOf};
-ghost use Rattle.run_table.specs.Checks.{tableRefusal};
 ghost use Rattle.run_table.specs.Format.{decode, encode, receiptsOf, sendsOf, tableLength};
 ghost use Rattle.run_table.specs.Numbers.{putAt, u16s};
 ghost use Rattle.run_table.specs.Table.{messageCount, processCount};
-ghost use Rattle.rollback.specs.Rollback.{receiptLeft};
+ghost use Rattle.rollback.specs.Rollback.{AtLine, receiptLeft};
 
 // The receipt number that a message is left with, beside the line's number at its receiver: 0 where it
 // is after the line.
@@ -29,8 +27,7 @@ fn receipt_left(received: u16, height: u16) -> u16
 
 // How many messages of an accepted table stay, given its recovery line.
 pub fn count_remaining(table: &[u8], line: [u16; 32]) -> usize
-    requires { ⌜ tableRefusal (now table) ≡ 0 ⌝ }
-    requires { ⌜ line ≡ arrayOf (recoveryLine (decode (now table))) ⌝ }
+    requires { ⌜ AtLine (now table) line ⌝ }
     ensures { λ r. ⌜ r ≡ messageCount (afterRollback (decode (now (table .entry)))) ⌝ }
 {
     let m = parts::message_count(table);
@@ -51,8 +48,7 @@ pub fn count_remaining(table: &[u8], line: [u16; 32]) -> usize
 
 // The counts that a rollback leaves, given the recovery line of an accepted table: L + 1 at each process.
 fn counts_left(table: &[u8], line: [u16; 32]) -> [u16; 32]
-    requires { ⌜ tableRefusal (now table) ≡ 0 ⌝ }
-    requires { ⌜ line ≡ arrayOf (recoveryLine (decode (now table))) ⌝ }
+    requires { ⌜ AtLine (now table) line ⌝ }
     ensures { λ r. ⌜ r ≡ arrayOf (afterRollback (decode (now (table .entry))) .counts) ⌝ }
 {
     let n = parts::process_count(table);
@@ -68,8 +64,7 @@ fn counts_left(table: &[u8], line: [u16; 32]) -> [u16; 32]
 // Writes the sends of the m messages that stay, at a place of a buffer that has room for them, and
 // behind these their receipts.
 fn put_messages(table: &[u8], line: [u16; 32], m: usize, buffer: &mut [u8], at: usize)
-    requires { ⌜ tableRefusal (now table) ≡ 0 ⌝ }
-    requires { ⌜ line ≡ arrayOf (recoveryLine (decode (now table))) ⌝ }
+    requires { ⌜ AtLine (now table) line ⌝ }
     requires { ⌜ m ≡ messageCount (afterRollback (decode (now table))) ⌝ }
     requires { ⌜ at + 8 * m ≤ length (now buffer) ⌝ }
     ensures { λ _. ⌜ now (buffer .exit)
@@ -105,8 +100,7 @@ fn put_messages(table: &[u8], line: [u16; 32], m: usize, buffer: &mut [u8], at: 
 // Writes the table that a rollback of an accepted table leaves, given its recovery line and how many
 // messages stay, to the front of a buffer that has room for it.
 pub fn put_rollback(table: &[u8], line: [u16; 32], m: usize, answer: &mut [u8])
-    requires { ⌜ tableRefusal (now table) ≡ 0 ⌝ }
-    requires { ⌜ line ≡ arrayOf (recoveryLine (decode (now table))) ⌝ }
+    requires { ⌜ AtLine (now table) line ⌝ }
     requires { ⌜ m ≡ messageCount (afterRollback (decode (now table))) ⌝ }
     requires { ⌜ tableLength (processCount (decode (now table))) m ≤ length (now answer) ⌝ }
     ensures { λ _. ⌜ now (answer .exit) ≡ putAt (now (answer .entry)) 0 (encode (afterRollback (decode (now (table .entry))))) ⌝ }

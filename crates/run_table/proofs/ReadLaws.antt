@@ -17,7 +17,8 @@ use Rattle.run_table.proofs.FormatLaws.{counts-length, decode-count, de
 use Rattle.run_table.specs.Checks.{GoodMessage, tableRefusal}
 use Rattle.run_table.specs.Format.{checkpointAt, countAt, countsAt, countsPart, decode, messageAt, messagesIn, processAt, processesIn, receiptsAt, receiptsPart, sendsAt, sendsPart, tableLength}
 use Rattle.run_table.specs.Numbers.{u16At}
-use Rattle.run_table.specs.Table.{Message, countOf, messageCount, messageOf, mostCheckpoints, mostMessages, mostProcesses, processCount}
+use Rattle.run_table.specs.Parts.{Counts, Messages}
+use Rattle.run_table.specs.Table.{Message, Table, countOf, messageCount, messageOf, mostCheckpoints, mostMessages, mostProcesses, processCount}
 
 module _ (bytes : List ℕ) (accepted : tableRefusal bytes ≡ 0) where
   abbrev N : ℕ
@@ -115,3 +116,74 @@ module _ (bytes : List ℕ) (accepted : tableRefusal bytes ≡ 0) where
       pub received-read : part ≡ receiptsPart bytes → v ≡ u16At part (4 * k + 2) → v ≡ messageOf (decode bytes) k .received
       unfolding messageAt checkpointAt
       received-read is e = e ∙ ap (λ (s : List ℕ). u16At s (4 * k + 2)) is ∙ ap (λ (x : Message). x .received) message-is
+
+-- ---- the parts as a function may take them
+module _ (bytes : List ℕ) (accepted : tableRefusal bytes ≡ 0) {n : ℕ} (n-is : n ≡ processCount (decode bytes)) where
+  pub counts-known : {counts : List ℕ} → counts ≡ countsPart bytes → Counts n counts
+  counts-known are =
+      rw (n-is, are) record { few = processes-few bytes accepted; size = counts-size bytes accepted; positive = counts-positive bytes accepted }
+
+-- ---- the messages as the code has read them
+-- How many there are in an accepted table, their sends and their receipts. The sizes follow from the rest; where they stand in a
+-- loop's invariant, `omega` finds them.
+pub record ReadMessages (bytes : List ℕ) (m : ℕ) (sends receipts : List ℕ) : Type 0 where
+  pub accepted : tableRefusal bytes ≡ 0
+  pub m-is : m ≡ messageCount (decode bytes)
+  pub sends-are : sends ≡ sendsPart bytes
+  pub receipts-are : receipts ≡ receiptsPart bytes
+  pub sends-size : length sends ≡ 4 * m
+  pub receipts-size : length receipts ≡ 4 * m
+
+pub messages-read : {bytes : List ℕ} {m : ℕ} {sends receipts : List ℕ} → tableRefusal bytes ≡ 0 → m ≡ messageCount (decode bytes)
+    → sends ≡ sendsPart bytes → receipts ≡ receiptsPart bytes → ReadMessages bytes m sends receipts
+messages-read {bytes} accepted m-is sends-are receipts-are = record {
+  accepted = accepted;
+  m-is = m-is;
+  sends-are = sends-are;
+  receipts-are = receipts-are;
+  sends-size = rw (sends-are, m-is) (sends-size bytes accepted);
+  receipts-size = rw (receipts-are, m-is) (receipts-size bytes accepted);
+}
+
+module _ {bytes : List ℕ} {m : ℕ} {sends receipts : List ℕ} (read : ReadMessages bytes m sends receipts) where
+  abbrev t : Table
+  t = decode bytes
+
+  pub messages-known : {n : ℕ} → processCount t ≤ n → Messages n m sends receipts
+  messages-known l =
+      record {
+        few = omega (arith, read .m-is, messages-few bytes (read .accepted));
+        sends-size = read .sends-size;
+        receipts-size = read .receipts-size;
+        senders-known = rw (read .m-is, read .sends-are) (λ k b. omega (arith, senders-known bytes (read .accepted) k b));
+        receivers-known = rw (read .m-is, read .receipts-are) (λ k b. omega (arith, receivers-known bytes (read .accepted) k b));
+      }
+
+  -- message k
+  module _ {k : ℕ} (l : k < m) where
+    there : k < messageCount t
+    there = omega (arith, read .m-is)
+
+    pub good : GoodMessage t (messageOf t k)
+    good = message-good bytes (read .accepted) k there
+
+    -- by the numbers that were read of its entries
+    module _ {j : ℕ} (e : j ≡ u16At sends (4 * k)) where
+      pub sender-is : j ≡ messageOf t k .sender
+      sender-is = sender-read bytes (read .accepted) k there sends j (read .sends-are) e
+
+      pub sender-small : j < mostProcesses
+      sender-small = omega (arith, sender-is, good .sender-known, processes-few bytes (read .accepted))
+
+    pub sent-is : {y : ℕ} → y ≡ u16At sends (4 * k + 2) → y ≡ messageOf t k .sent
+    sent-is e = sent-read bytes (read .accepted) k there sends _ (read .sends-are) e
+
+    module _ {i : ℕ} (e : i ≡ u16At receipts (4 * k)) where
+      pub receiver-is : i ≡ messageOf t k .receiver
+      receiver-is = receiver-read bytes (read .accepted) k there receipts i (read .receipts-are) e
+
+      pub receiver-small : i < mostProcesses
+      receiver-small = omega (arith, receiver-is, good .receiver-known, processes-few bytes (read .accepted))
+
+    pub received-is : {r : ℕ} → r ≡ u16At receipts (4 * k + 2) → r ≡ messageOf t k .received
+    received-is e = received-read bytes (read .accepted) k there receipts _ (read .receipts-are) e

@@ -1,11 +1,15 @@
--- Of the code: what its loops read off a part of a table's bytes, entry by entry. The laws join these to the checks. Assumes nothing.
+-- Of the code: what its loops read off a part of a table's bytes, entry by entry, and what it may assume of the parts of an accepted
+-- table. The laws join these to the checks. Assumes nothing.
 use mathlib.Core.Bool.{Bool, cond}
 use mathlib.Core.List.{List, [], _∷_, map}
-use Prim.Native.Nat.{ℕ, suc}
+use mathlib.Core.Path.{_≡_}
+use Prim.Native.Nat.{ℕ, suc, _+_, _*_, _≤_, _<_}
 use lib.Dec.{eqb, leb}
+use lib.ListN.{length}
 use Rattle.run_table.specs.Checks.{Check, badCount, firstCaught}
 use Rattle.run_table.specs.Format.{checkpointAt, countAt, processAt}
 use Rattle.run_table.specs.Lists.{anyBelow}
+use Rattle.run_table.specs.Table.{mostMessages, mostProcesses}
 
 -- Entry p of a part of counts is 0 or above 4,096.
 unfoldable pub badCountAt : List ℕ → ℕ → Bool
@@ -57,3 +61,25 @@ partsChecks n m counts sends receipts = record { caught = anyBelow n (badCountAt
 
 abbrev pub partsRefusal : ℕ → ℕ → List ℕ → List ℕ → List ℕ → ℕ
 partsRefusal n m counts sends receipts = firstCaught (partsChecks n m counts sends receipts)
+
+-- ---- the parts of an accepted table
+-- n counts, each at least 1.
+pub record Counts (n : ℕ) (counts : List ℕ) : Type 0 where
+  pub few : n ≤ mostProcesses
+  pub size : length counts ≡ 2 * n
+  pub positive : (p : ℕ) → p < n → 0 < countAt counts p
+
+-- The sends and the receipts of m messages between n processes.
+pub record Messages (n m : ℕ) (sends receipts : List ℕ) : Type 0 where
+  pub few : m ≤ mostMessages
+  pub sends-size : length sends ≡ 4 * m
+  pub receipts-size : length receipts ≡ 4 * m
+  pub senders-known : (k : ℕ) → k < m → processAt sends k < n
+  pub receivers-known : (k : ℕ) → k < m → processAt receipts k < n
+
+-- Message k of them: both its entries are there, with known processes.
+pub record MessageThere (n k : ℕ) (sends receipts : List ℕ) : Type 0 where
+  pub in-sends : 4 * k + 3 < length sends
+  pub in-receipts : 4 * k + 3 < length receipts
+  pub sender-known : processAt sends k < n
+  pub receiver-known : processAt receipts k < n

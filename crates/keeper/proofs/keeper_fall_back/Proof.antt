@@ -7,23 +7,38 @@ use denote.Ref.{now}
 use Rattle.keeper.proofs.AnswerLaws.{Quiet, answered, refused, sixteen, too-short}
 use Rattle.keeper.proofs.StepAnswers.{rollback-bytes, rollback-taken, table-holds}
 use Rattle.keeper.specs.Calls.{rollbackAnswer}
+use Rattle.rollback.specs.Rollback.{AtLine}
 use Rattle.run_table.proofs.CheckLaws.{table-refusals}
 use Rattle.run_table.specs.Checks.{tableChecks, tableRefusal}
 use Rattle.run_table.specs.Format.{decode}
 use Rattle.keeper.proofs.keeper_fall_back.Statement.{statement}
 use Rattle.keeper.proofs.keeper_fall_back.Tie as tie
 
--- no check before 16 caught, so the table is accepted
-abbrev start : tie.Else1 → tie.Start
-start c = c .before .before .before .before
+-- ---- the places: the entry; where no check before 16 caught; where the recovery line was found; where the size was
+abbrev entry : tie.Else1 → tie.Start
+entry c = c .before .before .before .before
 
-accepted : (c : tie.Else1) → tableRefusal (now (start c .args .table)) ≡ 0
+abbrev judged : tie.After-recovery-line → tie.Else1
+judged c = c .before
+
+abbrev lined : tie.After-rollback-size → tie.After-recovery-line
+lined c = c .before .before
+
+abbrev sized : tie.After-put-rollback → tie.After-rollback-size
+sized c = c .before .before .before
+
+-- ---- what is known there: the table is accepted
+accepted : (c : tie.Else1) → tableRefusal (now (entry c .args .table)) ≡ 0
 accepted c = sym (c .before .check .ensures) ∙ c .if1 .left
 
-quiet : (c : tie.Else1) → Quiet (tableChecks (now (start c .args .table)))
+quiet : (c : tie.Else1) → Quiet (tableChecks (now (entry c .args .table)))
 unfolding tableRefusal
 quiet c = record { refusals = table-refusals _; quiet = accepted c }
 
+at-line : (c : tie.After-recovery-line) → AtLine (now (entry (judged c) .args .table)) (c .recovery-line .result)
+at-line c = record { accepted = accepted (judged c); line-is = c .recovery-line .ensures }
+
+-- ---- the needs, in the code's course
 pub keeper-fall-back-spec : {M : Type 1} → statement M
 unfolding rollbackAnswer tableRefusal
 keeper-fall-back-spec =
@@ -34,24 +49,22 @@ keeper-fall-back-spec =
     (λ c. (refused _ _ _ (c .before .check .ensures) (c .if1 .taken), λ e. absurd (c .if1 .taken e)))
     -- asked by `recovery_line`, `count_remaining` and `rollback_size`
     (λ c κs. accepted c)
-    (λ c κs. (accepted (c .before), c .recovery-line .ensures))
-    (λ c κs. (accepted (c .before .before), c .count-remaining .ensures))
+    (λ c κs. at-line c)
+    (λ c κs. (accepted (judged (c .before)), c .count-remaining .ensures))
     -- 16
-    (λ c. (too-short _ _ _ (quiet (c .before .before .before .before)) (c .before .rollback-size .ensures) (c .if2 .taken), sixteen))
+    (λ c. (too-short _ _ _ (quiet (judged (lined (c .before)))) (c .before .rollback-size .ensures) (c .if2 .taken), sixteen))
     -- asked by `put_rollback`
     (λ c κs.
-    let sized = c .before .before in
-    let lined = sized .before .before in
-    let bytes = rollback-bytes (decode (now (start (lined .before) .args .table))) in
-    let m = sized .before .count-remaining .ensures in
-    (accepted (lined .before), (lined .recovery-line .ensures, (m, omega (arith, c .before .if2 .left, sized .rollback-size .ensures, bytes)))))
+    let size = c .before .before in
+    let bytes = rollback-bytes (decode (now (entry (judged (lined size)) .args .table))) in
+    (at-line (lined size), (size .before .count-remaining .ensures, omega (arith, c .before .if2 .left, size .rollback-size .ensures, bytes))))
     (λ c. search needs)
     -- the answer
     (λ c.
     let put = c .before .before in
-    let sized = put .before .before .before in
-    let judged = sized .before .before .before in
+    let size = sized put .rollback-size .ensures in
+    let here = judged (lined (sized put)) in
     let table = put .put-rollback .ensures in (
-      answered _ _ _ (quiet judged) (sized .rollback-size .ensures) (put .before .before .if2 .left) table,
-      λ _. table-holds (rollback-taken _ (accepted judged)) _ table (sized .rollback-size .ensures),
+      answered _ _ _ (quiet here) size (put .before .before .if2 .left) table,
+      λ _. table-holds (rollback-taken _ (accepted here)) _ table size,
     )))
