@@ -101,13 +101,15 @@ module _ (t : Table) (w : WellFormed t) where
 
   -- the minimum over the members, one after another: of the lines under the minimum of the ceilings
   smallest-latest : (holds : Holders) (n : ℕ)
-      → Latest (t .messages) (smallest n holds (λ i. asLine (ceilingOf t (single i))) (countOf t)) (smallest n holds (λ i. asLine (lineOf t (single i))) (countOf t))
+      → Latest (t .messages) (smallest n holds (λ i. asLine (ceilingOf t (single i))) (countOf t))
+      (smallest n holds (λ i. asLine (lineOf t (single i))) (countOf t))
   unfolding smallest
   smallest-latest holds zero = counts-latest
   smallest-latest holds (suc n) = smaller (holds n) (smallest-latest holds n)
     where
       smaller : (b : Bool) {c l : Line} → Latest (t .messages) c l
-          → Latest (t .messages) (λ p. cond b (min (asLine (ceilingOf t (single n)) p) (c p)) (c p)) (λ p. cond b (min (asLine (lineOf t (single n)) p) (l p)) (l p))
+          → Latest (t .messages) (λ p. cond b (min (asLine (ceilingOf t (single n)) p) (c p)) (c p))
+          (λ p. cond b (min (asLine (lineOf t (single n)) p) (l p)) (l p))
       smaller true {c} {l} a = latest-min (t .messages) (asLine (ceilingOf t (single n))) c (asLine (lineOf t (single n))) l (set-latest t (single n)) a
       smaller false a = a
 
@@ -149,7 +151,8 @@ module _ (t : Table) (holds : Holders) (p : ℕ) where
     where
       by-place : Dec (p ≡ n) → reached n ≡ wanted (holds p && ltb p n) → reached (suc n) ≡ wanted (holds p && ltb p (suc n))
       by-place (yes e) ih =
-          let before : reached n ≡ countOf t p = ih ∙ ap (λ (b : Bool). wanted (holds p && b)) (le-ltb p n (omega arith)) ∙ ap wanted (and-false (holds p)) in
+          let before : reached n ≡ countOf t p = ih ∙ ap (λ (b : Bool). wanted (holds p && b)) (le-ltb p n (omega arith))
+          ∙ ap wanted (and-false (holds p)) in
           let after : wanted (holds p && ltb p (suc n)) ≡ wanted (holds p) =
           ap (λ (b : Bool). wanted (holds p && b)) (lt-ltb p (suc n) (omega arith)) ∙ ap wanted (and-true (holds p))
           in
@@ -189,7 +192,8 @@ module _ (holds : Holders) (lines : ℕ → Line) (base : Line) where
       under true x y z k = omega arith
       under false x y z k = k
 
-      by-place : Dec (i ≡ n) → (i < n → smallest n holds lines base p ≤ lines i p) → cond (holds n) (min (lines n p) (smallest n holds lines base p)) (smallest n holds lines base p) ≤ lines i p
+      by-place : Dec (i ≡ n) → (i < n → smallest n holds lines base p ≤ lines i p)
+          → cond (holds n) (min (lines n p) (smallest n holds lines base p)) (smallest n holds lines base p) ≤ lines i p
       by-place (yes e) before = rw (sym e, h) (omega arith)
       by-place (no e) before = under (holds n) (lines n p) (smallest n holds lines base p) (lines i p) (before (omega arith))
 
@@ -205,7 +209,8 @@ module _ (holds : Holders) (lines : ℕ → Line) (base : Line) where
       go : (b : Bool) → holds n ≡ b → Dec (lines n p ≤ smallest n holds lines base p)
           → (smallest n holds lines base p ≡ base p) ⊎ ((i : ℕ) × (i < n) × (holds i ≡ true) × (lines i p ≡ smallest n holds lines base p))
           → (cond b (min (lines n p) (smallest n holds lines base p)) (smallest n holds lines base p) ≡ base p)
-          ⊎ ((i : ℕ) × (i < suc n) × (holds i ≡ true) × (lines i p ≡ cond b (min (lines n p) (smallest n holds lines base p)) (smallest n holds lines base p)))
+          ⊎ ((i : ℕ) × (i < suc n) × (holds i ≡ true)
+          × (lines i p ≡ cond b (min (lines n p) (smallest n holds lines base p)) (smallest n holds lines base p)))
       go true h (yes l) before = inr (n, omega arith, h, omega arith)
       go true h (no l) (inl e) = inl (omega arith)
       go true h (no l) (inr o) = inr (o .0, omega (arith, o .1), o .2, omega (arith, o .3))
@@ -229,4 +234,5 @@ module _ (t : Table) (w : WellFormed t) (holds : Holders) where
   }
     where
       below : (i : ℕ) → i < processCount t → holds i ≡ true → AtOrBelow (asLine (lineOf t holds)) (singles i)
-      below i b e p = subst⁻¹ (λ (x : ℕ). x ≤ singles i p) (line-smallest t w holds p) (smallest-below holds singles (countOf t) (processCount t) i b e p)
+      below i b e p =
+          subst⁻¹ (λ (x : ℕ). x ≤ singles i p) (line-smallest t w holds p) (smallest-below holds singles (countOf t) (processCount t) i b e p)

@@ -52,7 +52,8 @@ module _ (messages : List Message) (a b : Line) (ca : Consistent messages a) (cb
       go (yes s) = omega (arith, orphan-free m a (ca k) (o .delivered) s, o .received-before)
       go (no s) = omega (arith, orphan-free m b (cb k) (o .delivered) (omega (arith, o .sent-after)), o .received-before)
 
-pub latest-unique : (messages : List Message) (ceiling l l′ : Line) → Latest messages ceiling l → Latest messages ceiling l′ → (p : ℕ) → l p ≡ l′ p
+pub latest-unique : (messages : List Message) (ceiling l l′ : Line) → Latest messages ceiling l → Latest messages ceiling l′ → (p : ℕ)
+    → l p ≡ l′ p
 latest-unique messages ceiling l l′ a b p =
     le-antisymm (b .latest l (a .under) (a .consistent) p) (a .latest l′ (b .under) (b .consistent) p)
 
@@ -62,7 +63,8 @@ latest-monotone messages ceiling ceiling′ l l′ h a b = b .latest l (λ p. le
 
 -- the messages of one list stand in the other
 pub latest-antitone : (messages more : List Message) (ceiling l l′ : Line)
-    → ((k : ℕ) → (k′ : ℕ) × (getD more k′ noMessage ≡ getD messages k noMessage)) → Latest messages ceiling l → Latest more ceiling l′ → AtOrBelow l′ l
+    → ((k : ℕ) → (k′ : ℕ) × (getD more k′ noMessage ≡ getD messages k noMessage)) → Latest messages ceiling l → Latest more ceiling l′
+    → AtOrBelow l′ l
 latest-antitone messages more ceiling l l′ found a b =
     a .latest l′ (b .under) (λ k o. b .consistent (found k .0) (subst⁻¹ (λ (m : Message). Orphan m l′) (found k .1) o))
 

@@ -35,9 +35,12 @@ unfolding isOrphan
 orphan-is m l e =
     let rest = and-right (ltb 0 (m .received)) (leb (asLine l (m .sender)) (m .sent) && leb (m .received) (asLine l (m .receiver))) e in
     record {
-      delivered = ltb-true 0 (m .received) (and-left (ltb 0 (m .received)) (leb (asLine l (m .sender)) (m .sent) && leb (m .received) (asLine l (m .receiver))) e);
-      sent-after = leb-true (asLine l (m .sender)) (m .sent) (and-left (leb (asLine l (m .sender)) (m .sent)) (leb (m .received) (asLine l (m .receiver))) rest);
-      received-before = leb-true (m .received) (asLine l (m .receiver)) (and-right (leb (asLine l (m .sender)) (m .sent)) (leb (m .received) (asLine l (m .receiver))) rest);
+      delivered =
+          ltb-true 0 (m .received) (and-left (ltb 0 (m .received)) (leb (asLine l (m .sender)) (m .sent) && leb (m .received) (asLine l (m .receiver))) e);
+      sent-after =
+          leb-true (asLine l (m .sender)) (m .sent) (and-left (leb (asLine l (m .sender)) (m .sent)) (leb (m .received) (asLine l (m .receiver))) rest);
+      received-before =
+          leb-true (m .received) (asLine l (m .receiver)) (and-right (leb (asLine l (m .sender)) (m .sent)) (leb (m .received) (asLine l (m .receiver))) rest);
     }
 
 pub orphan-test : (m : Message) (l : List ℕ) → Orphan m (asLine l) → isOrphan m l ≡ true
@@ -82,7 +85,8 @@ module _ (m : Message) (l : List ℕ) (o : Orphan m (asLine l)) where
   put-back-under p = go (ℕ-discrete p (m .receiver))
     where
       go : Dec (p ≡ m .receiver) → asLine (set l (m .receiver) (m .received - 1)) p ≤ asLine l p
-      go (yes e) = subst⁻¹ (λ (q : ℕ). asLine (set l (m .receiver) (m .received - 1)) q ≤ asLine l q) e (omega (arith, put-back-here, o .received-before))
+      go (yes e) =
+          subst⁻¹ (λ (q : ℕ). asLine (set l (m .receiver) (m .received - 1)) q ≤ asLine l q) e (omega (arith, put-back-here, o .received-before))
       go (no e) = omega (arith, getD-set-other l (m .receiver) p (m .received - 1) 0 e)
 
   -- every line at or below, of which the message is no orphan, stays at or below
@@ -110,7 +114,8 @@ module _ (m : Message) (l : List ℕ) where
   left e = rw e
 
   -- what holds of the line put back and of the line as it is holds of the lowered line
-  lower-cases : (P : List ℕ → Type 0) → (Orphan m (asLine l) → P (set l (m .receiver) (m .received - 1))) → ((Orphan m (asLine l) → ⊥) → P l) → P (lower m l)
+  lower-cases : (P : List ℕ → Type 0) → (Orphan m (asLine l) → P (set l (m .receiver) (m .received - 1))) → ((Orphan m (asLine l) → ⊥) → P l)
+      → P (lower m l)
   lower-cases P back same = go (isOrphan m l) refl
     where
       go : (b : Bool) → isOrphan m l ≡ b → P (lower m l)
@@ -174,7 +179,8 @@ pass-progress : (ms : List Message) (l : List ℕ) → Progress ms l
 unfolding Progress pass
 pass-progress [] l = inl (record { same = refl; consistent = nil-consistent (asLine l) })
 pass-progress (m ∷ rest) l =
-    ⊎-elim (λ s. more-progress m rest l s (isOrphan m l) refl) (λ (h : sum (pass rest l) < sum l). inr (omega (arith, lower-sum m (pass rest l)))) (pass-progress rest l)
+    ⊎-elim (λ s. more-progress m rest l s (isOrphan m l) refl) (λ (h : sum (pass rest l) < sum l). inr (omega (arith, lower-sum m (pass rest l))))
+    (pass-progress rest l)
 
 -- ---- passes
 passes-under : (n : ℕ) (ms : List Message) (l : List ℕ) → AtOrBelow (asLine (passes n ms l)) (asLine l)
@@ -224,7 +230,9 @@ module _ (ms : List Message) (ceiling : List ℕ) where
 
   -- a line of the ceiling's length that is the latest one is the computed one
   pub line-is : (l : List ℕ) → length l ≡ length ceiling → Latest ms (asLine ceiling) (asLine l) → l ≡ lineUnder ms ceiling
-  line-is l e a = ext-getD 0 l (lineUnder ms ceiling) (e ∙ sym line-length) (λ p _. latest-unique ms (asLine ceiling) (asLine l) (asLine (lineUnder ms ceiling)) a line-latest p)
+  line-is l e a =
+      ext-getD 0 l (lineUnder ms ceiling) (e ∙ sym line-length)
+      (λ p _. latest-unique ms (asLine ceiling) (asLine l) (asLine (lineUnder ms ceiling)) a line-latest p)
 
 -- any start between the line and its ceiling ends at the same line
 pub line-from : (ms : List Message) (ceiling start : List ℕ) → length start ≡ length ceiling → AtOrBelow (asLine (lineUnder ms ceiling)) (asLine start)

@@ -13,8 +13,8 @@ Line = ℕ → ℕ
 abbrev pub asLine : List ℕ → Line
 asLine l p = getD l p 0
 
--- A message (j, y) to (i, r) is an orphan of a line where r is not 0, y is at or above the line at j, and r is at or below
--- it at i: it was received before the line and sent after it.
+-- A message (j, y) to (i, r) is an orphan of a line where r is not 0, y is at or above the line at j, and r is at or
+-- below it at i: it was received before the line and sent after it.
 pub record Orphan (m : Message) (l : Line) : Type 0 where
   pub delivered : 0 < m .received
   pub sent-after : l (m .sender) ≤ m .sent
@@ -28,7 +28,8 @@ Consistent messages l = (k : ℕ) → Orphan (getD messages k noMessage) l → �
 abbrev pub AtOrBelow : Line → Line → Type 0
 AtOrBelow l l′ = (p : ℕ) → l p ≤ l′ p
 
--- The latest consistent line under a ceiling: it is at or below the ceiling, consistent, and at or above every other such line.
+-- The latest consistent line under a ceiling: it is at or below the ceiling, consistent, and at or above every other
+-- such line.
 pub record Latest (messages : List Message) (ceiling l : Line) : Type 0 where
   pub under : AtOrBelow l ceiling
   pub consistent : Consistent messages l

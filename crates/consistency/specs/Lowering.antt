@@ -10,7 +10,8 @@ use Rattle.run_table.specs.Table.{Message}
 
 -- Whether a message is an orphan of a line.
 unfoldable pub isOrphan : Message → List ℕ → Bool
-isOrphan m l = ltb 0 (m .received) && (leb (asLine l (m .sender)) (m .sent) && leb (m .received) (asLine l (m .receiver)))
+isOrphan m l =
+    ltb 0 (m .received) && (leb (asLine l (m .sender)) (m .sent) && leb (m .received) (asLine l (m .receiver)))
 
 -- An orphan puts its receiver back to r − 1.
 unfoldable pub lower : Message → List ℕ → List ℕ
@@ -26,7 +27,7 @@ unfoldable pub passes : ℕ → List Message → List ℕ → List ℕ
 passes zero messages l = l
 passes (suc n) messages l = passes n messages (pass messages l)
 
--- The line under a ceiling: as many passes as the ceiling's sum, since a pass that lowers anything lowers the sum, and one
--- that lowers nothing is followed by none that does.
+-- The line under a ceiling: as many passes as the ceiling's sum, since a pass that lowers anything lowers the sum, and
+-- one that lowers nothing is followed by none that does.
 unfoldable pub lineUnder : List Message → List ℕ → List ℕ
 lineUnder messages ceiling = passes (sum ceiling) messages ceiling

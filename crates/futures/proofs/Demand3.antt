@@ -13,7 +13,8 @@ use mathlib.Core.Logic.{_↔_, Iff·trans}
 use mathlib.Core.Path.{_≡_}
 use Prim.Native.Nat.{ℕ, _<_}
 use lib.ListN.{length, getD}
-use Rattle.futures.proofs.NeedLaws.{checkpoint-all-back, checkpoint-need-kept, kept-on-held, kept-open, message-all-back, message-need-kept, on-held-kept, open-kept}
+use Rattle.futures.proofs.NeedLaws.{checkpoint-all-back, checkpoint-need-kept, kept-on-held, kept-open, message-all-back, message-need-kept}
+use Rattle.futures.proofs.NeedLaws.{on-held-kept, open-kept}
 use Rattle.futures.proofs.KeptLaws.{checkpoints-listed, listed-at, messages-listed}
 use Rattle.futures.proofs.WitnessLaws.{checkpoint-kept-needed, message-kept-needed}
 use Rattle.futures.specs.Demand3.{Demand3, Listed}
@@ -57,7 +58,8 @@ module _ (t : Table) (w : WellFormed t) where
   entry-needed x h = demand-3 t w .checkpoints (x .process) (x .number) .0 h
 
   pub each-entry-has-a-future :
-      ((n : ℕ) (d : Checkpoint) → n < length (keptCheckpoints t) → CheckpointNeeded t (getD (keptCheckpoints t) n d .process) (getD (keptCheckpoints t) n d .number))
+      ((n : ℕ) (d : Checkpoint) → n < length (keptCheckpoints t)
+      → CheckpointNeeded t (getD (keptCheckpoints t) n d .process) (getD (keptCheckpoints t) n d .number))
       × ((n : ℕ) (d : ℕ) → n < length (keptMessages t) → MessageNeeded t (getD (keptMessages t) n d))
   each-entry-has-a-future = (
     λ n d l. entry-needed (getD (keptCheckpoints t) n d) (listed-at (keptCheckpoints t) n d l),

@@ -23,9 +23,14 @@ use lib.Dec.{eqb}
 use lib.ListN.{length, take}
 use Rattle.consistency.specs.Ceilings.{recoveryLine}
 use Rattle.consistency.specs.Lines.{AtOrBelow, asLine}
-use Rattle.futures.proofs.StepLaws.{checkpoint-grows, checkpoint-known, checkpoint-message, checkpoint-messages, checkpoint-waiting, putBack-receiver, putBack-sender, putBack-sent, receivedAt-listed, receivedAt-unlisted, rollback-count, rollback-message, rollback-order, rollback-place, send-count, send-message-new, send-message-old, send-messages, step-cases, step-well-formed}
-use Rattle.futures.specs.Futures.{FollowedTo, Future, NeedsCheckpoint, NeedsMessage, Place, StepKeeps, StillThere, at-position, endOf, gone, moved, placeOf}
-use Rattle.futures.specs.Steps.{Step, afterCheckpoint, afterRollback, afterSend, checkpoint, checkpointChecks, putBack, receivedAt, remaining, rollback, send, sendChecks, stays, step}
+use Rattle.futures.proofs.StepLaws.{checkpoint-grows, checkpoint-known, checkpoint-message, checkpoint-messages, checkpoint-waiting, putBack-receiver}
+use Rattle.futures.proofs.StepLaws.{putBack-sender, putBack-sent, receivedAt-listed, receivedAt-unlisted, rollback-count, rollback-message}
+use Rattle.futures.proofs.StepLaws.{rollback-order, rollback-place, send-count, send-message-new, send-message-old, send-messages, step-cases}
+use Rattle.futures.proofs.StepLaws.{step-well-formed}
+use Rattle.futures.specs.Futures.{FollowedTo, Future, NeedsCheckpoint, NeedsMessage, Place, StepKeeps, StillThere, at-position, endOf, gone, moved}
+use Rattle.futures.specs.Futures.{placeOf}
+use Rattle.futures.specs.Steps.{Step, afterCheckpoint, afterRollback, afterSend, checkpoint, checkpointChecks, putBack, receivedAt, remaining, rollback}
+use Rattle.futures.specs.Steps.{send, sendChecks, stays, step}
 use Rattle.run_table.proofs.FormatLaws.{count-beyond, message-beyond}
 use Rattle.run_table.specs.Checks.{WellFormed, firstCaught}
 use Rattle.run_table.specs.Lists.{any}
@@ -105,7 +110,8 @@ module _ (t : Table) where
     new-undelivered = λ k l. beyond-undelivered (afterCheckpoint t i list) k (omega (arith, checkpoint-messages t i list));
   }) (table-grown t)
     where
-      goes-on : firstCaught (checkpointChecks t i list) ≡ 0 → (k : ℕ) (listed : Bool) → any (eqb k) list ≡ listed → GoesOn t (messageOf t k) (receivedAt t i list k)
+      goes-on : firstCaught (checkpointChecks t i list) ≡ 0 → (k : ℕ) (listed : Bool) → any (eqb k) list ≡ listed
+          → GoesOn t (messageOf t k) (receivedAt t i list k)
       goes-on quiet k true e =
           let waits = checkpoint-waiting t i list quiet k e in
           subst⁻¹ (GoesOn t (messageOf t k)) (receivedAt-listed t i list k e) (record {
@@ -220,7 +226,8 @@ unfolding StillThere endOf
 still-there-count t [] i c b still = b
 still-there-count t (s ∷ rest) i c b still = still-there-count (step t s) rest i c (step-keeps-count t s i c b (still .0)) (still .1)
 
-pub followed-inside : (t : Table) (future : Future) (k k′ : ℕ) → k < messageCount t → FollowedTo t future k k′ → k′ < messageCount (endOf t future)
+pub followed-inside : (t : Table) (future : Future) (k k′ : ℕ) → k < messageCount t → FollowedTo t future k k′
+    → k′ < messageCount (endOf t future)
 unfolding endOf
 followed-inside t [] k k′ l e = omega (arith, followed-here t k k′ e)
 followed-inside t (s ∷ rest) k k′ l e =
@@ -248,12 +255,14 @@ pub followed-once : (t : Table) (future : Future) (k a b : ℕ) → FollowedTo t
 unfolding FollowedTo
 followed-once t future k a b e f = same-position a b (sym e ∙ f)
 
-pub followed-order : (t : Table) (future : Future) (a b a′ b′ : ℕ) → a < b → b < messageCount t → FollowedTo t future a a′ → FollowedTo t future b b′ → a′ < b′
+pub followed-order : (t : Table) (future : Future) (a b a′ b′ : ℕ) → a < b → b < messageCount t → FollowedTo t future a a′
+    → FollowedTo t future b b′ → a′ < b′
 followed-order t [] a b a′ b′ h l e f = omega (arith, followed-here t a a′ e, followed-here t b b′ f)
 followed-order t (s ∷ rest) a b a′ b′ h l e f =
     let x = followed-first t s rest a a′ e in
     let y = followed-first t s rest b b′ f in
-    followed-order (step t s) rest (x .0) (y .0) a′ b′ (moved-order t s a b (x .0) (y .0) h l (x .1) (y .1)) (moved-inside t s b (y .0) l (y .1)) (x .2) (y .2)
+    followed-order (step t s) rest (x .0) (y .0) a′ b′ (moved-order t s a b (x .0) (y .0) h l (x .1) (y .1))
+    (moved-inside t s b (y .0) l (y .1)) (x .2) (y .2)
 
 -- ---- one future after another
 pub end-append : (t : Table) (first later : Future) → endOf t (first ++ later) ≡ endOf (endOf t first) later
@@ -269,7 +278,8 @@ still-there-append t (s ∷ rest) later i c =
     let rest-of = still-there-append (step t s) rest later i c in
     (λ h. ((h .0, rest-of .0 (h .1) .0), rest-of .0 (h .1) .1), λ h. (h .0 .0, rest-of .1 (h .0 .1, h .1)))
 
-pub place-append : (t : Table) (first later : Future) (place : Place) → placeOf t (first ++ later) place ≡ placeOf (endOf t first) later (placeOf t first place)
+pub place-append : (t : Table) (first later : Future) (place : Place)
+    → placeOf t (first ++ later) place ≡ placeOf (endOf t first) later (placeOf t first place)
 unfolding placeOf endOf
 place-append t [] later place = refl
 place-append t (s ∷ rest) later (at-position k) = place-append (step t s) rest later (moved t s k)
@@ -281,20 +291,24 @@ unfolding FollowedTo
 followed-append t first later k k′ k″ e f = place-append t first later (at-position k) ∙ ap (placeOf (endOf t first) later) e ∙ f
 
 module _ (t : Table) (first later : Future) where
-  pub needs-checkpoint-later : (i c : ℕ) → c < countOf t i → StillThere t first i c → NeedsCheckpoint (endOf t first) later i c → NeedsCheckpoint t (first ++ later) i c
+  pub needs-checkpoint-later : (i c : ℕ) → c < countOf t i → StillThere t first i c → NeedsCheckpoint (endOf t first) later i c
+      → NeedsCheckpoint t (first ++ later) i c
   needs-checkpoint-later i c b still needs = record {
     a-checkpoint = b;
     still-there = still-there-append t first later i c .1 (still, needs .still-there);
     on-the-line = ap (λ (x : Table). asLine (recoveryLine x) i) (end-append t first later) ∙ needs .on-the-line;
   }
 
-  pub needs-message-later : (k k′ : ℕ) → k < messageCount t → FollowedTo t first k k′ → NeedsMessage (endOf t first) later k′ → NeedsMessage t (first ++ later) k
+  pub needs-message-later : (k k′ : ℕ) → k < messageCount t → FollowedTo t first k k′ → NeedsMessage (endOf t first) later k′
+      → NeedsMessage t (first ++ later) k
   needs-message-later k k′ l still needs = record {
     a-message = l;
     position = n;
     still-there = followed-append t first later k k′ n still (needs .still-there);
-    sent-before = subst⁻¹ (λ (x : Table). messageOf x n .sent < asLine (recoveryLine x) (messageOf x n .sender)) (end-append t first later) (needs .sent-before);
-    not-received = subst⁻¹ (λ (x : Table). (messageOf x n .received ≡ 0) ⊎ (asLine (recoveryLine x) (messageOf x n .receiver) < messageOf x n .received))
+    sent-before =
+        subst⁻¹ (λ (x : Table). messageOf x n .sent < asLine (recoveryLine x) (messageOf x n .sender)) (end-append t first later) (needs .sent-before);
+    not-received =
+        subst⁻¹ (λ (x : Table). (messageOf x n .received ≡ 0) ⊎ (asLine (recoveryLine x) (messageOf x n .receiver) < messageOf x n .received))
         (end-append t first later) (needs .not-received);
   }
     where
@@ -316,7 +330,8 @@ needs-message-now t k = (
       let here : n .position ≡ k = sym (followed-here t k (n .position) (n .still-there)) in (
         n .a-message,
         subst (λ (x : ℕ). messageOf t x .sent < asLine (recoveryLine t) (messageOf t x .sender)) here (n .sent-before),
-        subst (λ (x : ℕ). (messageOf t x .received ≡ 0) ⊎ (asLine (recoveryLine t) (messageOf t x .receiver) < messageOf t x .received)) here (n .not-received),
+        subst (λ (x : ℕ). (messageOf t x .received ≡ 0) ⊎ (asLine (recoveryLine t) (messageOf t x .receiver) < messageOf t x .received)) here
+            (n .not-received),
       ),
   λ h. record { a-message = h .0; position = k; still-there = refl; sent-before = h .1; not-received = h .2 },
 )

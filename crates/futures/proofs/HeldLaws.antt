@@ -85,7 +85,8 @@ module _ (t t′ : Table) (w : WellFormed t) (g : Grown t t′) (l : Line) (h : 
   cut p = min (l p) (countOf t p)
 
   -- the larger of the line and of one that was consistent before, under the ceiling of the cut line, is consistent afterwards
-  larger-consistent : (f : Line) → AtOrBelow f (λ p. max (countOf t p - 1) (cut p)) → Consistent (t .messages) f → Consistent (t′ .messages) (λ p. max (f p) (l p))
+  larger-consistent : (f : Line) → AtOrBelow f (λ p. max (countOf t p - 1) (cut p)) → Consistent (t .messages) f
+      → Consistent (t′ .messages) (λ p. max (f p) (l p))
   unfolding messageOf
   larger-consistent f under c k o = go (decLt k (messageCount t)) (ℕ-discrete (messageOf t k .received) 0)
     where

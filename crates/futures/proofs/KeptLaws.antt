@@ -119,7 +119,8 @@ module _ {A : Type 0} (R : A → A → Type 0) where
       go (no x) (yes y) = absurd (omega arith)
       go (no x) (no y) = rw (behind a (omega arith), behind b (omega arith)) (o′ (a - length l) (b - length l) d (omega arith) (late (omega arith)))
 
-  pub ordered-map : {B : Type 0} (S : B → B → Type 0) (f : B → A) (l : List B) → ((x y : B) → S x y → R (f x) (f y)) → Ordered S l → Ordered R (map f l)
+  pub ordered-map : {B : Type 0} (S : B → B → Type 0) (f : B → A) (l : List B) → ((x y : B) → S x y → R (f x) (f y)) → Ordered S l
+      → Ordered R (map f l)
   unfolding Ordered
   ordered-map S f [] keep o a b d h k = absurd (not-suc-le-zero k)
   ordered-map S f (x ∷ rest) keep o a b d h k =
@@ -130,7 +131,8 @@ module _ {A : Type 0} (R : A → A → Type 0) where
       ) (keep _ _ (o a b x h within))
 
   -- so no entry stands twice, where none is in the relation to itself
-  pub ordered-once : ((x : A) → R x x → ⊥) → (l : List A) → Ordered R l → (a b : ℕ) (d : A) → a < length l → b < length l → getD l a d ≡ getD l b d → a ≡ b
+  pub ordered-once : ((x : A) → R x x → ⊥) → (l : List A) → Ordered R l → (a b : ℕ) (d : A) → a < length l → b < length l
+      → getD l a d ≡ getD l b d → a ≡ b
   unfolding Ordered
   ordered-once never l o a b d ha hb e = go (decLt a b) (decLt b a)
     where
@@ -146,7 +148,8 @@ module _ {A : Type 0} (f : ℕ → List A) where
   rows-listed x zero h = absurd (listed-none x h)
   rows-listed x (suc n) h = go (listed-append x (rows f n) (f n) h) (rows-listed x n)
     where
-      go : Listed x (rows f n) ⊎ Listed x (f n) → (Listed x (rows f n) → (i : ℕ) × (i < n) × Listed x (f i)) → (i : ℕ) × (i < suc n) × Listed x (f i)
+      go : Listed x (rows f n) ⊎ Listed x (f n) → (Listed x (rows f n) → (i : ℕ) × (i < n) × Listed x (f i))
+          → (i : ℕ) × (i < suc n) × Listed x (f i)
       go (inl early) before =
           let found = before early in
           (found .0, omega (arith, found .1), found .2)
@@ -161,7 +164,8 @@ module _ {A : Type 0} (f : ℕ → List A) where
       go (yes e) before = listed-right x (rows f n) (f n) (subst (λ (k : ℕ). Listed x (f k)) e h)
       go (no e) before = listed-left x (rows f n) (f n) (before (omega arith))
 
-  pub rows-ordered : (R : A → A → Type 0) → ((i : ℕ) → Ordered R (f i)) → ((i j : ℕ) (x y : A) → i < j → Listed x (f i) → Listed y (f j) → R x y)
+  pub rows-ordered : (R : A → A → Type 0) → ((i : ℕ) → Ordered R (f i))
+      → ((i j : ℕ) (x y : A) → i < j → Listed x (f i) → Listed y (f j) → R x y)
       → (n : ℕ) → Ordered R (rows f n)
   unfolding rows
   rows-ordered R each across zero = ordered-none R
@@ -222,7 +226,8 @@ module _ (t : Table) where
             (found .0, found .1, eqb-true (asLine (holderLine t (found .0)) i) c (found .2)),
           ),
       λ h.
-          rw (lt-ltb c (countOf t i) (h .0), anyBelow-found on-line (processCount t) (h .1 .0) (h .1 .1) (eq-eqb (asLine (holderLine t (h .1 .0)) i) c (h .1 .2))),
+          let k = h .1 .0 in
+          rw (lt-ltb c (countOf t i) (h .0), anyBelow-found on-line (processCount t) k (h .1 .1) (eq-eqb (asLine (holderLine t k) i) c (h .1 .2))),
     )
       where
         on-line : ℕ → Bool
@@ -246,7 +251,8 @@ module _ (t : Table) where
         across : ℕ → Bool
         across k = crosses (asLine (holderLine t k)) m
 
-        there : (b : Bool) → eqb (m .received) 0 ≡ b → (b || anyBelow (processCount t) across) ≡ true → (m .received ≡ 0) ⊎ HolderWith t (λ l. Across m (asLine l))
+        there : (b : Bool) → eqb (m .received) 0 ≡ b → (b || anyBelow (processCount t) across) ≡ true
+            → (m .received ≡ 0) ⊎ HolderWith t (λ l. Across m (asLine l))
         there true waits e = inl (eqb-true (m .received) 0 waits)
         there false waits e =
             let found = found-below across (processCount t) e in
@@ -319,5 +325,6 @@ module _ (t : Table) where
       never x (inl h) = omega arith
       never x (inr h) = omega (arith, h .1)
 
-  pub messages-once : (a b d : ℕ) → a < length (keptMessages t) → b < length (keptMessages t) → getD (keptMessages t) a d ≡ getD (keptMessages t) b d → a ≡ b
+  pub messages-once : (a b d : ℕ) → a < length (keptMessages t) → b < length (keptMessages t) → getD (keptMessages t) a d ≡ getD (keptMessages t) b d
+      → a ≡ b
   messages-once = ordered-once _<_ (λ x h. omega arith) (keptMessages t) messages-ordered

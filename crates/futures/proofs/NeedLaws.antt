@@ -15,7 +15,8 @@ use native.Mathlib.Decide.{decLt, ℕ-discrete}
 use native.Mathlib.Omega.{arith}
 use Rattle.consistency.specs.Ceilings.{recoveryLine, single}
 use Rattle.consistency.specs.Lines.{AtOrBelow, Line, asLine}
-use Rattle.futures.proofs.FutureLaws.{Grown, MovedTo, checkpoint-grown, followed-first, followed-here, moved-inside, rolled-message, rolled-to, same-position, send-grown, step-keeps-count}
+use Rattle.futures.proofs.FutureLaws.{Grown, MovedTo, checkpoint-grown, followed-first, followed-here, moved-inside, rolled-message, rolled-to}
+use Rattle.futures.proofs.FutureLaws.{same-position, send-grown, step-keeps-count}
 use Rattle.futures.proofs.HeldLaws.{Held, held-above, held-attained, held-before, set-held}
 use Rattle.futures.proofs.KeptLaws.{Across, HolderWith, keeps-checkpoint, keeps-message}
 use Rattle.futures.proofs.StepLaws.{putBack-before, recovery-latest, rollback-line, stays-sent, step-well-formed}
@@ -136,7 +137,8 @@ module _ (t : Table) (w : WellFormed t) where
   checkpoint-back (checkpoint i′ list) i c b keeps on = grown-checkpoint t (step t (checkpoint i′ list)) w (checkpoint-grown t i′ list) i c b on
   checkpoint-back rollback i c b keeps on = unfold step in rolled-checkpoint t i c keeps on
 
-  grown-back : (t′ : Table) → Grown t t′ → (k n : ℕ) → at-position k ≡ at-position n → k < messageCount t → Open t′ (messageOf t′ n) → Open t (messageOf t k)
+  grown-back : (t′ : Table) → Grown t t′ → (k n : ℕ) → at-position k ≡ at-position n → k < messageCount t → Open t′ (messageOf t′ n)
+      → Open t (messageOf t k)
   grown-back t′ g k n e l open′ = grown-message t t′ w g k l (subst⁻¹ (λ (x : ℕ). Open t′ (messageOf t′ x)) (same-position k n e) open′)
 
   pub message-back : (s : Step) (k n : ℕ) → k < messageCount t → MovedTo t s k n → Open (step t s) (messageOf (step t s) n) → Open t (messageOf t k)

@@ -36,7 +36,8 @@ use Rattle.consistency.proofs.CeilingLaws.{ceiling-at, set-latest, set-length}
 use Rattle.consistency.proofs.LineLaws.{latest-same}
 use Rattle.consistency.specs.Ceilings.{ceilingOf, lineOf, recoveryLine}
 use Rattle.consistency.specs.Lines.{AtOrBelow, Latest, Orphan, asLine}
-use Rattle.futures.specs.Steps.{Step, afterCheckpoint, afterRollback, afterSend, badPosition, checkpoint, checkpointChecks, notRising, notRisingAfter, putBack, receivedAt, remaining, rollback, send, sendChecks, stays, step, unlessCaught, waitsFor}
+use Rattle.futures.specs.Steps.{Step, afterCheckpoint, afterRollback, afterSend, badPosition, checkpoint, checkpointChecks, notRising, notRisingAfter}
+use Rattle.futures.specs.Steps.{putBack, receivedAt, remaining, rollback, send, sendChecks, stays, step, unlessCaught, waitsFor}
 use Rattle.run_table.proofs.CheckLaws.{passed, quiet-cons, quiet-none}
 use Rattle.run_table.proofs.FormatLaws.{count-beyond, message-beyond}
 use Rattle.run_table.proofs.ListLaws.{and-left, and-right, any-none, getD-tabulate, length-tabulate, or-false-left, or-false-right}
@@ -205,7 +206,8 @@ module _ (t : Table) (i : ℕ) (list : List ℕ) where
 
   pub checkpoint-each : (P : Message → Type 0)
       → ((k : ℕ) → k < messageCount t → any (eqb k) list ≡ true → P (withReceipt (messageOf t k) (countOf t i)))
-      → ((k : ℕ) → k < messageCount t → P (messageOf t k)) → (k : ℕ) → k < messageCount (afterCheckpoint t i list) → P (messageOf (afterCheckpoint t i list) k)
+      → ((k : ℕ) → k < messageCount t → P (messageOf t k)) → (k : ℕ) → k < messageCount (afterCheckpoint t i list)
+      → P (messageOf (afterCheckpoint t i list) k)
   checkpoint-each P listed unlisted k l =
       let b : k < messageCount t = omega (arith, checkpoint-messages) in
       subst⁻¹ P (checkpoint-message k b) (receivedAt-cases k P (listed k b) (unlisted k b))
@@ -303,7 +305,8 @@ module _ (l : List ℕ) where
   remaining-append (m ∷ rest) ys = go (stays l m) (remaining-append rest ys)
     where
       go : (b : Bool) → remaining l (rest ++ ys) ≡ remaining l rest ++ remaining l ys
-          → cond b (putBack l m ∷ remaining l (rest ++ ys)) (remaining l (rest ++ ys)) ≡ cond b (putBack l m ∷ remaining l rest) (remaining l rest) ++ remaining l ys
+          → cond b (putBack l m ∷ remaining l (rest ++ ys)) (remaining l (rest ++ ys))
+          ≡ cond b (putBack l m ∷ remaining l rest) (remaining l rest) ++ remaining l ys
       go true e = ap (λ (x : List Message). putBack l m ∷ x) e
       go false e = e
 
@@ -312,7 +315,8 @@ module _ (l : List ℕ) where
   remaining-fewer [] = omega arith
   remaining-fewer (m ∷ rest) = go (stays l m) (remaining-fewer rest)
     where
-      go : (b : Bool) → length (remaining l rest) ≤ length rest → length (cond b (putBack l m ∷ remaining l rest) (remaining l rest)) ≤ suc (length rest)
+      go : (b : Bool) → length (remaining l rest) ≤ length rest
+          → length (cond b (putBack l m ∷ remaining l rest) (remaining l rest)) ≤ suc (length rest)
       go true h = omega arith
       go false h = omega arith
 
@@ -439,7 +443,8 @@ module _ (checks : List Check) (after before : Table) where
 
 -- ---- well formed tables
 -- a good message among as many processes, where no count is lower
-still-good : (t t′ : Table) (m : Message) → processCount t′ ≡ processCount t → ((p : ℕ) → countOf t p ≤ countOf t′ p) → GoodMessage t m → GoodMessage t′ m
+still-good : (t t′ : Table) (m : Message) → processCount t′ ≡ processCount t → ((p : ℕ) → countOf t p ≤ countOf t′ p) → GoodMessage t m
+    → GoodMessage t′ m
 still-good t t′ m n c g = record {
   sender-known = omega (arith, g .sender-known);
   receiver-known = omega (arith, g .receiver-known);
@@ -472,7 +477,8 @@ send-well-formed t j i w quiet = record {
           received-below = omega (arith, w .some-checkpoint i (names .1), same i);
         }
 
-pub checkpoint-well-formed : (t : Table) (i : ℕ) (list : List ℕ) → WellFormed t → firstCaught (checkpointChecks t i list) ≡ 0 → WellFormed (afterCheckpoint t i list)
+pub checkpoint-well-formed : (t : Table) (i : ℕ) (list : List ℕ) → WellFormed t → firstCaught (checkpointChecks t i list) ≡ 0
+    → WellFormed (afterCheckpoint t i list)
 checkpoint-well-formed t i list w quiet = record {
   some-process = omega (arith, checkpoint-processes t i list, w .some-process);
   some-checkpoint = λ p l. omega (arith, grows p, w .some-checkpoint p (omega (arith, checkpoint-processes t i list)));
@@ -509,7 +515,8 @@ rollback-well-formed t w = record {
   good-messages = rollback-each t (GoodMessage (afterRollback t)) (λ k l e. good k l e 0 (omega arith)) (λ k l e. good k l e (messageOf t k .received));
 }
   where
-    good : (k : ℕ) → k < messageCount t → stays (recoveryLine t) (messageOf t k) ≡ true → (n : ℕ) → n ≤ asLine (recoveryLine t) (messageOf t k .receiver)
+    good : (k : ℕ) → k < messageCount t → stays (recoveryLine t) (messageOf t k) ≡ true → (n : ℕ)
+        → n ≤ asLine (recoveryLine t) (messageOf t k .receiver)
         → GoodMessage (afterRollback t) (withReceipt (messageOf t k) n)
     good k l e n under =
         let m = messageOf t k in
@@ -567,7 +574,8 @@ module _ (t : Table) where
   no-orphan-of = recovery-latest t .consistent
 
   -- the line is no higher than that of a table of which it is at or below the last checkpoints, with no message for an orphan
-  no-higher : (t′ : Table) → ((p : ℕ) → asLine (recoveryLine t) p ≤ countOf t′ p - 1) → ((k : ℕ) → k < messageCount t′ → NoOrphan (messageOf t′ k))
+  no-higher : (t′ : Table) → ((p : ℕ) → asLine (recoveryLine t) p ≤ countOf t′ p - 1)
+      → ((k : ℕ) → k < messageCount t′ → NoOrphan (messageOf t′ k))
       → AtOrBelow (asLine (recoveryLine t)) (asLine (recoveryLine t′))
   unfolding messageOf
   no-higher t′ under none = recovery-latest t′ .latest (asLine (recoveryLine t)) under (λ k o. go k o (decLt k (messageCount t′)))
@@ -608,7 +616,8 @@ module _ (t : Table) where
   pub line-never-back : (s : Step) (p : ℕ) → asLine (recoveryLine t) p ≤ asLine (recoveryLine (step t s)) p
   unfolding step
   line-never-back (send j i) p =
-      step-cases (sendChecks t j i) (afterSend t j i) t (λ t′. asLine (recoveryLine t) p ≤ asLine (recoveryLine t′) p) (λ _. send-no-higher j i p) (omega arith)
+      step-cases (sendChecks t j i) (afterSend t j i) t (λ t′. asLine (recoveryLine t) p ≤ asLine (recoveryLine t′) p)
+      (λ _. send-no-higher j i p) (omega arith)
   line-never-back (checkpoint i list) p =
       step-cases (checkpointChecks t i list) (afterCheckpoint t i list) t (λ t′. asLine (recoveryLine t) p ≤ asLine (recoveryLine t′) p)
       (λ quiet. checkpoint-no-higher i list quiet p) (omega arith)

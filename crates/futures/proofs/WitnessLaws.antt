@@ -23,8 +23,10 @@ use Rattle.consistency.specs.Ceilings.{Holders, ceilingOf, lineOf, recoveryLine
 use Rattle.consistency.specs.Lines.{asLine}
 use Rattle.consistency.specs.Lowering.{lineUnder}
 use Rattle.futures.proofs.KeptLaws.{Across, HolderWith, keeps-checkpoint, keeps-message}
-use Rattle.futures.proofs.StepLaws.{checkpoint-count-here, checkpoint-count-other, checkpoint-message, checkpoint-messages, checkpoint-processes, checkpoint-quiet, receivedAt-unlisted, step-taken}
-use Rattle.futures.specs.Futures.{CheckpointNeeded, FollowedTo, Future, MessageNeeded, NeedsCheckpoint, NeedsMessage, StepKeeps, StillThere, endOf, moved, placeOf}
+use Rattle.futures.proofs.StepLaws.{checkpoint-count-here, checkpoint-count-other, checkpoint-message, checkpoint-messages, checkpoint-processes}
+use Rattle.futures.proofs.StepLaws.{checkpoint-quiet, receivedAt-unlisted, step-taken}
+use Rattle.futures.specs.Futures.{CheckpointNeeded, FollowedTo, Future, MessageNeeded, NeedsCheckpoint, NeedsMessage, StepKeeps, StillThere, endOf}
+use Rattle.futures.specs.Futures.{moved, placeOf}
 use Rattle.futures.specs.Sheet.{holderLine, keepsCheckpoint, keepsMessage}
 use Rattle.futures.specs.Steps.{afterCheckpoint, checkpoint, checkpointChecks, notRising, step}
 use Rattle.run_table.specs.Checks.{WellFormed}
@@ -141,7 +143,8 @@ module _ (t : Table) (holds : Holders) where
       ext-getD 0 (ceilingOf E (λ p. true)) (ceilingOf t holds) (ceiling-length E (λ p. true) ∙ waited .same-processes ∙ sym (ceiling-length t holds))
       (λ p l.
       let inside : p < processCount t = omega (arith, ceiling-length E (λ p. true), waited .same-processes) in
-      ceiling-at E (λ p. true) p ∙ ap (λ (x : ℕ). x - 1) (waited .counts-below p inside) ∙ last-at (countOf t p) (holds p) ∙ sym (ceiling-at t holds p))
+      ceiling-at E (λ p. true) p ∙ ap (λ (x : ℕ). x - 1) (waited .counts-below p inside) ∙ last-at (countOf t p) (holds p)
+      ∙ sym (ceiling-at t holds p))
 
   pub others-line : recoveryLine (endOf t (othersCheckpoint holds (processCount t))) ≡ lineOf t holds
   unfolding recoveryLine lineOf
@@ -152,7 +155,8 @@ module _ (t : Table) (holds : Holders) where
   others-message k = ap (λ (ms : List Message). getD ms k noMessage) (waited .same-messages)
 
   -- what lies on the line of the set, or is sent before it and not received before it, this future needs
-  pub others-need-checkpoint : (i c : ℕ) → c < countOf t i → asLine (lineOf t holds) i ≡ c → NeedsCheckpoint t (othersCheckpoint holds (processCount t)) i c
+  pub others-need-checkpoint : (i c : ℕ) → c < countOf t i → asLine (lineOf t holds) i ≡ c
+      → NeedsCheckpoint t (othersCheckpoint holds (processCount t)) i c
   others-need-checkpoint i c b on = record {
     a-checkpoint = b;
     still-there = waited .all-there i c;

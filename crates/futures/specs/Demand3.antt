@@ -1,5 +1,5 @@
--- Demand 3 (docs/MANUAL.md, "The keep sheet"): what any future needs is on the sheet, and what is on the sheet some future needs.
--- Assumes nothing.
+-- Demand 3 (docs/MANUAL.md, "The keep sheet"): what any future needs is on the sheet, and what is on the sheet some
+-- future needs. Assumes nothing.
 use mathlib.Core.List.{List}
 use mathlib.Core.Logic.{_↔_}
 use mathlib.Core.Path.{_≡_}
@@ -13,7 +13,9 @@ use Rattle.run_table.specs.Table.{Table}
 unfoldable pub Listed : {A : Type 0} → A → List A → Type 0
 Listed x l = (n : ℕ) × (n < length l) × (getD l n x ≡ x)
 
--- Checkpoint c of process i is listed just when some future needs it, and the message at position k just when some future needs it.
+-- Checkpoint c of process i is listed just when some future needs it, and the message at position k just when some
+-- future needs it.
 pub record Demand3 (t : Table) : Type 0 where
-  pub checkpoints : (i c : ℕ) → Listed {A = Checkpoint} (record { process = i; number = c }) (keptCheckpoints t) ↔ CheckpointNeeded t i c
+  pub checkpoints : (i c : ℕ) → Listed {A = Checkpoint} (record { process = i; number = c }) (keptCheckpoints t)
+      ↔ CheckpointNeeded t i c
   pub messages : (k : ℕ) → Listed k (keptMessages t) ↔ MessageNeeded t k

@@ -1,6 +1,6 @@
--- Futures and what they need (docs/MANUAL.md, "The keep sheet"). A future is a finite list of steps; each takes what the one before it
--- left, and nobody else changes the table in between. It is told of the recovery line and of the steps, and of nothing else.
--- Assumes nothing.
+-- Futures and what they need (docs/MANUAL.md, "The keep sheet"). A future is a finite list of steps; each takes what
+-- the one before it left, and nobody else changes the table in between. It is told of the recovery line and of the
+-- steps, and of nothing else. Assumes nothing.
 use mathlib.Core.Bool.{cond}
 use mathlib.Core.List.{List, [], _∷_}
 use mathlib.Core.Logic.{_⊎_}
@@ -39,12 +39,14 @@ pub data Place : Type 0 where
   at-position : ℕ → Place
   gone : Place
 
--- A rollback moves the message at position k to the number of messages before it that stay, or removes it. Other steps leave it.
+-- A rollback moves the message at position k to the number of messages before it that stay, or removes it. Other steps
+-- leave it.
 unfoldable pub moved : Table → Step → ℕ → Place
 moved t (send j i) k = at-position k
 moved t (checkpoint i list) k = at-position k
 moved t rollback k =
-    cond (stays (recoveryLine t) (messageOf t k)) (at-position (length (remaining (recoveryLine t) (take k (t .messages))))) gone
+    cond (stays (recoveryLine t) (messageOf t k))
+    (at-position (length (remaining (recoveryLine t) (take k (t .messages))))) gone
 
 -- Where a message that stands at a place is at the end.
 unfoldable pub placeOf : Table → Future → Place → Place
@@ -63,15 +65,17 @@ pub record NeedsCheckpoint (t : Table) (future : Future) (i c : ℕ) : Type 0 wh
   pub still-there : StillThere t future i c
   pub on-the-line : asLine (recoveryLine (endOf t future)) i ≡ c
 
--- The message at position k of the first table, where it is still there, as (j, y) to (i, r) in E, and y < L of j, and r is 0 or
--- above L of i.
+-- The message at position k of the first table, where it is still there, as (j, y) to (i, r) in E, and y < L of j, and
+-- r is 0 or above L of i.
 pub record NeedsMessage (t : Table) (future : Future) (k : ℕ) : Type 0 where
   pub a-message : k < messageCount t
   pub position : ℕ
   pub still-there : FollowedTo t future k position
-  pub sent-before : messageOf (endOf t future) position .sent < asLine (recoveryLine (endOf t future)) (messageOf (endOf t future) position .sender)
+  pub sent-before : messageOf (endOf t future) position .sent
+      < asLine (recoveryLine (endOf t future)) (messageOf (endOf t future) position .sender)
   pub not-received : (messageOf (endOf t future) position .received ≡ 0)
-      ⊎ (asLine (recoveryLine (endOf t future)) (messageOf (endOf t future) position .receiver) < messageOf (endOf t future) position .received)
+      ⊎ (asLine (recoveryLine (endOf t future)) (messageOf (endOf t future) position .receiver)
+      < messageOf (endOf t future) position .received)
 
 -- Some future needs it.
 unfoldable pub CheckpointNeeded : Table → ℕ → ℕ → Type 0

@@ -1,5 +1,5 @@
--- The keep sheet (docs/MANUAL.md, "The keep sheet"): retained checkpoints and message logs, from the lines of single holders.
--- Assumes nothing.
+-- The keep sheet (docs/MANUAL.md, "The keep sheet"): retained checkpoints and message logs, from the lines of single
+-- holders. Assumes nothing.
 use mathlib.Core.Bool.{Bool, _&&_, _||_}
 use mathlib.Core.List.{List, _∷_, _++_, map}
 use Prim.Native.Nat.{ℕ}
@@ -38,7 +38,9 @@ pub record Checkpoint : Type 0 where
 
 -- The kept checkpoints, by process and then number.
 unfoldable pub keptCheckpoints : Table → List Checkpoint
-keptCheckpoints t = rows (λ i. map (λ c. record { process = i; number = c }) (select (keepsCheckpoint t i) (countOf t i))) (processCount t)
+keptCheckpoints t =
+    rows (λ i. map (λ c. record { process = i; number = c }) (select (keepsCheckpoint t i) (countOf t i)))
+    (processCount t)
 
 -- The positions of the kept messages, rising.
 unfoldable pub keptMessages : Table → List ℕ

@@ -1,5 +1,6 @@
--- Send, checkpoint (save) and rollback (fall back) on tables (docs/MANUAL.md, "Steps"). The same steps serve the calls and the futures. They are
--- total: a step that is caught gives the table back. Numbers have no upper bound. Assumes nothing.
+-- Send, checkpoint (save) and rollback (fall back) on tables (docs/MANUAL.md, "Steps"). The same steps serve the calls
+-- and the futures. They are total: a step that is caught gives the table back. Numbers have no upper bound. Assumes
+-- nothing.
 use mathlib.Core.Bool.{Bool, cond, false, not, _&&_, _||_}
 use mathlib.Core.List.{List, [], _∷_, _++_, map}
 use Prim.Native.Nat.{ℕ, _+_, _-_}
@@ -11,8 +12,8 @@ use Rattle.run_table.specs.Checks.{Check, firstCaught}
 use Rattle.run_table.specs.Lists.{any, tabulate}
 use Rattle.run_table.specs.Table.{Message, Table, countOf, messageCount, messageOf, processCount}
 
--- A step: a send from one process to another, a checkpoint of a process after receiving the messages at a list of positions,
--- or a rollback of the whole run to its recovery line.
+-- A step: a send from one process to another, a checkpoint of a process after receiving the messages at a list of
+-- positions, or a rollback of the whole run to its recovery line.
 pub data Step : Type 0 where
   send : ℕ → ℕ → Step
   checkpoint : ℕ → List ℕ → Step
@@ -51,8 +52,8 @@ unfoldable pub notRising : List ℕ → Bool
 notRising [] = false
 notRising (k ∷ rest) = notRisingAfter k rest
 
--- 10. The process is N or above. 13. The list has a position of M or above, or not above the one before it, or of a message not
--- waiting for that process.
+-- 10. The process is N or above. 13. The list has a position of M or above, or not above the one before it, or of a
+-- message not waiting for that process.
 unfoldable pub checkpointChecks : Table → ℕ → List ℕ → List Check
 checkpointChecks t i list =
     record { caught = leb (processCount t) i; number = 10 }
@@ -63,7 +64,8 @@ checkpointChecks t i list =
 unfoldable pub receivedAt : Table → ℕ → List ℕ → ℕ → Message
 receivedAt t i list k =
     let m = messageOf t k in
-    cond (any (eqb k) list) (record { sender = m .sender; sent = m .sent; receiver = m .receiver; received = countOf t i }) m
+    cond (any (eqb k) list)
+    (record { sender = m .sender; sent = m .sent; receiver = m .receiver; received = countOf t i }) m
 
 -- The listed messages are received, and the count grows by one.
 unfoldable pub afterCheckpoint : Table → ℕ → List ℕ → Table
@@ -80,7 +82,8 @@ stays l m = ltb (m .sent) (asLine l (m .sender))
 -- One that was received after the line is undelivered again.
 unfoldable pub putBack : List ℕ → Message → Message
 putBack l m =
-    cond (ltb (asLine l (m .receiver)) (m .received)) (record { sender = m .sender; sent = m .sent; receiver = m .receiver; received = 0 }) m
+    cond (ltb (asLine l (m .receiver)) (m .received))
+    (record { sender = m .sender; sent = m .sent; receiver = m .receiver; received = 0 }) m
 
 -- The messages that stay, in order.
 unfoldable pub remaining : List ℕ → List Message → List Message

@@ -20,7 +20,8 @@ use lib.ListN.{length, getD, take, length-append}
 use lib.Seq.{take-all}
 use Rattle.consistency.specs.Ceilings.{recoveryLine}
 use Rattle.consistency.specs.Lines.{asLine}
-use Rattle.futures.proofs.StepLaws.{putBack-receiver, putBack-sender, putBack-sent, recovery-latest, recovery-length, rollback-count, rollback-fewer, rollback-place, rollback-processes, withReceipt}
+use Rattle.futures.proofs.StepLaws.{putBack-receiver, putBack-sender, putBack-sent, recovery-latest, recovery-length, rollback-count, rollback-fewer}
+use Rattle.futures.proofs.StepLaws.{rollback-place, rollback-processes, withReceipt}
 use Rattle.futures.specs.Steps.{afterRollback, putBack, remaining, stays}
 use Rattle.run_table.proofs.AcceptLaws.{facts}
 use Rattle.run_table.proofs.ArrayLaws.{array-at, array-front}
@@ -69,6 +70,9 @@ module _ (t : Table) (k : ℕ) where
     so-far-stays : stays (recoveryLine t) (messageOf t k) ≡ true → soFar t (k + 1) ≡ soFar t k ++ (putBack (recoveryLine t) (messageOf t k) ∷ [])
     so-far-stays e = so-far-more ∙ rw e
 
+    so-far-longer : stays (recoveryLine t) (messageOf t k) ≡ true → length (soFar t (k + 1)) ≡ length (soFar t k) + 1
+    so-far-longer e = omega (arith, ap length (so-far-stays e), length-append (soFar t k) (putBack (recoveryLine t) (messageOf t k) ∷ []))
+
     so-far-goes : stays (recoveryLine t) (messageOf t k) ≡ false → soFar t (k + 1) ≡ soFar t k
     so-far-goes e = so-far-more ∙ rw e (append-nil (soFar t k))
 
@@ -108,7 +112,8 @@ module _ {table line : List ℕ} (here : AtLine table line) where
     count-left = ap (λ (x : ℕ). x + 1) (line-at p) ∙ sym (rollback-count t p l)
 
   -- the counts that are left, as the front of an array
-  pub counts-front : {counts : List ℕ} {n : ℕ} → counts ≡ arrayOf (afterRollback t .counts) → n ≡ processCount t → take n counts ≡ afterRollback t .counts
+  pub counts-front : {counts : List ℕ} {n : ℕ} → counts ≡ arrayOf (afterRollback t .counts) → n ≡ processCount t
+      → take n counts ≡ afterRollback t .counts
   unfolding processCount
   counts-front {counts} {n} e same =
       array-front (afterRollback t .counts) counts n e (same ∙ sym (rollback-processes t)) (omega (arith, rollback-processes t, few))
@@ -146,7 +151,8 @@ pub record Counting (table line : List ℕ) (m : ℕ) (sends : List ℕ) (n k : 
   pub read : ReadMessages table m sends (receiptsPart table)
   pub counted : n ≡ length (soFar (decode table) k)
 
-pub counting-none : {table line : List ℕ} {m : ℕ} {sends : List ℕ} → AtLine table line → m ≡ messageCount (decode table) → sends ≡ sendsPart table
+pub counting-none : {table line : List ℕ} {m : ℕ} {sends : List ℕ} → AtLine table line → m ≡ messageCount (decode table)
+    → sends ≡ sendsPart table
     → Counting table line m sends 0 0
 unfolding remaining
 counting-none here m-is sends-are = record { at-line = here; read = messages-read (here .accepted) m-is sends-are refl; counted = refl }
@@ -181,13 +187,13 @@ module _ {table line : List ℕ} {m : ℕ} {sends : List ℕ} {n k : ℕ} (w : C
       counting-stays = record {
         at-line = w .at-line;
         read = w .read;
-        counted =
-            omega (arith, w .counted, ap length (so-far-stays counts k there staying), length-append (soFar counts k) (putBack (recoveryLine counts) (messageOf counts k) ∷ []));
+        counted = omega (arith, w .counted, so-far-longer counts k there staying);
       }
 
 -- ---- a loop that writes the entries of what remains of the first k messages
 -- They stand from a start on, the next send goes to the place behind them, and the rest of the buffer is as it was.
-pub record Gathering (table line : List ℕ) (m start : ℕ) (before : List ℕ) (all : ℕ) (sends receipts : List ℕ) (k place : ℕ) (after : List ℕ) : Type 0 where
+pub record Gathering (table line : List ℕ) (m start : ℕ) (before : List ℕ) (all : ℕ) (sends receipts : List ℕ) (k place : ℕ)
+    (after : List ℕ) : Type 0 where
   pub at-line : AtLine table line
   pub read : ReadMessages table all sends receipts
   pub remain : m ≡ messageCount (afterRollback (decode table))
@@ -276,7 +282,7 @@ module _ {table line : List ℕ} {m start : ℕ} {before : List ℕ} {all : ℕ}
         }
           where
             longer : length (soFar gathers (k + 1)) ≡ length (soFar gathers k) + 1
-            longer = omega (arith, ap length more, length-append (soFar gathers k) (next ∷ []))
+            longer = so-far-longer gathers k here-gathered stays-here
 
             same-after : (ms : List Message) → length ms ≤ m → length (filled before start m ms) ≡ length before
             same-after ms few =
@@ -311,7 +317,8 @@ module _ {table line : List ℕ} {m start : ℕ} {before : List ℕ} {all : ℕ}
             written : later ≡ filled before start m (soFar gathers (k + 1))
             written =
                 put₂ ∙ ap₂ (λ (l : List ℕ) (n : ℕ). putAt l n (u16s (i ∷ v ∷ []))) first far-place
-                ∙ both-more before (u16s (sendsOf (soFar gathers k))) (u16s (receiptsOf (soFar gathers k))) (u16s (j ∷ y ∷ [])) (u16s (i ∷ v ∷ [])) start
+                ∙ both-more before (u16s (sendsOf (soFar gathers k))) (u16s (receiptsOf (soFar gathers k))) (u16s (j ∷ y ∷ []))
+                (u16s (i ∷ v ∷ [])) start
                 (start + 4 * m) (omega (arith, sends-size-of (soFar gathers k), two j y, in-place))
                 (omega (arith, w .room, receipts-size-of (soFar gathers k), two i v, in-place))
                 ∙ ap₂ (λ (s z : List ℕ). putAt (putAt before start s) (start + 4 * m) z) sent received

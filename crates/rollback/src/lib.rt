@@ -68,7 +68,8 @@ fn put_messages(table: &[u8], line: [u16; 32], m: usize, buffer: &mut [u8], at: 
     requires { ⌜ m ≡ messageCount (afterRollback (decode (now table))) ⌝ }
     requires { ⌜ at + 8 * m ≤ length (now buffer) ⌝ }
     ensures { λ _. ⌜ now (buffer .exit)
-        ≡ putAt (putAt (now (buffer .entry)) at (u16s (sendsOf (afterRollback (decode (now (table .entry))) .messages))))
+        ≡ putAt (putAt (now (buffer .entry)) at
+        (u16s (sendsOf (afterRollback (decode (now (table .entry))) .messages))))
         (at + 4 * m) (u16s (receiptsOf (afterRollback (decode (now (table .entry))) .messages))) ⌝ }
 {
     let all = parts::message_count(table);
@@ -103,7 +104,8 @@ pub fn put_rollback(table: &[u8], line: [u16; 32], m: usize, answer: &mut [u8])
     requires { ⌜ AtLine (now table) line ⌝ }
     requires { ⌜ m ≡ messageCount (afterRollback (decode (now table))) ⌝ }
     requires { ⌜ tableLength (processCount (decode (now table))) m ≤ length (now answer) ⌝ }
-    ensures { λ _. ⌜ now (answer .exit) ≡ putAt (now (answer .entry)) 0 (encode (afterRollback (decode (now (table .entry))))) ⌝ }
+    ensures { λ _. ⌜ now (answer .exit)
+        ≡ putAt (now (answer .entry)) 0 (encode (afterRollback (decode (now (table .entry))))) ⌝ }
 {
     let n = parts::process_count(table);
     let counts = counts_left(table, line);

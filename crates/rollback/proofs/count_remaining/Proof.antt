@@ -46,7 +46,11 @@ count-remaining-spec =
     -- it stays
     (λ c.
     let sent = c .before in
-    omega (arith, counting-fits (turn sent .before .loop .inv) (turn sent .loop-test .taken) (sent .before .u16-at .ensures) (sent .u16-at2 .ensures) (c .if1 .left)))
+    omega (
+      arith,
+      counting-fits (turn sent .before .loop .inv) (turn sent .loop-test .taken) (sent .before .u16-at .ensures) (sent .u16-at2 .ensures)
+          (c .if1 .left),
+    ))
     (λ c. omega arith)
     (λ c.
     let sent = c .before in

@@ -15,7 +15,14 @@ Inv-loop table m buffer₀ at line all sends receipts place₀ k₀ buffer place
 abbrev μ-loop : tie.MeasureT-loop
 μ-loop table m buffer₀ at line all sends receipts place₀ k₀ buffer place k = all - k
 
--- ---- the places: a turn of the loop; where the send of its message was read; its receipt, of a message that stays; where the send was put
+-- ---- the places: the entry; where the messages were counted; a turn of the loop; where the send of its message was read; the receipt, of
+-- one that stays; where the send was put
+abbrev entry : tie.After-message-count Inv-loop μ-loop → tie.Start Inv-loop μ-loop
+entry c = c .before .before .before
+
+abbrev counted : tie.In-loop Inv-loop μ-loop → tie.After-message-count Inv-loop μ-loop
+counted c = c .before .before .before .before
+
 abbrev turn : tie.After-u16-at2 Inv-loop μ-loop → tie.In-loop Inv-loop μ-loop
 turn c = c .before .before
 
@@ -30,12 +37,12 @@ put c = c .before .before .before .before .before
 
 -- ---- what is known there: room for both entries of a message that stays
 room : (c : tie.Else1 Inv-loop μ-loop)
-    → turn (c .before) .before .loop .place + 4 * turn (c .before) .before .before .before .before .before .before .before .args .m + 4
-    ≤ length (turn (c .before) .before .loop .buffer)
+    → turn (c .before) .before .loop .place + 4 * entry (counted (turn (c .before))) .args .m + 4 ≤ length (turn (c .before) .before .loop .buffer)
 room c =
     let sent = c .before in
     gathering-room (turn sent .before .loop .inv) (turn sent .loop-test .taken) (sent .before .u16-at .ensures) (sent .u16-at2 .ensures) (c .if1 .left)
 
+-- ---- the needs, in the code's course
 pub put-messages-spec : {M : Type 1} → statement M
 put-messages-spec =
     tie.close
@@ -46,9 +53,9 @@ put-messages-spec =
     (λ c κs. search needs)
     (λ c κs. search needs)
     (λ c.
-    let counted = c .before .before in
-    let asked = counted .before .before .before .pre in
-    gathering-none (asked .0) (asked .1 .0) (asked .1 .1) (counted .message-count .ensures) (c .before .sends .ensures) (c .receipts .ensures))
+    let all = c .before .before in
+    let asked = entry all .pre in
+    gathering-none (asked .0) (asked .1 .0) (asked .1 .1) (all .message-count .ensures) (c .before .sends .ensures) (c .receipts .ensures))
     -- the send
     (λ c. omega arith)
     (λ c κs. omega arith)
