@@ -43,9 +43,13 @@ test: need-rt need-gcc need-cargo format refusal-tests reference-tests corpus-te
 check: need-rt
 	@rt check
 
+# The layout of the crates, what they name, and what a person has to follow in them; that the last can fail.
 format: need-rt
+	@mkdir -p target/tests
 	@rt fmt --check
 	@sh tests/crates/dependencies.sh
+	@sh tests/crates/readable.sh
+	@sh tests/crates/must_fail.sh target/tests
 
 # The second implementation: its own tests, and its answers to the scripts of the test programs.
 CARGO = cargo --quiet

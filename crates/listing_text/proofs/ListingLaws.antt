@@ -1,15 +1,15 @@
 -- What the code reads is the listing of the table.
---     sum-positive, share-fits      the share is a number
+--     sum-positive                  the counts add up to something
 --     sheet-answered                the call for a keep sheet refuses by the table alone, and leaves its answers
---     Reading, listing-parts        the listing, in the parts that the code puts
+--     Reading, listing-left         the listing, in the parts that the code puts
 --     refused-text, accepted-text   the listing of bytes, by their refusal
 --     listing-refused, listing-answered, size-inside    the call's answer
 -- Assumes nothing.
 use mathlib.Core.Bool.{Bool, true, false}
-use mathlib.Core.List.{List, [], _∷_, _++_}
+use mathlib.Core.List.{List, [], _∷_, _++_, append-nil}
 use mathlib.Core.Path.{_≡_, refl, sym, ap, ap₂, _∙_, subst}
 use Prim.Native.Nat.{ℕ, zero, suc, _+_, _*_, _/_, _≤_, _<_}
-use native.Mathlib.Nat.{div-le-self, mul-le-mul}
+use native.Mathlib.Nat.{mul-le-mul}
 use native.Mathlib.Omega.{arith}
 use lib.Dec.{ltb}
 use lib.ListN.{length, take, drop, getD, length-append, length-drop, length-take, take-append-drop}
@@ -25,8 +25,10 @@ use Rattle.keeper.proofs.SheetAnswer.{long-scratch, scratch-filled}
 use Rattle.keeper.specs.Answers.{Yields, answer, bufferAfter, lengthAfter, numberOf, unless}
 use Rattle.keeper.specs.Calls.{keepSheetAnswer, keepSheetChecks, scratchAfter}
 use Rattle.listing_text.proofs.RowLaws.{line-in}
-use Rattle.listing_text.proofs.TextLaws.{Parts, each-rows, overlay-front}
-use Rattle.listing_text.specs.Listing.{checkpointRow, holdRow, lineRow, listing, listingAnswer, listingOf, listingUnless, messageRow, refusedRow, share, shareRow}
+use Rattle.listing_text.proofs.SizeLaws.{listing-few}
+use Rattle.listing_text.proofs.TextLaws.{Left, all-left, each-rows, overlay-front}
+use Rattle.listing_text.specs.Listing.{checkpointRow, holdRow, lineRow, listing, listingAnswer, listingOf, listingUnless, messageRow, refusedRow, share}
+use Rattle.listing_text.specs.Listing.{shareRow}
 use Rattle.listing_text.specs.Rows.{Answered, checkpointAt, checkpointRows, holdRows, lineAt, messageRows}
 use Rattle.listing_text.specs.Text.{Laid, each, overlay}
 use Rattle.sheet_writer.proofs.SheetReads.{entry-is, holder-length, kept-few, lines-length, lines-stand, sheet-length}
@@ -62,9 +64,6 @@ unfolding countOf
 sum-positive table accepted =
     omega (arith, sum-some (decode table .counts) 0, facts table accepted .well-formed .some-checkpoint 0 (facts table accepted .well-formed .some-process))
 
-pub share-fits : (table : List ℕ) (kept total : ℕ) → tableRefusal table ≡ 0 → kept ≡ length (keptCheckpoints (decode table)) → 100 * kept / total ≤ 102400
-share-fits table kept total accepted is = omega (arith, div-le-self (100 * kept) total, kept-few table accepted .0)
-
 -- ---- the call for a keep sheet, with a scratch and a buffer that are always long enough
 module _ (table scratch bytes : List ℕ) (long : 1024 ≤ length scratch) (room : 12292 ≤ length bytes) where
   abbrev t : Table
@@ -84,8 +83,10 @@ module _ (table scratch bytes : List ℕ) (long : 1024 ≤ length scratch) (room
       (omega (arith, room, sheet-length t, kept-few table accepted .0, kept-few table accepted .1)) refl
 
   module _ (r : ℕ) (after scratch′ : List ℕ) (written written′ : ℕ)
-      (y : Yields (keepSheetAnswer table (length scratch) (length bytes)) r bytes after written written′) (filled : scratch′ ≡ scratchAfter table scratch) where
-    refused-by : (k : ℕ) → tableRefusal table ≡ suc k → Yields (keepSheetAnswer table (length scratch) (length bytes)) (suc k) bytes bytes written written
+      (y : Yields (keepSheetAnswer table (length scratch) (length bytes)) r bytes after written written′)
+      (filled : scratch′ ≡ scratchAfter table scratch) where
+    refused-by : (k : ℕ) → tableRefusal table ≡ suc k
+        → Yields (keepSheetAnswer table (length scratch) (length bytes)) (suc k) bytes bytes written written
     unfolding keepSheetAnswer keepSheetChecks
     refused-by k e =
         let some : suc k ≡ 0 → ⊥ = λ z. omega (arith, z) in
@@ -120,7 +121,8 @@ module _ (table : List ℕ) (accepted : tableRefusal table ≡ 0) where
   abbrev t₂ : Table
   t₂ = decode table
 
-  recovery-read : (n : ℕ) (line : List ℕ) → n ≡ processCount t₂ → line ≡ arrayOf (recoveryLine t₂) → (n ≤ length line) × (take n line ≡ recoveryLine t₂)
+  recovery-read : (n : ℕ) (line : List ℕ) → n ≡ processCount t₂ → line ≡ arrayOf (recoveryLine t₂)
+      → (n ≤ length line) × (take n line ≡ recoveryLine t₂)
   unfolding recoveryLine
   recovery-read n line read-n is =
       let few : processCount t₂ ≤ 32 = processes-few table accepted in
@@ -149,7 +151,8 @@ module _ (table : List ℕ) (accepted : tableRefusal table ≡ 0) where
     -- the sheet
     put : bytes ≡ putAt bytes 0 (sheet t₂)
     put =
-        sym (take-append-drop (length (sheet t₂)) bytes) ∙ ap (λ (x : List ℕ). x ++ drop (length (sheet t₂)) bytes) (h .sheet-is) ∙ sym (put-in-front bytes (sheet t₂))
+        sym (take-append-drop (length (sheet t₂)) bytes) ∙ ap (λ (x : List ℕ). x ++ drop (length (sheet t₂)) bytes) (h .sheet-is)
+        ∙ sym (put-in-front bytes (sheet t₂))
 
     kept-read : u16At bytes 0 ≡ length (keptCheckpoints t₂)
     kept-read = read-kept table accepted bytes bytes put
@@ -203,15 +206,16 @@ module _ {table : List ℕ} {n : ℕ} {line scratch bytes : List ℕ} {k q : ℕ
       omega (arith, kept-is, r .q-is, logged-read table (r .accepted) scratch bytes (r .answered), sheet-room table (r .accepted) scratch bytes (r .answered))
 
   -- the listing, in the parts that the code puts
-  pub listing-parts : (s : ℕ) → s ≡ share t₃
-      → Parts (listing t₃) (lineRow (take n line)) (holdRows scratch n ++ (checkpointRows bytes k ++ (messageRows bytes k q ++ shareRow s)))
-  unfolding listing
-  listing-parts s is =
+  pub listing-left : {before : List ℕ} {s : ℕ} → s ≡ share t₃
+      → Left (listing t₃) before 0 before 0
+      (lineRow (take n line) ∷ holdRows scratch n ∷ checkpointRows bytes k ∷ messageRows bytes k q ∷ shareRow s ∷ [])
+  unfolding listing each
+  listing-left {s = s} is =
       let a : take n line ≡ recoveryLine t₃ = recovery-read table (r .accepted) n line (r .n-is) (r .line-is) .1 in
       let b = holds-read table (r .accepted) scratch bytes (r .answered) n (r .n-is) in
       let c = checkpoints-read table (r .accepted) scratch bytes (r .answered) k (r .k-is) in
       let d = messages-read table (r .accepted) scratch bytes (r .answered) k q (r .k-is) (r .q-is) in
-      record { is = rw (a, b, c, d, is) }
+      all-left (rw (a, b, c, d, is, append-nil)) (omega (arith, listing-few table (r .accepted)))
 
 -- the first two numbers of a sheet stand in its bytes
 pub sheet-long : (t : Table) (scratch bytes : List ℕ) → Answered t scratch bytes → 4 ≤ length bytes
@@ -256,7 +260,8 @@ module _ (table buffer last : List ℕ) (size written : ℕ) (measured : Laid []
       ∙ sym (put-in-front buffer (listingOf table)))
 
 -- an answer ends within the buffer
-answer-inside : (table buffer buffer′ : List ℕ) (written written′ : ℕ) → Yields (listingAnswer table (length buffer)) 0 buffer buffer′ written written′
+answer-inside : (table buffer buffer′ : List ℕ) (written written′ : ℕ)
+    → Yields (listingAnswer table (length buffer)) 0 buffer buffer′ written written′
     → written′ ≤ length buffer′
 unfolding listingAnswer answer unless numberOf bufferAfter lengthAfter
 answer-inside table buffer buffer′ written written′ y = go (ltb (length buffer) (length (listingOf table))) refl where
@@ -275,7 +280,8 @@ answer-inside table buffer buffer′ written written′ y = go (ltb (length buff
       omega (arith, (rw passes at (y .length-is)), ap length (rw passes at (y .buffer-is)), length-append text (drop (length text) buffer))
 
 -- in a buffer that is always long enough
-module _ (table : List ℕ) {buffer buffer′ : List ℕ} {r written written′ : ℕ} (y : Yields (listingAnswer table (length buffer)) r buffer buffer′ written written′)
+module _ (table : List ℕ) {buffer buffer′ : List ℕ} {r written written′ : ℕ}
+    (y : Yields (listingAnswer table (length buffer)) r buffer buffer′ written written′)
     (done : 80000 ≤ length buffer → r ≡ 0) (long : 80000 ≤ length buffer) where
   pub size-inside : written′ ≤ length buffer′
   size-inside =

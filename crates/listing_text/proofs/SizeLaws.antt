@@ -1,11 +1,13 @@
 -- How long a listing can be.
+--     share-fits                   the share is a number
 --     fields-few .. share-few      each part
 --     listing-few, text-few        the whole: 80,000 bytes are always enough
 -- Assumes nothing.
 use mathlib.Core.Bool.{true}
 use mathlib.Core.List.{List, [], _∷_, _++_}
 use mathlib.Core.Path.{_≡_, refl, ap}
-use Prim.Native.Nat.{ℕ, zero, suc, _+_, _*_, _≤_, _<_}
+use Prim.Native.Nat.{ℕ, zero, suc, _+_, _*_, _/_, _≤_, _<_}
+use native.Mathlib.Nat.{div-le-self}
 use native.Mathlib.Omega.{arith}
 use lib.ListN.{length, getD, length-append}
 use Rattle.consistency.proofs.CeilingLaws.{set-below, set-length}
@@ -14,7 +16,6 @@ use Rattle.futures.proofs.FutureLaws.{known-process}
 use Rattle.futures.proofs.KeptLaws.{checkpoints-listed, keeps-checkpoint, listed-at, messages-listed}
 use Rattle.futures.specs.Demand3.{Listed}
 use Rattle.futures.specs.Sheet.{Checkpoint, holderLine, keptCheckpoints, keptMessages}
-use Rattle.listing_text.proofs.ListingLaws.{share-fits}
 use Rattle.listing_text.proofs.TextLaws.{decimal-few, each-rows, tens}
 use Rattle.listing_text.specs.Listing.{checkpointRow, holdRow, lineRow, listing, listingOf, listingUnless, messageRow, refusedRow, share, shareRow}
 use Rattle.listing_text.specs.Text.{each, field, row}
@@ -27,6 +28,10 @@ use Rattle.run_table.specs.Format.{decode}
 use Rattle.run_table.specs.Lists.{rows, sum}
 use Rattle.run_table.specs.Table.{Table, countOf, messageCount, processCount}
 
+pub share-fits : (table : List ℕ) (kept total : ℕ) → tableRefusal table ≡ 0 → kept ≡ length (keptCheckpoints (decode table))
+    → 100 * kept / total ≤ 102400
+share-fits table kept total accepted is = omega (arith, div-le-self (100 * kept) total, kept-few table accepted .0)
+
 -- ---- fields and rows
 field-few : (k n : ℕ) → n < tens k → length (field n) ≤ suc (suc k)
 unfolding field
@@ -34,10 +39,16 @@ field-few k n l = omega (arith, decimal-few k n l)
 
 fields-few : (k : ℕ) (ns : List ℕ) → ((i : ℕ) → i < length ns → getD ns i 0 < tens k) → length (each field ns) ≤ suc (suc k) * length ns
 fields-few k ns few =
-    omega (arith, ap length (each-rows field 0 ns), rows-most (λ i. field (getD ns i 0)) (suc (suc k)) (length ns) (λ i l. field-few k (getD ns i 0) (few i l)))
+    omega (
+      arith,
+      ap length (each-rows field 0 ns),
+      rows-most (λ i. field (getD ns i 0)) (suc (suc k)) (length ns)
+          (λ i l. field-few k (getD ns i 0) (few i l)),
+    )
 
 -- the texts of a list's entries, w bytes at most each
-each-few : {A : Type 0} (g : A → List ℕ) (d : A) (xs : List A) (w : ℕ) → ((i : ℕ) → i < length xs → length (g (getD xs i d)) ≤ w) → length (each g xs) ≤ w * length xs
+each-few : {A : Type 0} (g : A → List ℕ) (d : A) (xs : List A) (w : ℕ) → ((i : ℕ) → i < length xs → length (g (getD xs i d)) ≤ w)
+    → length (each g xs) ≤ w * length xs
 each-few g d xs w few = omega (arith, ap length (each-rows g d xs), rows-most (λ i. g (getD xs i d)) w (length xs) few)
 
 pub row-few : (word ns : List ℕ) (most : ℕ) → length (each field ns) ≤ most → length (row word ns) ≤ length word + most + 1
@@ -45,7 +56,8 @@ unfolding row
 row-few word ns most few = omega (arith, length-append word (each field ns ++ (10 ∷ [])), length-append (each field ns) (10 ∷ []))
 
 -- a field more
-fields-more : (k n : ℕ) (ns : List ℕ) (most : ℕ) → n < tens k → length (each field ns) ≤ most → length (each field (n ∷ ns)) ≤ suc (suc k) + most
+fields-more : (k n : ℕ) (ns : List ℕ) (most : ℕ) → n < tens k → length (each field ns) ≤ most
+    → length (each field (n ∷ ns)) ≤ suc (suc k) + most
 unfolding each
 fields-more k n ns most l few = omega (arith, length-append (field n) (each field ns), field-few k n l)
 
@@ -93,7 +105,8 @@ module _ (table : List ℕ) (accepted : tableRefusal table ≡ 0) where
 
   share-few : length (shareRow (share t)) ≤ 13
   unfolding shareRow share tens
-  share-few = row-few _ _ 7 (fields-more 5 (share t) [] 0 (omega (arith, share-fits table (length (keptCheckpoints t)) (sum (t .counts)) accepted refl)) no-fields)
+  share-few =
+      row-few _ _ 7 (fields-more 5 (share t) [] 0 (omega (arith, share-fits table (length (keptCheckpoints t)) (sum (t .counts)) accepted refl)) no-fields)
 
   pub listing-few : length (listing t) ≤ 80000
   unfolding listing

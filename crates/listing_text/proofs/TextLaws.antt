@@ -1,9 +1,9 @@
 -- Text laid over a buffer, numbers in decimal, and rows.
 --     overlay-..                      text over a buffer
 --     laid-none, laid-then, ..        text after text
---     Parts, first-room, ..           a text of parts
+--     Left, all-left, part-room, ..   a text that is laid part by part
 --     Laying, laying-..               a loop that lays one text after another
---     decimal-small, decimal-more, .. a number's digits
+--     one-digit, more-digits, ..      a number's digits
 --     each-rows, letters              the texts of a list's entries, by their places
 --     field-parts, row-parts, ..      a field and a row, part by part
 -- Assumes nothing.
@@ -16,7 +16,7 @@ use native.Mathlib.Nat.{le-antisymm}
 use native.Mathlib.Omega.{arith}
 use lib.Dec.{ltb}
 use lib.ListN.{length, drop, getD, set, length-append}
-use Rattle.listing_text.specs.Text.{Laid, decimal, digits, each, field, overlay, row}
+use Rattle.listing_text.specs.Text.{Fits, Laid, decimal, digits, each, field, overlay, row}
 use Rattle.run_table.proofs.ListLaws.{rows-more, rows-room}
 use Rattle.run_table.specs.Lists.{rows}
 
@@ -74,10 +74,10 @@ laid-beyond before at c l = record { contents = sym (overlay-beyond before at (c
 pub laid-byte : (before : List ℕ) (at c : ℕ) → at < length before → Laid before (set before at c) at (c ∷ []) (at + 1)
 laid-byte before at c l = record { contents = sym (overlay-one before at c l); place = refl }
 
-module _ (before after : List ℕ) (at : ℕ) (xs : List ℕ) (next : ℕ) (p : Laid before after at xs next) where
-  pub laid-length : length after ≡ length before
-  laid-length = ap length (p .contents) ∙ overlay-length before at xs
+pub laid-length : {before after : List ℕ} {at : ℕ} {xs : List ℕ} {next : ℕ} → Laid before after at xs next → length after ≡ length before
+laid-length {before} {after} {at} {xs} p = ap length (p .contents) ∙ overlay-length before at xs
 
+module _ (before after : List ℕ) (at : ℕ) (xs : List ℕ) (next : ℕ) (p : Laid before after at xs next) where
   pub laid-then : (later ys : List ℕ) (end : ℕ) → Laid after later next ys end → Laid before later at (xs ++ ys) end
   laid-then later ys end q = record {
     contents = q .contents ∙ ap₂ (λ (b : List ℕ) (i : ℕ). overlay b i ys) (p .contents) (p .place) ∙ overlay-more before at xs ys;
@@ -88,55 +88,69 @@ module _ (before after : List ℕ) (at : ℕ) (xs : List ℕ) (next : ℕ) (p : 
 pub laid-same : {before after xs ys : List ℕ} {at next : ℕ} → xs ≡ ys → Laid before after at xs next → Laid before after at ys next
 laid-same e p = rw e at p
 
--- ---- a text of two parts; of more, where the second has parts
-pub record Parts (whole xs ys : List ℕ) : Type 0 where
-  pub is : whole ≡ xs ++ ys
+-- ---- a text that is laid part by part
+abbrev pub joined : List (List ℕ) → List ℕ
+joined = each (λ part. part)
 
-pub parts : (xs ys : List ℕ) → Parts (xs ++ ys) xs ys
-parts xs ys = record { is = refl }
+-- Parts of a whole text are left to be laid, at the next place; once they are, the whole is.
+pub record Left (whole before : List ℕ) (at : ℕ) (after : List ℕ) (next : ℕ) (parts : List (List ℕ)) : Type 0 where
+  pub room : Fits next (joined parts)
+  pub ends : {later : List ℕ} {end : ℕ} → Laid after later next (joined parts) end → Laid before later at whole end
 
-module _ {whole xs ys : List ℕ} (p : Parts whole xs ys) where
-  sizes : length whole ≡ length xs + length ys
-  sizes = ap length (p .is) ∙ length-append xs ys
+-- all of it is left at first, and nothing in the end
+pub all-left : {whole before : List ℕ} {at : ℕ} {parts : List (List ℕ)} → whole ≡ joined parts → Fits at whole
+    → Left whole before at before at parts
+all-left e room = record { room = rw (← e) room; ends = λ laid. rw e laid }
 
-  pub first-room : (at limit : ℕ) → at + length whole < limit → at + length xs < limit
-  first-room at limit room = omega (arith, sizes)
+pub none-left : {whole before : List ℕ} {at : ℕ} {after : List ℕ} {next : ℕ} → Left whole before at after next [] → Laid before after at whole next
+unfolding each
+none-left left = left .ends (laid-none _ _)
 
-  module _ {before after : List ℕ} {at next : ℕ} (laid : Laid before after at xs next) where
-    pub rest-room : (limit : ℕ) → at + length whole < limit → next + length ys < limit
-    rest-room limit room = omega (arith, sizes, laid .place)
+module _ {whole before : List ℕ} {at : ℕ} {after : List ℕ} {next : ℕ} {part : List ℕ} {parts : List (List ℕ)}
+    (left : Left whole before at after next (part ∷ parts)) where
+  pub part-room : Fits next part
+  unfolding each
+  part-room = omega (arith, left .room, length-append part (joined parts))
 
-    pub both-laid : {later : List ℕ} {end : ℕ} → Laid after later next ys end → Laid before later at whole end
-    both-laid {later} {end} laid₂ = rw (p .is) (laid-then before after at xs next laid later ys end laid₂)
+  pub part-laid : {later : List ℕ} {end : ℕ} → Laid after later next part end → Left whole before at later end parts
+  unfolding each
+  part-laid {later} {end} laid = record {
+    room = omega (arith, left .room, laid .place, length-append part (joined parts));
+    ends = λ rest. left .ends (laid-then after later next part end laid _ (joined parts) _ rest);
+  }
 
 -- ---- a loop that lays the texts of n places, one after another, has laid those of k places
-pub record Laying (f : ℕ → List ℕ) (n : ℕ) (before : List ℕ) (at : ℕ) (after : List ℕ) (next k : ℕ) : Type 0 where
+pub record Laying (f : ℕ → List ℕ) (n : ℕ) (whole before : List ℕ) (at : ℕ) (after : List ℕ) (next k : ℕ) : Type 0 where
+  pub all : rows f n ≡ whole
+  pub room : Fits at whole
   pub within : k ≤ n
   pub laid : Laid before after at (rows f k) next
 
-module _ (f : ℕ → List ℕ) (n : ℕ) (before : List ℕ) (at : ℕ) where
-  pub laying-none : Laying f n before at before at 0
-  unfolding rows
-  laying-none = record { within = omega arith; laid = laid-none before at }
+pub laying-none : {f : ℕ → List ℕ} {n : ℕ} {whole before : List ℕ} {at : ℕ} → rows f n ≡ whole → Fits at whole
+    → Laying f n whole before at before at 0
+unfolding rows
+laying-none all room = record { all = all; room = room; within = omega arith; laid = laid-none _ _ }
 
-  module _ (after : List ℕ) (next k : ℕ) (h : Laying f n before at after next k) where
-    -- the text that comes next
-    module _ (text : List ℕ) (is : text ≡ f k) (l : k < n) where
-      pub laying-room : (whole : List ℕ) (limit : ℕ) → rows f n ≡ whole → at + length whole < limit → next + length text < limit
-      laying-room whole limit e room = omega (arith, h .laid .place, rows-room f k n l, ap length e, ap length is)
+module _ {f : ℕ → List ℕ} {n : ℕ} {whole before : List ℕ} {at : ℕ} {after : List ℕ} {next k : ℕ}
+    (h : Laying f n whole before at after next k) where
+  -- the text that comes next
+  module _ {text : List ℕ} (is : text ≡ f k) (l : k < n) where
+    pub laying-room : Fits next text
+    laying-room = omega (arith, h .room, h .laid .place, rows-room f k n l, ap length (h .all), ap length is)
 
-      pub laying-more : (later : List ℕ) (end : ℕ) → Laid after later next text end → Laying f n before at later end (k + 1)
-      laying-more later end q = record {
-        within = omega arith;
-        laid = rw (rows-more f k, sym is) (laid-then before after at (rows f k) next (h .laid) later text end q);
-      }
+    pub laying-more : {later : List ℕ} {end : ℕ} → Laid after later next text end → Laying f n whole before at later end (k + 1)
+    laying-more {later} {end} q = record {
+      all = h .all;
+      room = h .room;
+      within = omega arith;
+      laid = rw (rows-more f k, sym is) (laid-then before after at (rows f k) next (h .laid) later text end q);
+    }
 
-    pub laying-length : length after ≡ length before
-    laying-length = laid-length before after at (rows f k) next (h .laid)
+  pub laying-length : length after ≡ length before
+  laying-length = laid-length (h .laid)
 
-    pub laying-all : (whole : List ℕ) → rows f n ≡ whole → n ≤ k → Laid before after at whole next
-    laying-all whole e l =
-        subst (λ (text : List ℕ). Laid before after at text next) (ap (rows f) (le-antisymm (h .within) l) ∙ e) (h .laid)
+  pub laying-all : n ≤ k → Laid before after at whole next
+  laying-all l = subst (λ (text : List ℕ). Laid before after at text next) (ap (rows f) (le-antisymm (h .within) l) ∙ h .all) (h .laid)
 
 -- ---- a number's digits
 -- steps beyond those that are enough change nothing
@@ -145,7 +159,8 @@ unfolding digits
 digits-enough zero s′ n l l′ = absurd (omega arith)
 digits-enough (suc s) zero n l l′ = absurd (omega arith)
 digits-enough (suc s) (suc s′) n l l′ = go (digits-enough s s′ (n / 10)) (ltb n 10) refl where
-  go : (n / 10 < s → n / 10 < s′ → digits s (n / 10) ≡ digits s′ (n / 10)) → (b : Bool) → ltb n 10 ≡ b → digits (suc s) n ≡ digits (suc s′) n
+  go : (n / 10 < s → n / 10 < s′ → digits s (n / 10) ≡ digits s′ (n / 10)) → (b : Bool) → ltb n 10 ≡ b
+      → digits (suc s) n ≡ digits (suc s′) n
   go below true e = rw e
   go below false e =
       let large : 10 ≤ n = ltb-false n 10 e in
@@ -160,22 +175,15 @@ unfolding decimal digits
 decimal-more n l =
     rw (le-ltb n 10 l) (ap (λ (r : List ℕ). r ++ ((48 + n % 10) ∷ [])) (digits-enough n (suc (n / 10)) (n / 10) (omega arith) (omega arith)))
 
--- a number of one digit, put by its byte
-module _ (n at limit : ℕ) (l : n < 10) where
-  pub digit-room : at + length (decimal n) < limit → at + 1 < limit
-  digit-room room = omega (arith, ap length (decimal-small n l))
+-- a number of one digit, put by its byte; one of more digits: those of its tenth, and its last
+pub one-digit : {n at : ℕ} {before : List ℕ} → n < 10 → Fits at (decimal n) → Left (decimal n) before at before at (((48 + n) ∷ []) ∷ [])
+unfolding each
+one-digit {n} l = all-left (decimal-small n l)
 
-  pub laid-digit : (before after : List ℕ) (next : ℕ) → Laid before after at ((48 + n) ∷ []) next → Laid before after at (decimal n) next
-  laid-digit before after next p = rw (decimal-small n l) p
-
--- a number of more digits: those of its tenth, and its last
-module _ (n at limit : ℕ) (l : 10 ≤ n) (room : at + length (decimal n) < limit) where
-  pub tenth-room : at + length (decimal (n / 10)) + 1 < limit
-  tenth-room = omega (arith, ap length (decimal-more n l), length-append (decimal (n / 10)) ((48 + n % 10) ∷ []))
-
-  pub laid-digits : (before after later : List ℕ) (next end : ℕ) → Laid before after at (decimal (n / 10)) next
-      → Laid after later next ((48 + n % 10) ∷ []) end → Laid before later at (decimal n) end
-  laid-digits before after later next end p q = rw (decimal-more n l) (laid-then before after at (decimal (n / 10)) next p later ((48 + n % 10) ∷ []) end q)
+pub more-digits : {n at : ℕ} {before : List ℕ} → 10 ≤ n → Fits at (decimal n)
+    → Left (decimal n) before at before at (decimal (n / 10) ∷ ((48 + n % 10) ∷ []) ∷ [])
+unfolding each
+more-digits {n} l = all-left (decimal-more n l)
 
 -- a number below 10 × 10 × .. has at most so many digits
 unfoldable pub tens : ℕ → ℕ
@@ -214,24 +222,29 @@ pub letters : (word : List ℕ) → rows (λ k. getD word k 0 ∷ []) (length wo
 letters word = sym (each-rows (λ c. c ∷ []) 0 word) ∙ each-self word
 
 -- ---- fields and rows, part by part
-pub field-parts : (n : ℕ) → Parts (field n) (32 ∷ []) (decimal n)
-unfolding field
-field-parts n = record { is = refl }
+pub field-parts : (n : ℕ) {at : ℕ} {before : List ℕ} → Fits at (field n) → Left (field n) before at before at ((32 ∷ []) ∷ decimal n ∷ [])
+unfolding field each
+field-parts n = all-left (ap (λ (r : List ℕ). 32 ∷ r) (sym (append-nil (decimal n))))
 
-pub row-parts : (word ns : List ℕ) → Parts (row word ns) word (each field ns ++ (10 ∷ []))
-unfolding row
-row-parts word ns = record { is = refl }
+behind : (word : List ℕ) {xs ys : List ℕ} → xs ≡ ys → word ++ xs ≡ word ++ ys
+behind word e = ap (λ (r : List ℕ). word ++ r) e
 
-pub row-more : (word : List ℕ) (n : ℕ) (ns : List ℕ) → Parts (row word (n ∷ ns)) word (field n ++ (each field ns ++ (10 ∷ [])))
-unfolding row each
-row-more word n ns = record { is = ap (λ (r : List ℕ). word ++ r) (append-assoc (field n) (each field ns) (10 ∷ [])) }
+module _ (word : List ℕ) {at : ℕ} {before : List ℕ} where
+  pub row-parts : (ns : List ℕ) → Fits at (row word ns) → Left (row word ns) before at before at (word ∷ each field ns ∷ (10 ∷ []) ∷ [])
+  unfolding row each
+  row-parts ns = all-left refl
 
-pub row-one : (word : List ℕ) (n : ℕ) → Parts (row word (n ∷ [])) word (field n ++ (10 ∷ []))
-unfolding each
-row-one word n = row-more word n []
+  pub row-more : (n : ℕ) (ns : List ℕ) → Fits at (row word (n ∷ ns))
+      → Left (row word (n ∷ ns)) before at before at (word ∷ field n ∷ each field ns ∷ (10 ∷ []) ∷ [])
+  unfolding row each
+  row-more n ns = all-left (behind word (append-assoc (field n) (each field ns) (10 ∷ [])))
 
-pub row-two : (word : List ℕ) (m n : ℕ) → Parts (row word (m ∷ n ∷ [])) word (field m ++ (field n ++ (10 ∷ [])))
-unfolding each
-row-two word m n = record {
-  is = row-more word m (n ∷ []) .is ∙ ap (λ (r : List ℕ). word ++ (field m ++ r)) (append-assoc (field n) [] (10 ∷ []));
-}
+  pub row-one : (n : ℕ) → Fits at (row word (n ∷ [])) → Left (row word (n ∷ [])) before at before at (word ∷ field n ∷ (10 ∷ []) ∷ [])
+  unfolding row each
+  row-one n = all-left (behind word (append-assoc (field n) [] (10 ∷ [])))
+
+  pub row-two : (m n : ℕ) → Fits at (row word (m ∷ n ∷ []))
+      → Left (row word (m ∷ n ∷ [])) before at before at (word ∷ field m ∷ field n ∷ (10 ∷ []) ∷ [])
+  unfolding row each
+  row-two m n =
+      all-left (behind word (append-assoc (field m) (field n ++ []) (10 ∷ []) ∙ behind (field m) (append-assoc (field n) [] (10 ∷ []))))

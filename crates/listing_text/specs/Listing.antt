@@ -21,7 +21,9 @@ holdRow process line = row (104 ∷ 111 ∷ 108 ∷ 100 ∷ []) (process ∷ lin
 
 -- `checkpoint`, its process, its number.
 unfoldable pub checkpointRow : Checkpoint → List ℕ
-checkpointRow k = row (99 ∷ 104 ∷ 101 ∷ 99 ∷ 107 ∷ 112 ∷ 111 ∷ 105 ∷ 110 ∷ 116 ∷ []) (k .process ∷ k .number ∷ [])
+checkpointRow k =
+    row (99 ∷ 104 ∷ 101 ∷ 99 ∷ 107 ∷ 112 ∷ 111 ∷ 105 ∷ 110 ∷ 116 ∷ [])
+    (k .process ∷ k .number ∷ [])
 
 -- `message`, position.
 unfoldable pub messageRow : ℕ → List ℕ

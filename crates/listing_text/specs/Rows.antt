@@ -9,7 +9,8 @@ use Rattle.run_table.specs.Lists.{rows}
 use Rattle.run_table.specs.Numbers.{u16At}
 use Rattle.run_table.specs.Table.{Table, processCount}
 
--- What the call for a keep sheet leaves: the lines of single holders at the front of a scratch, and the sheet at the front of bytes.
+-- What the call for a keep sheet leaves: the lines of single holders at the front of a scratch, and the sheet at the
+-- front of bytes.
 pub record Answered (t : Table) (scratch bytes : List ℕ) : Type 0 where
   pub lines-are : take (processCount t * processCount t) scratch ≡ holderLines t
   pub sheet-is : take (length (sheet t)) bytes ≡ sheet t

@@ -2,7 +2,7 @@
 use mathlib.Core.Bool.{cond}
 use mathlib.Core.List.{List, [], _∷_, _++_}
 use mathlib.Core.Path.{_≡_}
-use Prim.Native.Nat.{ℕ, zero, suc, _+_, _/_, _%_}
+use Prim.Native.Nat.{ℕ, zero, suc, _+_, _/_, _%_, _<_}
 use lib.Dec.{ltb}
 use lib.ListN.{length}
 
@@ -39,3 +39,7 @@ overlay (b ∷ rest) (suc at) text = b ∷ overlay rest at text
 pub record Laid (before after : List ℕ) (at : ℕ) (text : List ℕ) (next : ℕ) : Type 0 where
   pub contents : after ≡ overlay before at text
   pub place : next ≡ at + length text
+
+-- A text has its place: laid from there on it ends below 2 ^ 32, so that the code can count its places.
+abbrev pub Fits : ℕ → List ℕ → Type 0
+Fits at text = at + length text < 4294967296

@@ -9,11 +9,11 @@ ghost use Prim.Native.Nat.{_+_, _*_, _≤_, _<_};
 ghost use lib.ListN.{length};
 ghost use Rattle.listing_text.specs.Listing.{checkpointRow, holdRow, lineRow};
 ghost use Rattle.listing_text.specs.Rows.{checkpointRows, holdRows, messageRows};
-ghost use Rattle.listing_text.specs.Text.{Laid, each, row};
+ghost use Rattle.listing_text.specs.Text.{Fits, Laid, each, row};
 
 // Puts a row of one number.
 pub fn put_row(text: &mut [u8], at: usize, word: &[u8], n: u32) -> usize
-    requires { ⌜ at + length (row (now word) (n ∷ [])) < 4294967296 ⌝ }
+    requires { ⌜ Fits at (row (now word) (n ∷ [])) ⌝ }
     ensures { λ r. ⌜ Laid (now (text .entry)) (now (text .exit)) at (row (now (word .entry)) (n ∷ [])) r ⌝ }
 {
     let after_word = put_word(text, at, word);
@@ -23,7 +23,7 @@ pub fn put_row(text: &mut [u8], at: usize, word: &[u8], n: u32) -> usize
 
 // Puts the row of the recovery line.
 pub fn put_line(text: &mut [u8], at: usize, line: &[u16]) -> usize
-    requires { ⌜ at + length (lineRow (now line)) < 4294967296 ⌝ }
+    requires { ⌜ Fits at (lineRow (now line)) ⌝ }
     ensures { λ r. ⌜ Laid (now (text .entry)) (now (text .exit)) at (lineRow (now (line .entry))) r ⌝ }
 {
     let after_word = put_word(text, at, b"line");
@@ -33,7 +33,7 @@ pub fn put_line(text: &mut [u8], at: usize, line: &[u16]) -> usize
 
 // Puts the row of a process that holds.
 fn put_hold(text: &mut [u8], at: usize, process: u32, line: &[u16]) -> usize
-    requires { ⌜ at + length (holdRow process (now line)) < 4294967296 ⌝ }
+    requires { ⌜ Fits at (holdRow process (now line)) ⌝ }
     ensures { λ r. ⌜ Laid (now (text .entry)) (now (text .exit)) at (holdRow process (now (line .entry))) r ⌝ }
 {
     let after_word = put_word(text, at, b"hold");
@@ -46,7 +46,7 @@ fn put_hold(text: &mut [u8], at: usize, process: u32, line: &[u16]) -> usize
 pub fn put_holds(text: &mut [u8], at: usize, scratch: &[u16], n: usize) -> usize
     requires { ⌜ n ≤ 32 ⌝ }
     requires { ⌜ n * n ≤ length (now scratch) ⌝ }
-    requires { ⌜ at + length (holdRows (now scratch) n) < 4294967296 ⌝ }
+    requires { ⌜ Fits at (holdRows (now scratch) n) ⌝ }
     ensures { λ r. ⌜ Laid (now (text .entry)) (now (text .exit)) at (holdRows (now (scratch .entry)) n) r ⌝ }
 {
     let mut next = at;
@@ -62,8 +62,9 @@ pub fn put_holds(text: &mut [u8], at: usize, scratch: &[u16], n: usize) -> usize
 
 // Puts the row of a kept checkpoint.
 fn put_checkpoint(text: &mut [u8], at: usize, process: u16, number: u16) -> usize
-    requires { ⌜ at + length (checkpointRow (record { process = process; number = number })) < 4294967296 ⌝ }
-    ensures { λ r. ⌜ Laid (now (text .entry)) (now (text .exit)) at (checkpointRow (record { process = process; number = number })) r ⌝ }
+    requires { ⌜ Fits at (checkpointRow (record { process = process; number = number })) ⌝ }
+    ensures { λ r. ⌜ Laid (now (text .entry)) (now (text .exit)) at
+        (checkpointRow (record { process = process; number = number })) r ⌝ }
 {
     let after_word = put_word(text, at, b"checkpoint");
     let after_process = put_field(text, after_word, process as u32);
@@ -74,7 +75,7 @@ fn put_checkpoint(text: &mut [u8], at: usize, process: u16, number: u16) -> usiz
 // Puts the rows of the kept checkpoints, from a sheet of k of them.
 pub fn put_checkpoints(text: &mut [u8], at: usize, sheet: &[u8], k: usize) -> usize
     requires { ⌜ 4 + 4 * k ≤ length (now sheet) ⌝ }
-    requires { ⌜ at + length (checkpointRows (now sheet) k) < 4294967296 ⌝ }
+    requires { ⌜ Fits at (checkpointRows (now sheet) k) ⌝ }
     ensures { λ r. ⌜ Laid (now (text .entry)) (now (text .exit)) at (checkpointRows (now (sheet .entry)) k) r ⌝ }
 {
     let mut next = at;
@@ -91,7 +92,7 @@ pub fn put_checkpoints(text: &mut [u8], at: usize, sheet: &[u8], k: usize) -> us
 // Puts the rows of the kept messages, from a sheet of k checkpoints and q messages.
 pub fn put_messages(text: &mut [u8], at: usize, sheet: &[u8], k: usize, q: usize) -> usize
     requires { ⌜ 4 + 4 * k + 2 * q ≤ length (now sheet) ⌝ }
-    requires { ⌜ at + length (messageRows (now sheet) k q) < 4294967296 ⌝ }
+    requires { ⌜ Fits at (messageRows (now sheet) k q) ⌝ }
     ensures { λ r. ⌜ Laid (now (text .entry)) (now (text .exit)) at (messageRows (now (sheet .entry)) k q) r ⌝ }
 {
     let mut next = at;

@@ -3,11 +3,11 @@
 ghost use mathlib.Core.List.{_∷_, []};
 ghost use Prim.Native.Nat.{_+_, _<_};
 ghost use lib.ListN.{length};
-ghost use Rattle.listing_text.specs.Text.{Laid, decimal, each, field};
+ghost use Rattle.listing_text.specs.Text.{Fits, Laid, decimal, each, field};
 
 // Puts a byte.
 pub fn put_byte(text: &mut [u8], at: usize, byte: u8) -> usize
-    requires { ⌜ at + 1 < 4294967296 ⌝ }
+    requires { ⌜ Fits at (byte ∷ []) ⌝ }
     ensures { λ r. ⌜ Laid (now (text .entry)) (now (text .exit)) at (byte ∷ []) r ⌝ }
 {
     if text.len() <= at {
@@ -19,7 +19,7 @@ pub fn put_byte(text: &mut [u8], at: usize, byte: u8) -> usize
 
 // Puts a word.
 pub fn put_word(text: &mut [u8], at: usize, word: &[u8]) -> usize
-    requires { ⌜ at + length (now word) < 4294967296 ⌝ }
+    requires { ⌜ Fits at (now word) ⌝ }
     ensures { λ r. ⌜ Laid (now (text .entry)) (now (text .exit)) at (now (word .entry)) r ⌝ }
 {
     let mut next = at;
@@ -33,7 +33,7 @@ pub fn put_word(text: &mut [u8], at: usize, word: &[u8]) -> usize
 
 // Puts a number in decimal.
 pub fn put_decimal(text: &mut [u8], at: usize, n: u32) -> usize
-    requires { ⌜ at + length (decimal n) < 4294967296 ⌝ }
+    requires { ⌜ Fits at (decimal n) ⌝ }
     ensures { λ r. ⌜ Laid (now (text .entry)) (now (text .exit)) at (decimal n) r ⌝ }
 {
     if n < 10 {
@@ -45,7 +45,7 @@ pub fn put_decimal(text: &mut [u8], at: usize, n: u32) -> usize
 
 // Puts a field: one space and a number.
 pub fn put_field(text: &mut [u8], at: usize, n: u32) -> usize
-    requires { ⌜ at + length (field n) < 4294967296 ⌝ }
+    requires { ⌜ Fits at (field n) ⌝ }
     ensures { λ r. ⌜ Laid (now (text .entry)) (now (text .exit)) at (field n) r ⌝ }
 {
     let next = put_byte(text, at, b' ');
@@ -54,7 +54,7 @@ pub fn put_field(text: &mut [u8], at: usize, n: u32) -> usize
 
 // Puts the fields of numbers.
 pub fn put_fields(text: &mut [u8], at: usize, numbers: &[u16]) -> usize
-    requires { ⌜ at + length (each field (now numbers)) < 4294967296 ⌝ }
+    requires { ⌜ Fits at (each field (now numbers)) ⌝ }
     ensures { λ r. ⌜ Laid (now (text .entry)) (now (text .exit)) at (each field (now (numbers .entry))) r ⌝ }
 {
     let mut next = at;

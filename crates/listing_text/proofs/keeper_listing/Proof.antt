@@ -13,26 +13,28 @@ use borrow.Author.Needs.{needs}
 use Rattle.listing_text.proofs.keeper_listing.Statement.{statement}
 use Rattle.listing_text.proofs.keeper_listing.Tie as tie
 
--- the call for a keep sheet was refused as the table is
-refusal-is : (c : tie.After-keeper-keep-sheet) → c .keeper-keep-sheet .result ≡ tableRefusal (now (c .before .before .before .before .before .before .args .table))
+-- ---- the places: the entry; where the call for a keep sheet has answered; where the text was measured; where it was put
+abbrev entry : tie.After-keeper-keep-sheet → tie.Start
+entry c = c .before .before .before .before .before .before
+
+abbrev sheet : tie.After-put-text → tie.After-keeper-keep-sheet
+sheet c = c .before .before .before .before .before .before
+
+abbrev measured : tie.Else1 → tie.After-put-text
+measured c = c .before .before .before
+
+abbrev enough : tie.After-put-text2 → tie.Else1
+enough c = c .before .before .before .before
+
+-- ---- what is known there: that call was refused as the table is, and left its answers
+refusal-is : (c : tie.After-keeper-keep-sheet) → c .keeper-keep-sheet .result ≡ tableRefusal (now (entry c .args .table))
 refusal-is c = sheet-number _ _ _ (lit≤ tt) (lit≤ tt) _ _ _ _ _ (c .keeper-keep-sheet .ensures .0) (c .keeper-keep-sheet .ensures .1 .0)
 
--- and left its answers
-answers : (c : tie.After-keeper-keep-sheet) → tableRefusal (now (c .before .before .before .before .before .before .args .table)) ≡ 0 → Answered (decode (now (c .before .before .before .before .before .before .args .table))) (c .keeper-keep-sheet .last .1 .0) (c .keeper-keep-sheet .last .1 .1 .0)
+answers : (c : tie.After-keeper-keep-sheet) → tableRefusal (now (entry c .args .table)) ≡ 0
+    → Answered (decode (now (entry c .args .table))) (c .keeper-keep-sheet .last .1 .0) (c .keeper-keep-sheet .last .1 .1 .0)
 answers c = sheet-answered _ _ _ (lit≤ tt) (lit≤ tt) _ _ _ _ _ (c .keeper-keep-sheet .ensures .0) (c .keeper-keep-sheet .ensures .1 .0)
 
-put-text-requires : tie.Need-put-text-requires
-put-text-requires c κs = (refusal-is (c .before .before .before .before .before), answers (c .before .before .before .before .before))
-
-returns : tie.Need-returns
-returns c = (listing-refused _ _ _ _ _ (c .before .before .before .put-text .ensures) (c .if1 .taken), (λ room. absurd (omega (arith, room, listing-longer _ _ _ _ 0 (c .before .before .before .put-text .ensures) (c .if1 .taken), text-few (now (c .before .before .before .before .before .before .before .before .before .before .before .before .before .before .before .args .table)) (omega (arith, refusal-is (c .before .before .before .before .before .before .before .before .before)))))))
-
-put-text-requires-2 : tie.Need-put-text-requires-2
-put-text-requires-2 c κs = (refusal-is (c .before .before .before .before .before .before .before .before .before .before .before .before), answers (c .before .before .before .before .before .before .before .before .before .before .before .before))
-
-returns-2 : tie.Need-returns-2
-returns-2 c = (listing-answered _ _ _ _ _ (c .before .before .before .before .before .before .before .before .before .put-text .ensures) (c .before .before .before .before .before .before .if1 .left) _ _ (c .before .before .put-text2 .ensures), (λ room. refl))
-
+-- ---- the needs, in the code's course
 pub keeper-listing-spec : {M : Type 1} → statement M
 keeper-listing-spec =
     tie.close
@@ -40,15 +42,30 @@ keeper-listing-spec =
     (λ c. search needs)
     (λ c. search needs)
     (λ c κs. search needs)
+    -- the text is measured
     (λ c. search needs)
     (λ c. search needs)
     (λ c. search needs)
     (λ c. search needs)
-    put-text-requires
+    (λ c κs.
+    let here = c .before .before .before .before .before in
+    (refusal-is here, answers here))
     (λ c. search needs)
-    returns
+    -- 16
+    (λ c.
+    let size = c .before .before .before in
+    let here = sheet size in
+    let few = text-few (now (entry here .args .table)) (omega (arith, refusal-is here)) in
+    let longer = listing-longer _ _ _ _ 0 (size .put-text .ensures) (c .if1 .taken) in
+    (listing-refused _ _ _ _ _ (size .put-text .ensures) (c .if1 .taken), λ room. absurd (omega (arith, room, longer, few))))
+    -- the text is put
     (λ c. search needs)
     (λ c. search needs)
-    put-text-requires-2
+    (λ c κs.
+    let here = sheet (measured (c .before .before .before)) in
+    (refusal-is here, answers here))
     (λ c. search needs)
-    returns-2)
+    (λ c.
+    let text = c .before .before in
+    let size = measured (enough text) in
+    (listing-answered _ _ _ _ _ (size .put-text .ensures) (enough text .if1 .left) _ _ (text .put-text2 .ensures), λ room. refl)))

@@ -1,88 +1,107 @@
 -- `put_listing` meets its contract: each part is put where the one before it ends.
 -- Assumes nothing.
-use Prim.Native.Nat.{_+_, _<_}
-use Rattle.listing_text.proofs.ListingLaws.{Reading, holds-needs, kept-is, line-room, line-taken, listing-parts, sheet-long, sheet-needs}
-use Rattle.listing_text.proofs.SizeLaws.{listing-few}
-use Rattle.listing_text.proofs.TextLaws.{both-laid, first-room, parts, rest-room}
-use Rattle.listing_text.specs.Listing.{listing, shareRow}
-use Rattle.listing_text.specs.Rows.{checkpointRows, holdRows, messageRows}
-use Rattle.run_table.specs.Format.{decode}
+use Rattle.listing_text.proofs.ListingLaws.{Reading, holds-needs, kept-is, line-room, line-taken, listing-left, sheet-long, sheet-needs}
+use Rattle.listing_text.proofs.TextLaws.{none-left, part-laid, part-room}
+use Rattle.listing_text.specs.Listing.{shareRow}
 use denote.Ref.{now}
-use lib.ListN.{length}
+use mathlib.Core.List.{[]}
 use mathlib.Core.Path.{refl}
 use native.Mathlib.Omega.{arith}
 use borrow.Author.Needs.{needs}
 use Rattle.listing_text.proofs.put_listing.Statement.{statement}
 use Rattle.listing_text.proofs.put_listing.Tie as tie
 
--- what was read
-reading : (c : tie.After-recovery-line) → Reading (now (c .before .before .before .before .before .before .before .before .args .table)) (c .before .before .before .process-count .result) (c .recovery-line .result) (now (c .before .before .before .before .before .before .before .before .args .scratch)) (now (c .before .before .before .before .before .before .before .before .args .sheet)) (c .before .before .u16-at .result) (c .before .u16-at2 .result)
+-- ---- the places: the entry; where N was read; where all was read; where each part was put, and the share found
+abbrev entry : tie.After-process-count → tie.Start
+entry c = c .before .before .before .before .before
+
+abbrev sized : tie.After-recovery-line → tie.After-process-count
+sized c = c .before .before .before
+
+abbrev read : tie.After-put-line → tie.After-recovery-line
+read c = c .before .before .before
+
+abbrev lined : tie.After-put-holds → tie.After-put-line
+lined c = c .before .before .before .before
+
+abbrev held : tie.After-put-checkpoints → tie.After-put-holds
+held c = c .before .before .before .before
+
+abbrev listed : tie.After-put-messages → tie.After-put-checkpoints
+listed c = c .before .before .before .before
+
+abbrev logged : tie.After-share-of → tie.After-put-messages
+logged c = c .before .before .before .before .before
+
+-- ---- what is known there: what was read is the table's
+reading : (c : tie.After-recovery-line)
+    → Reading (now (entry (sized c) .args .table)) (sized c .process-count .result) (c .recovery-line .result) (now (entry (sized c) .args .scratch))
+    (now (entry (sized c) .args .sheet)) (c .before .before .u16-at .result) (c .before .u16-at2 .result)
 reading c = record {
-  accepted = c .before .before .before .before .before .before .before .before .pre .0;
-  answered = c .before .before .before .before .before .before .before .before .pre .1;
-  n-is = c .before .before .before .process-count .ensures;
+  accepted = entry (sized c) .pre .0;
+  answered = entry (sized c) .pre .1;
+  n-is = sized c .process-count .ensures;
   line-is = c .recovery-line .ensures;
   k-is = c .before .before .u16-at .ensures;
   q-is = c .before .u16-at2 .ensures;
 }
 
--- the whole text is short
-room : (c : tie.After-recovery-line) → 0 + length (listing (decode (now (c .before .before .before .before .before .before .before .before .args .table)))) < 4294967296
-room c = omega (arith, listing-few _ (c .before .before .before .before .before .before .before .before .pre .0))
-
-u16-at-requires : tie.Need-u16-at-requires
-u16-at-requires c κs = omega (arith, sheet-long _ _ _ (c .before .before .before .before .before .pre .1))
-
-u16-at-requires-2 : tie.Need-u16-at-requires-2
-u16-at-requires-2 c κs = omega (arith, sheet-long _ _ _ (c .before .before .before .before .before .before .pre .1))
-
-array-share-prefix-line : tie.Need-array-share-prefix-line
-array-share-prefix-line c = line-room (reading (c .before))
-
-slice-aggregate-put-line : tie.Need-slice-aggregate-put-line
-slice-aggregate-put-line c = line-taken (reading (c .before .before))
-
-put-line-requires : tie.Need-put-line-requires
-put-line-requires c κs = first-room (listing-parts (reading (c .before .before)) _ refl) _ _ (room (c .before .before))
-
-put-holds-requires : tie.Need-put-holds-requires
-put-holds-requires c κs = (holds-needs (reading (c .before .before .before .before .before .before)) .0, (holds-needs (reading (c .before .before .before .before .before .before)) .1, first-room (parts (holdRows _ _) _) _ _ (rest-room (listing-parts (reading (c .before .before .before .before .before .before)) _ refl) (c .before .before .before .put-line .ensures) _ (room (c .before .before .before .before .before .before)))))
-
-put-checkpoints-requires : tie.Need-put-checkpoints-requires
-put-checkpoints-requires c κs = (omega (arith, sheet-needs (reading (c .before .before .before .before .before .before .before .before .before .before))), first-room (parts (checkpointRows _ _) _) _ _ (rest-room (parts _ _) (c .before .before .before .put-holds .ensures) _ (rest-room (listing-parts (reading (c .before .before .before .before .before .before .before .before .before .before)) _ refl) (c .before .before .before .before .before .before .before .put-line .ensures) _ (room (c .before .before .before .before .before .before .before .before .before .before)))))
-
-put-messages-requires : tie.Need-put-messages-requires
-put-messages-requires c κs = (sheet-needs (reading (c .before .before .before .before .before .before .before .before .before .before .before .before .before .before)), first-room (parts (messageRows _ _ _) _) _ _ (rest-room (parts _ _) (c .before .before .before .put-checkpoints .ensures) _ (rest-room (parts _ _) (c .before .before .before .before .before .before .before .put-holds .ensures) _ (rest-room (listing-parts (reading (c .before .before .before .before .before .before .before .before .before .before .before .before .before .before)) _ refl) (c .before .before .before .before .before .before .before .before .before .before .before .put-line .ensures) _ (room (c .before .before .before .before .before .before .before .before .before .before .before .before .before .before))))))
-
-share-of-requires : tie.Need-share-of-requires
-share-of-requires c κs = (c .before .before .before .before .before .before .before .before .before .before .before .before .before .before .before .before .before .before .before .before .before .before .before .before .before .before .before .pre .0, kept-is (reading (c .before .before .before .before .before .before .before .before .before .before .before .before .before .before .before .before .before .before .before)))
-
-put-row-requires : tie.Need-put-row-requires
-unfolding shareRow
-put-row-requires c κs = rest-room (parts _ _) (c .before .before .before .before .before .put-messages .ensures) _ (rest-room (parts _ _) (c .before .before .before .before .before .before .before .before .before .put-checkpoints .ensures) _ (rest-room (parts _ _) (c .before .before .before .before .before .before .before .before .before .before .before .before .before .put-holds .ensures) _ (rest-room (listing-parts (reading (c .before .before .before .before .before .before .before .before .before .before .before .before .before .before .before .before .before .before .before .before)) _ (c .share-of .ensures)) (c .before .before .before .before .before .before .before .before .before .before .before .before .before .before .before .before .before .put-line .ensures) _ (room (c .before .before .before .before .before .before .before .before .before .before .before .before .before .before .before .before .before .before .before .before)))))
-
-returns : tie.Need-returns
-unfolding shareRow
-returns c = both-laid (listing-parts (reading (c .before .before .before .before .before .before .before .before .before .before .before .before .before .before .before .before .before .before .before .before .before .before .before)) _ (c .before .before .before .share-of .ensures)) (c .before .before .before .before .before .before .before .before .before .before .before .before .before .before .before .before .before .before .before .before .put-line .ensures) (both-laid (parts _ _) (c .before .before .before .before .before .before .before .before .before .before .before .before .before .before .before .before .put-holds .ensures) (both-laid (parts _ _) (c .before .before .before .before .before .before .before .before .before .before .before .before .put-checkpoints .ensures) (both-laid (parts _ _) (c .before .before .before .before .before .before .before .before .put-messages .ensures) (c .before .before .put-row .ensures))))
-
+-- ---- the needs, in the code's course
 pub put-listing-spec : {M : Type 1} → statement M
+unfolding shareRow
 put-listing-spec =
     tie.close
     (tie.spec
     (λ c κs. search needs)
-    u16-at-requires
+    (λ c κs. omega (arith, sheet-long _ _ _ (entry c .pre .1)))
     (λ c. search needs)
-    u16-at-requires-2
+    (λ c κs. omega (arith, sheet-long _ _ _ (entry (c .before) .pre .1)))
     (λ c. search needs)
     (λ c κs. search needs)
-    array-share-prefix-line
-    slice-aggregate-put-line
-    put-line-requires
-    put-holds-requires
-    put-checkpoints-requires
-    put-messages-requires
+    -- the recovery line
+    (λ c. line-room (reading (c .before)))
+    (λ c. line-taken (reading (c .before .before)))
+    (λ c κs. part-room (listing-left (reading (c .before .before)) {before = []} refl))
+    -- the lines of single holders
+    (λ c κs.
+    let line = c .before .before .before in
+    let here = reading (read line) in
+    (holds-needs here .0, (holds-needs here .1, part-room (part-laid (listing-left here refl) (line .put-line .ensures)))))
+    -- the kept checkpoints
+    (λ c κs.
+    let holds = c .before .before .before in
+    let line = lined holds in
+    let here = reading (read line) in
+    let left = part-laid (listing-left here refl) (line .put-line .ensures) in
+    (omega (arith, sheet-needs here), part-room (part-laid left (holds .put-holds .ensures))))
+    -- the kept messages
+    (λ c κs.
+    let checkpoints = c .before .before .before in
+    let holds = held checkpoints in
+    let line = lined holds in
+    let here = reading (read line) in
+    let left = part-laid (part-laid (listing-left here refl) (line .put-line .ensures)) (holds .put-holds .ensures) in
+    (sheet-needs here, part-room (part-laid left (checkpoints .put-checkpoints .ensures))))
+    -- the share
     (λ c. search needs)
-    share-of-requires
-    put-row-requires
+    (λ c κs.
+    let here = read (lined (held (listed (c .before .before .before .before)))) in
+    (entry (sized here) .pre .0, kept-is (reading here)))
+    (λ c κs.
+    let messages = logged c in
+    let checkpoints = listed messages in
+    let holds = held checkpoints in
+    let line = lined holds in
+    let left = part-laid (listing-left (reading (read line)) (c .share-of .ensures)) (line .put-line .ensures) in
+    let later = part-laid (part-laid left (holds .put-holds .ensures)) (checkpoints .put-checkpoints .ensures) in
+    part-room (part-laid later (messages .put-messages .ensures)))
     (λ c. search needs)
-    returns)
+    (λ c.
+    let share = c .before .before in
+    let messages = logged (share .before) in
+    let checkpoints = listed messages in
+    let holds = held checkpoints in
+    let line = lined holds in
+    let left = part-laid (listing-left (reading (read line)) (share .before .share-of .ensures)) (line .put-line .ensures) in
+    let later = part-laid (part-laid left (holds .put-holds .ensures)) (checkpoints .put-checkpoints .ensures) in
+    none-left (part-laid (part-laid later (messages .put-messages .ensures)) (share .put-row .ensures))))

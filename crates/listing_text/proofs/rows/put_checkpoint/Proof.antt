@@ -1,42 +1,51 @@
--- `rows::put_checkpoint` meets its contract.
+-- `rows::put_checkpoint` meets its contract: the word, the process, the number, the line feed.
 -- Assumes nothing.
-use Rattle.listing_text.proofs.TextLaws.{both-laid, first-room, parts, rest-room, row-two}
+use Rattle.listing_text.proofs.TextLaws.{none-left, part-laid, part-room, row-two}
 use Rattle.listing_text.specs.Listing.{checkpointRow}
-use Rattle.listing_text.specs.Text.{field}
-use mathlib.Core.List.{_++_}
-use mathlib.Core.List.{_∷_, []}
+use mathlib.Core.List.{[]}
 use borrow.Author.Needs.{needs}
 use Rattle.listing_text.proofs.rows.put_checkpoint.Statement.{statement}
 use Rattle.listing_text.proofs.rows.put_checkpoint.Tie as tie
 
-put-word-requires : tie.Need-put-word-requires
-unfolding checkpointRow
-put-word-requires c κs = first-room (row-two _ _ _) _ _ (c .before .before .before .pre)
+-- ---- the places: the entry, and where the word, the process and the number were put
+abbrev entry : tie.After-put-word → tie.Start
+entry c = c .before .before .before .before
 
-put-field-requires : tie.Need-put-field-requires
-unfolding checkpointRow
-put-field-requires c κs = first-room (parts (field (c .before .before .before .before .before .before .before .args .process)) (field (c .before .before .before .before .before .before .before .args .number) ++ (10 ∷ []))) _ _ (rest-room (row-two _ _ _) (c .before .before .before .put-word .ensures) _ (c .before .before .before .before .before .before .before .pre))
+abbrev worded : tie.After-put-field → tie.After-put-word
+worded c = c .before .before .before .before
 
-put-field-requires-2 : tie.Need-put-field-requires-2
-unfolding checkpointRow
-put-field-requires-2 c κs = first-room (parts (field (c .before .before .before .before .before .before .before .before .before .before .before .args .number)) (10 ∷ [])) _ _ (rest-room (parts _ _) (c .before .before .before .put-field .ensures) _ (rest-room (row-two _ _ _) (c .before .before .before .before .before .before .before .put-word .ensures) _ (c .before .before .before .before .before .before .before .before .before .before .before .pre)))
+abbrev second : tie.After-put-field2 → tie.After-put-field
+second c = c .before .before .before .before
 
-put-byte-requires : tie.Need-put-byte-requires
-unfolding checkpointRow
-put-byte-requires c κs = rest-room (parts _ _) (c .before .before .before .put-field2 .ensures) _ (rest-room (parts _ _) (c .before .before .before .before .before .before .before .put-field .ensures) _ (rest-room (row-two _ _ _) (c .before .before .before .before .before .before .before .before .before .before .before .put-word .ensures) _ (c .before .before .before .before .before .before .before .before .before .before .before .before .before .before .before .pre)))
+abbrev third : tie.After-put-byte → tie.After-put-field2
+third c = c .before .before .before .before
 
-returns : tie.Need-returns
-unfolding checkpointRow
-returns c = both-laid (row-two _ _ _) (c .before .before .before .before .before .before .before .before .before .before .before .before .before .before .put-word .ensures) (both-laid (parts _ _) (c .before .before .before .before .before .before .before .before .before .before .put-field .ensures) (both-laid (parts _ _) (c .before .before .before .before .before .before .put-field2 .ensures) (c .before .before .put-byte .ensures)))
-
+-- ---- the needs, in the code's course
 pub put-checkpoint-spec : {M : Type 1} → statement M
+unfolding checkpointRow
 put-checkpoint-spec =
     tie.close
     (tie.spec
     (λ c. search needs)
-    put-word-requires
-    put-field-requires
-    put-field-requires-2
-    put-byte-requires
+    (λ c κs. part-room (row-two _ {before = []} _ _ (c .before .before .before .pre)))
+    (λ c κs.
+    let word = c .before .before .before in
+    part-room (part-laid (row-two _ _ _ (entry word .pre)) (word .put-word .ensures)))
+    (λ c κs.
+    let first = c .before .before .before in
+    let word = worded first in
+    part-room (part-laid (part-laid (row-two _ _ _ (entry word .pre)) (word .put-word .ensures)) (first .put-field .ensures)))
+    (λ c κs.
+    let last = c .before .before .before in
+    let first = second last in
+    let word = worded first in
+    let row = part-laid (part-laid (row-two _ _ _ (entry word .pre)) (word .put-word .ensures)) (first .put-field .ensures) in
+    part-room (part-laid row (last .put-field2 .ensures)))
     (λ c. search needs)
-    returns)
+    (λ c.
+    let feed = c .before .before in
+    let last = third feed in
+    let first = second last in
+    let word = worded first in
+    let row = part-laid (part-laid (row-two _ _ _ (entry word .pre)) (word .put-word .ensures)) (first .put-field .ensures) in
+    none-left (part-laid (part-laid row (last .put-field2 .ensures)) (feed .put-byte .ensures))))

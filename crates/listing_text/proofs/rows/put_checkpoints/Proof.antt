@@ -1,4 +1,4 @@
--- `rows::put_checkpoints` meets its contract.
+-- `rows::put_checkpoints` meets its contract: the loop puts one row after another.
 -- Assumes nothing.
 use Prim.Native.Nat.{_-_}
 use Rattle.listing_text.proofs.RowLaws.{checkpoint-read}
@@ -11,35 +11,29 @@ use Rattle.listing_text.proofs.rows.put_checkpoints.Statement.{statemen
 use Rattle.listing_text.proofs.rows.put_checkpoints.Tie as tie
 
 abbrev Inv-loop : tie.InvT-loop
-Inv-loop text₀ at sheet k next₀ e₀ text next e = Laying (λ e. checkpointRow (checkpointAt sheet k e)) k text₀ at text next e
+Inv-loop text₀ at sheet k next₀ e₀ text next e =
+    Laying (λ e. checkpointRow (checkpointAt sheet k e)) k (checkpointRows sheet k) text₀ at text next e
 
 abbrev μ-loop : tie.MeasureT-loop
 μ-loop text₀ at sheet k next₀ e₀ text next e = k - e
 
-loop-holds : tie.Need-loop-holds Inv-loop μ-loop
-loop-holds c = laying-none _ _ _ _
+-- ---- the places: a turn of the loop, from where its checkpoint was read; that, from where the row was put
+abbrev turn : tie.After-u16-at2 Inv-loop μ-loop → tie.In-loop Inv-loop μ-loop
+turn c = c .before .before
 
-put-checkpoint-requires : tie.Need-put-checkpoint-requires Inv-loop μ-loop
-unfolding checkpointRows
-put-checkpoint-requires c κs = laying-room _ _ _ _ _ _ _ (c .before .before .before .before .loop .inv) _ (checkpoint-read _ _ _ _ _ (c .before .before .u16-at .ensures) (c .before .u16-at2 .ensures)) (c .before .before .before .loop-test .taken) _ _ refl (c .before .before .before .before .before .before .before .pre .1)
+abbrev read : tie.After-put-checkpoint Inv-loop μ-loop → tie.After-u16-at2 Inv-loop μ-loop
+read c = c .before .before
 
-loop-again : tie.Need-loop-again Inv-loop μ-loop
-loop-again c = laying-more _ _ _ _ _ _ _ (c .before .before .before .before .before .before .before .loop .inv) _ (checkpoint-read _ _ _ _ _ (c .before .before .before .before .before .u16-at .ensures) (c .before .before .before .before .u16-at2 .ensures)) (c .before .before .before .before .before .before .loop-test .taken) _ _ (c .before .before .put-checkpoint .ensures)
-
-same-length : tie.Need-same-length Inv-loop μ-loop
-same-length c = laying-length _ _ _ _ _ _ _ (c .before .loop .inv)
-
-returns : tie.Need-returns Inv-loop μ-loop
-unfolding checkpointRows
-returns c = laying-all _ _ _ _ _ _ _ (c .before .loop .inv) _ refl (c .loop-test .left)
-
+-- ---- the needs, in the code's course
 pub put-checkpoints-spec : {M : Type 1} → statement M
+unfolding checkpointRows
 put-checkpoints-spec =
     tie.close
     (tie.spec
     Inv-loop
     μ-loop
-    loop-holds
+    (λ c. laying-none refl (c .before .before .pre .1))
+    -- entry e of the two arrays
     (λ c. omega arith)
     (λ c. omega arith)
     (λ c κs. omega arith)
@@ -48,9 +42,16 @@ put-checkpoints-spec =
     (λ c. omega arith)
     (λ c. omega arith)
     (λ c κs. omega arith)
-    put-checkpoint-requires
+    (λ c κs.
+    let read = c .before in
+    laying-room (turn read .before .loop .inv) (checkpoint-read _ _ _ _ _ (read .before .u16-at .ensures) (read .u16-at2 .ensures))
+    (turn read .loop-test .taken))
     (λ c. omega arith)
     (λ c. omega arith)
-    loop-again
-    same-length
-    returns)
+    (λ c.
+    let put = c .before .before in
+    let this = read put in
+    laying-more (turn this .before .loop .inv) (checkpoint-read _ _ _ _ _ (this .before .u16-at .ensures) (this .u16-at2 .ensures))
+    (turn this .loop-test .taken) (put .put-checkpoint .ensures))
+    (λ c. laying-length (c .before .loop .inv))
+    (λ c. laying-all (c .before .loop .inv) (c .loop-test .left)))

@@ -1,41 +1,51 @@
--- `rows::put_hold` meets its contract.
+-- `rows::put_hold` meets its contract: the word, the process, its line, the line feed.
 -- Assumes nothing.
-use Rattle.listing_text.proofs.TextLaws.{both-laid, first-room, parts, rest-room, row-more}
+use Rattle.listing_text.proofs.TextLaws.{none-left, part-laid, part-room, row-more}
 use Rattle.listing_text.specs.Listing.{holdRow}
-use Rattle.listing_text.specs.Text.{each, field}
-use mathlib.Core.List.{_∷_, [], _++_}
+use mathlib.Core.List.{[]}
 use borrow.Author.Needs.{needs}
 use Rattle.listing_text.proofs.rows.put_hold.Statement.{statement}
 use Rattle.listing_text.proofs.rows.put_hold.Tie as tie
 
-put-word-requires : tie.Need-put-word-requires
-unfolding holdRow
-put-word-requires c κs = first-room (row-more _ _ _) _ _ (c .before .before .before .before .pre)
+-- ---- the places: the entry, and where the word, the process and the line were put
+abbrev entry : tie.After-put-word → tie.Start
+entry c = c .before .before .before .before .before
 
-put-field-requires : tie.Need-put-field-requires
-unfolding holdRow
-put-field-requires c κs = first-room (parts (field (c .before .before .before .before .before .before .before .before .args .process)) (each field (c .before .before .before .before .before .before .before .before .args .line .now) ++ (10 ∷ []))) _ _ (rest-room (row-more _ _ _) (c .before .before .before .put-word .ensures) _ (c .before .before .before .before .before .before .before .before .pre))
+abbrev worded : tie.After-put-field → tie.After-put-word
+worded c = c .before .before .before .before
 
-put-fields-requires : tie.Need-put-fields-requires
-unfolding holdRow
-put-fields-requires c κs = first-room (parts (each field (c .before .before .before .before .before .before .before .before .before .before .before .before .args .line .now)) (10 ∷ [])) _ _ (rest-room (parts _ _) (c .before .before .before .put-field .ensures) _ (rest-room (row-more _ _ _) (c .before .before .before .before .before .before .before .put-word .ensures) _ (c .before .before .before .before .before .before .before .before .before .before .before .before .pre)))
+abbrev second : tie.After-put-fields → tie.After-put-field
+second c = c .before .before .before .before
 
-put-byte-requires : tie.Need-put-byte-requires
-unfolding holdRow
-put-byte-requires c κs = rest-room (parts _ _) (c .before .before .before .put-fields .ensures) _ (rest-room (parts _ _) (c .before .before .before .before .before .before .before .put-field .ensures) _ (rest-room (row-more _ _ _) (c .before .before .before .before .before .before .before .before .before .before .before .put-word .ensures) _ (c .before .before .before .before .before .before .before .before .before .before .before .before .before .before .before .before .pre)))
+abbrev third : tie.After-put-byte → tie.After-put-fields
+third c = c .before .before .before .before
 
-returns : tie.Need-returns
-unfolding holdRow
-returns c = both-laid (row-more _ _ _) (c .before .before .before .before .before .before .before .before .before .before .before .before .before .before .put-word .ensures) (both-laid (parts _ _) (c .before .before .before .before .before .before .before .before .before .before .put-field .ensures) (both-laid (parts _ _) (c .before .before .before .before .before .before .put-fields .ensures) (c .before .before .put-byte .ensures)))
-
+-- ---- the needs, in the code's course
 pub put-hold-spec : {M : Type 1} → statement M
+unfolding holdRow
 put-hold-spec =
     tie.close
     (tie.spec
     (λ c. search needs)
-    put-word-requires
-    put-field-requires
-    put-fields-requires
-    put-byte-requires
+    (λ c κs. part-room (row-more _ {before = []} _ _ (c .before .before .before .before .pre)))
+    (λ c κs.
+    let word = c .before .before .before in
+    part-room (part-laid (row-more _ _ _ (entry word .pre)) (word .put-word .ensures)))
+    (λ c κs.
+    let first = c .before .before .before in
+    let word = worded first in
+    part-room (part-laid (part-laid (row-more _ _ _ (entry word .pre)) (word .put-word .ensures)) (first .put-field .ensures)))
+    (λ c κs.
+    let last = c .before .before .before in
+    let first = second last in
+    let word = worded first in
+    let row = part-laid (part-laid (row-more _ _ _ (entry word .pre)) (word .put-word .ensures)) (first .put-field .ensures) in
+    part-room (part-laid row (last .put-fields .ensures)))
     (λ c. search needs)
-    returns)
+    (λ c.
+    let feed = c .before .before in
+    let last = third feed in
+    let first = second last in
+    let word = worded first in
+    let row = part-laid (part-laid (row-more _ _ _ (entry word .pre)) (word .put-word .ensures)) (first .put-field .ensures) in
+    none-left (part-laid (part-laid row (last .put-fields .ensures)) (feed .put-byte .ensures))))

@@ -1,36 +1,41 @@
--- `rows::put_line` meets its contract.
+-- `rows::put_line` meets its contract: the word, the line's fields, the line feed.
 -- Assumes nothing.
-use Rattle.listing_text.proofs.TextLaws.{both-laid, first-room, parts, rest-room, row-parts}
+use Rattle.listing_text.proofs.TextLaws.{none-left, part-laid, part-room, row-parts}
 use Rattle.listing_text.specs.Listing.{lineRow}
-use Rattle.listing_text.specs.Text.{each, field}
-use mathlib.Core.List.{_∷_, []}
+use mathlib.Core.List.{[]}
 use borrow.Author.Needs.{needs}
 use Rattle.listing_text.proofs.rows.put_line.Statement.{statement}
 use Rattle.listing_text.proofs.rows.put_line.Tie as tie
 
-put-word-requires : tie.Need-put-word-requires
-unfolding lineRow
-put-word-requires c κs = first-room (row-parts _ _) _ _ (c .before .before .before .before .pre)
+-- ---- the places: the entry, and where the word and the fields were put
+abbrev entry : tie.After-put-word → tie.Start
+entry c = c .before .before .before .before .before
 
-put-fields-requires : tie.Need-put-fields-requires
-unfolding lineRow
-put-fields-requires c κs = first-room (parts (each field (c .before .before .before .before .before .before .before .before .args .line .now)) (10 ∷ [])) _ _ (rest-room (row-parts _ _) (c .before .before .before .put-word .ensures) _ (c .before .before .before .before .before .before .before .before .pre))
+abbrev worded : tie.After-put-fields → tie.After-put-word
+worded c = c .before .before .before .before
 
-put-byte-requires : tie.Need-put-byte-requires
-unfolding lineRow
-put-byte-requires c κs = rest-room (parts _ _) (c .before .before .before .put-fields .ensures) _ (rest-room (row-parts _ _) (c .before .before .before .before .before .before .before .put-word .ensures) _ (c .before .before .before .before .before .before .before .before .before .before .before .before .pre))
+abbrev fielded : tie.After-put-byte → tie.After-put-fields
+fielded c = c .before .before .before .before
 
-returns : tie.Need-returns
-unfolding lineRow
-returns c = both-laid (row-parts _ _) (c .before .before .before .before .before .before .before .before .before .before .put-word .ensures) (both-laid (parts _ _) (c .before .before .before .before .before .before .put-fields .ensures) (c .before .before .put-byte .ensures))
-
+-- ---- the needs, in the code's course
 pub put-line-spec : {M : Type 1} → statement M
+unfolding lineRow
 put-line-spec =
     tie.close
     (tie.spec
     (λ c. search needs)
-    put-word-requires
-    put-fields-requires
-    put-byte-requires
+    (λ c κs. part-room (row-parts _ {before = []} _ (c .before .before .before .before .pre)))
+    (λ c κs.
+    let word = c .before .before .before in
+    part-room (part-laid (row-parts _ _ (entry word .pre)) (word .put-word .ensures)))
+    (λ c κs.
+    let fields = c .before .before .before in
+    let word = worded fields in
+    part-room (part-laid (part-laid (row-parts _ _ (entry word .pre)) (word .put-word .ensures)) (fields .put-fields .ensures)))
     (λ c. search needs)
-    returns)
+    (λ c.
+    let feed = c .before .before in
+    let fields = fielded feed in
+    let word = worded fields in
+    let row = part-laid (part-laid (row-parts _ _ (entry word .pre)) (word .put-word .ensures)) (fields .put-fields .ensures) in
+    none-left (part-laid row (feed .put-byte .ensures))))

@@ -1,24 +1,38 @@
--- `rows::put_row` meets its contract.
+-- `rows::put_row` meets its contract: the word, the field, the line feed.
 -- Assumes nothing.
-use Rattle.listing_text.proofs.TextLaws.{both-laid, first-room, parts, rest-room, row-one}
-use Rattle.listing_text.specs.Text.{field}
-use mathlib.Core.List.{_∷_, []}
+use Rattle.listing_text.proofs.TextLaws.{none-left, part-laid, part-room, row-one}
+use mathlib.Core.List.{[]}
 use borrow.Author.Needs.{needs}
 use Rattle.listing_text.proofs.rows.put_row.Statement.{statement}
 use Rattle.listing_text.proofs.rows.put_row.Tie as tie
 
-put-word-requires : tie.Need-put-word-requires
-put-word-requires c κs = first-room (row-one _ _) _ _ (c .before .before .before .pre)
+-- ---- the places: the entry, and where the word and the field were put
+abbrev entry : tie.After-put-word → tie.Start
+entry c = c .before .before .before .before
 
-put-field-requires : tie.Need-put-field-requires
-put-field-requires c κs = first-room (parts (field (c .before .before .before .before .before .before .before .args .n)) (10 ∷ [])) _ _ (rest-room (row-one _ _) (c .before .before .before .put-word .ensures) _ (c .before .before .before .before .before .before .before .pre))
+abbrev worded : tie.After-put-field → tie.After-put-word
+worded c = c .before .before .before .before
 
-put-byte-requires : tie.Need-put-byte-requires
-put-byte-requires c κs = rest-room (parts _ _) (c .before .before .before .put-field .ensures) _ (rest-room (row-one _ _) (c .before .before .before .before .before .before .before .put-word .ensures) _ (c .before .before .before .before .before .before .before .before .before .before .before .pre))
+abbrev fielded : tie.After-put-byte → tie.After-put-field
+fielded c = c .before .before .before .before
 
-returns : tie.Need-returns
-returns c = both-laid (row-one _ _) (c .before .before .before .before .before .before .before .before .before .before .put-word .ensures) (both-laid (parts _ _) (c .before .before .before .before .before .before .put-field .ensures) (c .before .before .put-byte .ensures))
-
+-- ---- the needs, in the code's course
 pub put-row-spec : {M : Type 1} → statement M
 put-row-spec =
-    tie.close (tie.spec put-word-requires put-field-requires put-byte-requires (λ c. search needs) returns)
+    tie.close
+    (tie.spec
+    (λ c κs. part-room (row-one _ {before = []} _ (c .before .before .before .pre)))
+    (λ c κs.
+    let word = c .before .before .before in
+    part-room (part-laid (row-one _ _ (entry word .pre)) (word .put-word .ensures)))
+    (λ c κs.
+    let field = c .before .before .before in
+    let word = worded field in
+    part-room (part-laid (part-laid (row-one _ _ (entry word .pre)) (word .put-word .ensures)) (field .put-field .ensures)))
+    (λ c. search needs)
+    (λ c.
+    let feed = c .before .before in
+    let field = fielded feed in
+    let word = worded field in
+    let row = part-laid (part-laid (row-one _ _ (entry word .pre)) (word .put-word .ensures)) (field .put-field .ensures) in
+    none-left (part-laid row (feed .put-byte .ensures))))

@@ -1,6 +1,7 @@
 -- `text::put_decimal` meets its contract: the number falls at each call.
 -- Assumes nothing.
-use Rattle.listing_text.proofs.TextLaws.{digit-room, laid-digit, laid-digits, laid-length, tenth-room}
+use Rattle.listing_text.proofs.TextLaws.{laid-length, more-digits, none-left, one-digit, part-laid, part-room}
+use mathlib.Core.List.{[]}
 use mathlib.Core.Path.{_∙_}
 use native.Mathlib.Omega.{arith}
 use Prim.Native.Nat.{ℕ, _<_}
@@ -24,94 +25,7 @@ abbrev put-decimal-below : ℕ → In 1 put-decimal-kinds.ps
 put-decimal-below t =
     and 1 put-decimal-kinds.ps (falls 1 put-decimal-kinds.ps _<_ μ-put-decimal t) put-decimal.Pre
 
-put-decimal-cast-put-byte : (t : ℕ) → put-decimal-lts.Need-cast-put-byte (
-  put-byte-reads.Asked,
-  put-byte-reads.Learnt,
-  put-decimal-below t,
-  put-decimal.Post,
-) (put-decimal-at t) put-decimal.Post
-put-decimal-cast-put-byte t c = omega arith
-
-put-decimal-add-put-byte : (t : ℕ) → put-decimal-lts.Need-add-put-byte (
-  put-byte-reads.Asked,
-  put-byte-reads.Learnt,
-  put-decimal-below t,
-  put-decimal.Post,
-) (put-decimal-at t) put-decimal.Post
-put-decimal-add-put-byte t c = omega arith
-
-put-decimal-put-byte-requires : (t : ℕ) → put-decimal-lts.Need-put-byte-requires (
-  put-byte-reads.Asked,
-  put-byte-reads.Learnt,
-  put-decimal-below t,
-  put-decimal.Post,
-) (put-decimal-at t) put-decimal.Post
-put-decimal-put-byte-requires t c κs = digit-room _ _ _ (c .before .if1 .taken) (c .before .before .before .pre .1)
-
-put-decimal-same-length : (t : ℕ) → put-decimal-lts.Need-same-length (
-  put-byte-reads.Asked,
-  put-byte-reads.Learnt,
-  put-decimal-below t,
-  put-decimal.Post,
-) (put-decimal-at t) put-decimal.Post
-put-decimal-same-length t c = laid-length _ _ _ _ _ (c .before .before .put-byte .ensures)
-
-put-decimal-returns : (t : ℕ) → put-decimal-lts.Need-returns (
-  put-byte-reads.Asked,
-  put-byte-reads.Learnt,
-  put-decimal-below t,
-  put-decimal.Post,
-) (put-decimal-at t) put-decimal.Post
-put-decimal-returns t c = laid-digit _ _ 0 (c .before .before .before .before .if1 .taken) _ _ _ (c .before .before .put-byte .ensures)
-
-put-decimal-put-decimal-requires : (t : ℕ) → put-decimal-lts.Need-put-decimal-requires (
-  put-byte-reads.Asked,
-  put-byte-reads.Learnt,
-  put-decimal-below t,
-  put-decimal.Post,
-) (put-decimal-at t) put-decimal.Post
-put-decimal-put-decimal-requires t c κs = (omega (arith, c .before .before .before .pre .0, c .before .if1 .left), omega (arith, tenth-room _ _ _ (c .before .if1 .left) (c .before .before .before .pre .1)))
-
-put-decimal-cast-put-byte-2 : (t : ℕ) → put-decimal-lts.Need-cast-put-byte-2 (
-  put-byte-reads.Asked,
-  put-byte-reads.Learnt,
-  put-decimal-below t,
-  put-decimal.Post,
-) (put-decimal-at t) put-decimal.Post
-put-decimal-cast-put-byte-2 t c = omega arith
-
-put-decimal-add-put-byte-2 : (t : ℕ) → put-decimal-lts.Need-add-put-byte-2 (
-  put-byte-reads.Asked,
-  put-byte-reads.Learnt,
-  put-decimal-below t,
-  put-decimal.Post,
-) (put-decimal-at t) put-decimal.Post
-put-decimal-add-put-byte-2 t c = omega arith
-
-put-decimal-put-byte-requires-2 : (t : ℕ) → put-decimal-lts.Need-put-byte-requires-2 (
-  put-byte-reads.Asked,
-  put-byte-reads.Learnt,
-  put-decimal-below t,
-  put-decimal.Post,
-) (put-decimal-at t) put-decimal.Post
-put-decimal-put-byte-requires-2 t c κs = omega (arith, tenth-room _ _ _ (c .before .before .before .before .before .if1 .left) (c .before .before .before .before .before .before .before .pre .1), c .before .before .before .put-decimal .ensures .place)
-
-put-decimal-same-length-2 : (t : ℕ) → put-decimal-lts.Need-same-length-2 (
-  put-byte-reads.Asked,
-  put-byte-reads.Learnt,
-  put-decimal-below t,
-  put-decimal.Post,
-) (put-decimal-at t) put-decimal.Post
-put-decimal-same-length-2 t c = laid-length _ _ _ _ _ (c .before .before .put-byte2 .ensures) ∙ laid-length _ _ _ _ _ (c .before .before .before .before .before .before .put-decimal .ensures)
-
-put-decimal-returns-2 : (t : ℕ) → put-decimal-lts.Need-returns-2 (
-  put-byte-reads.Asked,
-  put-byte-reads.Learnt,
-  put-decimal-below t,
-  put-decimal.Post,
-) (put-decimal-at t) put-decimal.Post
-put-decimal-returns-2 t c = laid-digits _ _ _ (c .before .before .before .before .before .before .before .before .if1 .left) (c .before .before .before .before .before .before .before .before .before .before .pre .1) _ _ _ _ _ (c .before .before .before .before .before .before .put-decimal .ensures) (c .before .before .put-byte2 .ensures)
-
+-- ---- the needs, in the code's course; what was asked of the number is the second part of `.pre`
 pub +put-decimal-spec : {M : Type 1} → statement M
 +put-decimal-spec = close μ-put-decimal λ t. put-decimal-lts.spec (
   put-byte-reads.Asked,
@@ -121,14 +35,31 @@ pub +put-decimal-spec : {M : Type 1} → statement M
 )
     (put-decimal-at t)
     put-decimal.Post
-    (put-decimal-cast-put-byte t)
-    (put-decimal-add-put-byte t)
-    (put-decimal-put-byte-requires t)
-    (put-decimal-same-length t)
-    (put-decimal-returns t)
-    (put-decimal-put-decimal-requires t)
-    (put-decimal-cast-put-byte-2 t)
-    (put-decimal-add-put-byte-2 t)
-    (put-decimal-put-byte-requires-2 t)
-    (put-decimal-same-length-2 t)
-    (put-decimal-returns-2 t)
+    -- one digit
+    (λ c. omega arith)
+    (λ c. omega arith)
+    (λ c κs. part-room (one-digit {before = []} (c .before .if1 .taken) (c .before .before .before .pre .1)))
+    (λ c. laid-length (c .before .before .put-byte .ensures))
+    (λ c.
+    let small = c .before .before .before .before in
+    none-left (part-laid (one-digit (small .if1 .taken) (small .before .before .pre .1)) (c .before .before .put-byte .ensures)))
+    -- more digits: those of the tenth
+    (λ c κs.
+    let large = c .before in
+    let asked = large .before .before .pre in
+    (omega (arith, asked .0, large .if1 .left), part-room (more-digits {before = []} (large .if1 .left) (asked .1))))
+    -- and the last
+    (λ c. omega arith)
+    (λ c. omega arith)
+    (λ c κs.
+    let tenth = c .before .before .before in
+    let large = tenth .before .before in
+    part-room (part-laid (more-digits (large .if1 .left) (large .before .before .pre .1)) (tenth .put-decimal .ensures)))
+    (λ c.
+    let tenth = c .before .before .before .before .before .before in
+    laid-length (c .before .before .put-byte2 .ensures) ∙ laid-length (tenth .put-decimal .ensures))
+    (λ c.
+    let tenth = c .before .before .before .before .before .before in
+    let large = tenth .before .before in
+    let digits = part-laid (more-digits (large .if1 .left) (large .before .before .pre .1)) (tenth .put-decimal .ensures) in
+    none-left (part-laid digits (c .before .before .put-byte2 .ensures)))

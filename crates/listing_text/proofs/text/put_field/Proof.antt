@@ -1,18 +1,29 @@
--- `text::put_field` meets its contract.
+-- `text::put_field` meets its contract: a space, and the number.
 -- Assumes nothing.
-use Rattle.listing_text.proofs.TextLaws.{both-laid, field-parts, first-room, rest-room}
+use Rattle.listing_text.proofs.TextLaws.{field-parts, none-left, part-laid, part-room}
+use mathlib.Core.List.{[]}
 use borrow.Author.Needs.{needs}
 use Rattle.listing_text.proofs.text.put_field.Statement.{statement}
 use Rattle.listing_text.proofs.text.put_field.Tie as tie
 
-put-byte-requires : tie.Need-put-byte-requires
-put-byte-requires c κs = first-room (field-parts _) _ _ (c .before .before .pre)
+-- ---- the places: the entry, and where the space was put
+abbrev entry : tie.After-put-byte → tie.Start
+entry c = c .before .before .before
 
-put-decimal-requires : tie.Need-put-decimal-requires
-put-decimal-requires c κs = rest-room (field-parts _) (c .before .before .before .put-byte .ensures) _ (c .before .before .before .before .before .before .pre)
+abbrev spaced : tie.After-put-decimal → tie.After-put-byte
+spaced c = c .before .before .before .before
 
-returns : tie.Need-returns
-returns c = both-laid (field-parts _) (c .before .before .before .before .before .before .put-byte .ensures) (c .before .before .put-decimal .ensures)
-
+-- ---- the needs, in the code's course
 pub put-field-spec : {M : Type 1} → statement M
-put-field-spec = tie.close (tie.spec put-byte-requires put-decimal-requires (λ c. search needs) returns)
+put-field-spec =
+    tie.close
+    (tie.spec
+    (λ c κs. part-room (field-parts _ {before = []} (c .before .before .pre)))
+    (λ c κs.
+    let space = c .before .before .before in
+    part-room (part-laid (field-parts _ (entry space .pre)) (space .put-byte .ensures)))
+    (λ c. search needs)
+    (λ c.
+    let number = c .before .before in
+    let space = spaced number in
+    none-left (part-laid (part-laid (field-parts _ (entry space .pre)) (space .put-byte .ensures)) (number .put-decimal .ensures))))

@@ -1,8 +1,8 @@
--- `text::put_fields` meets its contract.
+-- `text::put_fields` meets its contract: the loop puts one field after another.
 -- Assumes nothing.
 use Prim.Native.Nat.{_-_}
 use Rattle.listing_text.proofs.TextLaws.{Laying, each-rows, laying-all, laying-length, laying-more, laying-none, laying-room}
-use Rattle.listing_text.specs.Text.{field}
+use Rattle.listing_text.specs.Text.{each, field}
 use lib.ListN.{getD, length}
 use mathlib.Core.Path.{refl, sym}
 use native.Mathlib.Omega.{arith}
@@ -10,42 +10,33 @@ use Rattle.listing_text.proofs.text.put_fields.Statement.{statement}
 use Rattle.listing_text.proofs.text.put_fields.Tie as tie
 
 abbrev Inv-loop : tie.InvT-loop
-Inv-loop text₀ at numbers next₀ i₀ text next i = Laying (λ k. field (getD numbers k 0)) (length numbers) text₀ at text next i
+Inv-loop text₀ at numbers next₀ i₀ text next i = Laying (λ k. field (getD numbers k 0)) (length numbers) (each field numbers) text₀ at text next i
 
 abbrev μ-loop : tie.MeasureT-loop
 μ-loop text₀ at numbers next₀ i₀ text next i = length numbers - i
 
-loop-holds : tie.Need-loop-holds Inv-loop μ-loop
-loop-holds c = laying-none _ _ _ _
+-- ---- the places: a turn of the loop, from where its field was put
+abbrev turn : tie.After-put-field Inv-loop μ-loop → tie.In-loop Inv-loop μ-loop
+turn c = c .before .before .before
 
-cast-put-field : tie.Need-cast-put-field Inv-loop μ-loop
-cast-put-field c = omega (arith, c .shared-slice-known2 .given (c .before .before .before .loop .i))
-
-put-field-requires : tie.Need-put-field-requires Inv-loop μ-loop
-put-field-requires c κs = laying-room _ _ _ _ _ _ _ (c .before .before .before .loop .inv) _ refl (c .before .before .loop-test .taken) _ _ (sym (each-rows field 0 (c .before .before .before .before .before .before .args .numbers .now))) (c .before .before .before .before .before .before .pre)
-
-loop-again : tie.Need-loop-again Inv-loop μ-loop
-loop-again c = laying-more _ _ _ _ _ _ _ (c .before .before .before .before .before .before .loop .inv) _ refl (c .before .before .before .before .before .loop-test .taken) _ _ (c .before .before .put-field .ensures)
-
-same-length : tie.Need-same-length Inv-loop μ-loop
-same-length c = laying-length _ _ _ _ _ _ _ (c .before .loop .inv)
-
-returns : tie.Need-returns Inv-loop μ-loop
-returns c = laying-all _ _ _ _ _ _ _ (c .before .loop .inv) _ (sym (each-rows field 0 (c .before .before .before .before .args .numbers .now))) (c .loop-test .left)
-
+-- ---- the needs, in the code's course
 pub put-fields-spec : {M : Type 1} → statement M
 put-fields-spec =
     tie.close
     (tie.spec
     Inv-loop
     μ-loop
-    loop-holds
+    (λ c. laying-none (sym (each-rows field 0 _)) (c .before .before .pre))
     (λ c. omega arith)
     (λ c. omega arith)
-    cast-put-field
-    put-field-requires
+    (λ c. omega (arith, c .shared-slice-known2 .given (c .before .before .before .loop .i)))
+    (λ c κs.
+    let turn = c .before .before in
+    laying-room (turn .before .loop .inv) refl (turn .loop-test .taken))
     (λ c. omega arith)
     (λ c. omega arith)
-    loop-again
-    same-length
-    returns)
+    (λ c.
+    let put = c .before .before in
+    laying-more (turn put .before .loop .inv) refl (turn put .loop-test .taken) (put .put-field .ensures))
+    (λ c. laying-length (c .before .loop .inv))
+    (λ c. laying-all (c .before .loop .inv) (c .loop-test .left)))

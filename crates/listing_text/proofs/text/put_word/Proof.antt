@@ -1,4 +1,4 @@
--- `text::put_word` meets its contract.
+-- `text::put_word` meets its contract: the loop puts one letter after another.
 -- Assumes nothing.
 use Prim.Native.Nat.{_-_}
 use Rattle.listing_text.proofs.TextLaws.{Laying, laying-all, laying-length, laying-more, laying-none, laying-room, letters}
@@ -10,37 +10,31 @@ use Rattle.listing_text.proofs.text.put_word.Statement.{statement}
 use Rattle.listing_text.proofs.text.put_word.Tie as tie
 
 abbrev Inv-loop : tie.InvT-loop
-Inv-loop text₀ at word next₀ i₀ text next i = Laying (λ k. getD word k 0 ∷ []) (length word) text₀ at text next i
+Inv-loop text₀ at word next₀ i₀ text next i = Laying (λ k. getD word k 0 ∷ []) (length word) word text₀ at text next i
 
 abbrev μ-loop : tie.MeasureT-loop
 μ-loop text₀ at word next₀ i₀ text next i = length word - i
 
-loop-holds : tie.Need-loop-holds Inv-loop μ-loop
-loop-holds c = laying-none _ _ _ _
+-- ---- the places: a turn of the loop, from where its letter was put
+abbrev turn : tie.After-put-byte Inv-loop μ-loop → tie.In-loop Inv-loop μ-loop
+turn c = c .before .before .before
 
-put-byte-requires : tie.Need-put-byte-requires Inv-loop μ-loop
-put-byte-requires c κs = laying-room _ _ _ _ _ _ _ (c .before .before .before .loop .inv) _ refl (c .before .before .loop-test .taken) _ _ (letters (c .before .before .before .before .before .before .args .word .now)) (c .before .before .before .before .before .before .pre)
-
-loop-again : tie.Need-loop-again Inv-loop μ-loop
-loop-again c = laying-more _ _ _ _ _ _ _ (c .before .before .before .before .before .before .loop .inv) _ refl (c .before .before .before .before .before .loop-test .taken) _ _ (c .before .before .put-byte .ensures)
-
-same-length : tie.Need-same-length Inv-loop μ-loop
-same-length c = laying-length _ _ _ _ _ _ _ (c .before .loop .inv)
-
-returns : tie.Need-returns Inv-loop μ-loop
-returns c = laying-all _ _ _ _ _ _ _ (c .before .loop .inv) _ (letters (c .before .before .before .before .args .word .now)) (c .loop-test .left)
-
+-- ---- the needs, in the code's course
 pub put-word-spec : {M : Type 1} → statement M
 put-word-spec =
     tie.close
     (tie.spec
     Inv-loop
     μ-loop
-    loop-holds
+    (λ c. laying-none (letters _) (c .before .before .pre))
     (λ c. omega arith)
-    put-byte-requires
+    (λ c κs.
+    let turn = c .before .before in
+    laying-room (turn .before .loop .inv) refl (turn .loop-test .taken))
     (λ c. omega arith)
     (λ c. omega arith)
-    loop-again
-    same-length
-    returns)
+    (λ c.
+    let put = c .before .before in
+    laying-more (turn put .before .loop .inv) refl (turn put .loop-test .taken) (put .put-byte .ensures))
+    (λ c. laying-length (c .before .loop .inv))
+    (λ c. laying-all (c .before .loop .inv) (c .loop-test .left)))
