@@ -242,9 +242,3 @@ module _ (word : List ℕ) {at : ℕ} {before : List ℕ} where
   pub row-one : (n : ℕ) → Fits at (row word (n ∷ [])) → Left (row word (n ∷ [])) before at before at (word ∷ field n ∷ (10 ∷ []) ∷ [])
   unfolding row each
   row-one n = all-left (behind word (append-assoc (field n) [] (10 ∷ [])))
-
-  pub row-two : (m n : ℕ) → Fits at (row word (m ∷ n ∷ []))
-      → Left (row word (m ∷ n ∷ [])) before at before at (word ∷ field m ∷ field n ∷ (10 ∷ []) ∷ [])
-  unfolding row each
-  row-two m n =
-      all-left (behind word (append-assoc (field m) (field n ++ []) (10 ∷ []) ∙ behind (field m) (append-assoc (field n) [] (10 ∷ []))))

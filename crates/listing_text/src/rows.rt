@@ -7,7 +7,7 @@ use run_table::numbers::u16_at;
 ghost use mathlib.Core.List.{_∷_, []};
 ghost use Prim.Native.Nat.{_+_, _*_, _≤_, _<_};
 ghost use lib.ListN.{length};
-ghost use Rattle.listing_text.specs.Listing.{checkpointRow, holdRow, lineRow};
+ghost use Rattle.listing_text.specs.Listing.{lineRow};
 ghost use Rattle.listing_text.specs.Rows.{checkpointRows, holdRows, messageRows};
 ghost use Rattle.listing_text.specs.Text.{Fits, Laid, each, row};
 
@@ -31,15 +31,16 @@ pub fn put_line(text: &mut [u8], at: usize, line: &[u16]) -> usize
     put_byte(text, after_fields, b'\n')
 }
 
-// Puts the row of a process that holds.
-fn put_hold(text: &mut [u8], at: usize, process: u32, line: &[u16]) -> usize
-    requires { ⌜ Fits at (holdRow process (now line)) ⌝ }
-    ensures { λ r. ⌜ Laid (now (text .entry)) (now (text .exit)) at (holdRow process (now (line .entry))) r ⌝ }
+// Puts a row of a number and further ones.
+fn put_long_row(text: &mut [u8], at: usize, word: &[u8], first: u32, rest: &[u16]) -> usize
+    requires { ⌜ Fits at (row (now word) (first ∷ now rest)) ⌝ }
+    ensures { λ r. ⌜ Laid (now (text .entry)) (now (text .exit)) at
+        (row (now (word .entry)) (first ∷ now (rest .entry))) r ⌝ }
 {
-    let after_word = put_word(text, at, b"hold");
-    let after_process = put_field(text, after_word, process);
-    let after_line = put_fields(text, after_process, line);
-    put_byte(text, after_line, b'\n')
+    let after_word = put_word(text, at, word);
+    let after_first = put_field(text, after_word, first);
+    let after_rest = put_fields(text, after_first, rest);
+    put_byte(text, after_rest, b'\n')
 }
 
 // Puts the rows of n processes that hold, from a scratch that begins with n lines of n numbers each.
@@ -54,22 +55,10 @@ pub fn put_holds(text: &mut [u8], at: usize, scratch: &[u16], n: usize) -> usize
     while k < n {
         let start = n * k;
         let end = start + n;
-        next = put_hold(text, next, k as u32, &scratch[start..end]);
+        next = put_long_row(text, next, b"hold", k as u32, &scratch[start..end]);
         k += 1;
     }
     next
-}
-
-// Puts the row of a kept checkpoint.
-fn put_checkpoint(text: &mut [u8], at: usize, process: u16, number: u16) -> usize
-    requires { ⌜ Fits at (checkpointRow (record { process = process; number = number })) ⌝ }
-    ensures { λ r. ⌜ Laid (now (text .entry)) (now (text .exit)) at
-        (checkpointRow (record { process = process; number = number })) r ⌝ }
-{
-    let after_word = put_word(text, at, b"checkpoint");
-    let after_process = put_field(text, after_word, process as u32);
-    let after_number = put_field(text, after_process, number as u32);
-    put_byte(text, after_number, b'\n')
 }
 
 // Puts the rows of the kept checkpoints, from a sheet of k of them.
@@ -82,8 +71,8 @@ pub fn put_checkpoints(text: &mut [u8], at: usize, sheet: &[u8], k: usize) -> us
     let mut e = 0;
     while e < k {
         let process = u16_at(sheet, 4 + 2 * e);
-        let number = u16_at(sheet, 4 + 2 * k + 2 * e);
-        next = put_checkpoint(text, next, process, number);
+        let number = [u16_at(sheet, 4 + 2 * k + 2 * e)];
+        next = put_long_row(text, next, b"checkpoint", process as u32, &number);
         e += 1;
     }
     next

@@ -1,13 +1,12 @@
--- `rows::put_hold` meets its contract: the word, the process, its line, the line feed.
+-- `rows::put_long_row` meets its contract: the word, a number, the others, the line feed.
 -- Assumes nothing.
 use Rattle.listing_text.proofs.TextLaws.{none-left, part-laid, part-room, row-more}
-use Rattle.listing_text.specs.Listing.{holdRow}
 use mathlib.Core.List.{[]}
 use borrow.Author.Needs.{needs}
-use Rattle.listing_text.proofs.rows.put_hold.Statement.{statement}
-use Rattle.listing_text.proofs.rows.put_hold.Tie as tie
+use Rattle.listing_text.proofs.rows.put_long_row.Statement.{statement}
+use Rattle.listing_text.proofs.rows.put_long_row.Tie as tie
 
--- ---- the places: the entry, and where the word, the process and the line were put
+-- ---- the places: the entry, and where the word, the first number and the others were put
 abbrev entry : tie.After-put-word → tie.Start
 entry c = c .before .before .before .before .before
 
@@ -21,12 +20,10 @@ abbrev third : tie.After-put-byte → tie.After-put-fields
 third c = c .before .before .before .before
 
 -- ---- the needs, in the code's course
-pub put-hold-spec : {M : Type 1} → statement M
-unfolding holdRow
-put-hold-spec =
+pub put-long-row-spec : {M : Type 1} → statement M
+put-long-row-spec =
     tie.close
     (tie.spec
-    (λ c. search needs)
     (λ c κs. part-room (row-more _ {before = []} _ _ (c .before .before .before .before .pre)))
     (λ c κs.
     let word = c .before .before .before in
