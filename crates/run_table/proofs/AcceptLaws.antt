@@ -4,23 +4,26 @@
 --     accepted-encode, reread        such a table, written, is accepted and is read as it was
 --     rewritten                      an accepted table's bytes, read and written again
 -- Assumes nothing.
-use mathlib.Core.Bool.{Bool, false}
+use mathlib.Core.Bool.{Bool, false, not}
 use mathlib.Core.List.{List}
-use mathlib.Core.Path.{_≡_, refl, _∙_, subst⁻¹}
+use mathlib.Core.Path.{_≡_, ap, _∙_, subst⁻¹}
 use Prim.Native.Nat.{ℕ, _<_, _≤_}
 use native.Mathlib.Omega.{arith}
-use borrow.Author.Tests.{eqb-false, eqb-true, leb-false, ltb-false, lt-leb, ne-eqb, not-false}
+use borrow.Author.Tests.{eq-eqb, eqb-false, eqb-true, le-ltb, leb-false, ltb-false, lt-leb, ne-eqb, not-false}
 use lib.Dec.{eqb, leb, ltb}
 use lib.ListN.{length}
-use Rattle.run_table.proofs.CheckLaws.{caughtBy, few-messages, not-short, passed, process-count as checked-processes, quiet-none, quiet-number, right-length, table-refusals}
+use Rattle.run_table.proofs.CheckLaws.{caughtBy, length-checked, long-enough, messages-checked, passed, processes-checked}
+use Rattle.run_table.proofs.CheckLaws.{quiet-none, quiet-number, table-refusals}
 use Rattle.run_table.proofs.CodingLaws.{AreBytes, Fits16, decode-encode, encode-decode}
-use Rattle.run_table.proofs.FormatLaws.{decode-messages, decode-processes, encode-length}
+use Rattle.run_table.proofs.FormatLaws.{decode-messages, decode-processes, encode-length, sizes-in}
 use Rattle.run_table.proofs.ListLaws.{any-none, none-of, or-false-left, or-false-right}
 use Rattle.run_table.proofs.ScanLaws.{inside}
-use Rattle.run_table.specs.Checks.{Accepted, GoodMessage, Limits, WellFormed, badCount, badLength, badProcessCount, badReceipt, badSend, outside, tableChecks, tableRefusal, toItself, tooManyMessages, unknownProcess}
+use Rattle.run_table.specs.Checks.{Accepted, GoodMessage, Limits, WellFormed, badCount, badLength, badProcessCount, badReceipt}
+use Rattle.run_table.specs.Checks.{badSend, outside, tableChecks, tableRefusal, toItself, tooManyMessages, unknownProcess}
 use Rattle.run_table.specs.Format.{decode, encode, messagesIn, processesIn, tableLength}
 use Rattle.run_table.specs.Lists.{any}
-use Rattle.run_table.specs.Table.{Message, Table, countOf, messageCount, messageOf, mostCheckpoints, mostMessages, mostProcesses, noMessage, processCount}
+use Rattle.run_table.specs.Table.{Message, Table, countOf, messageCount, messageOf, noMessage, processCount}
+use Rattle.run_table.specs.Table.{mostCheckpoints, mostMessages, mostProcesses}
 
 -- a number that is not outside its limit
 within-positive : (limit n : ℕ) → outside limit n ≡ false → 0 < n
@@ -70,8 +73,8 @@ module _ (bytes : List ℕ) where
   sizes-right : badLength bytes ≡ false → length bytes ≡ tableLength (processCount t) (messageCount t)
   unfolding badLength
   sizes-right e =
-      let length-is = eqb-true (length bytes) (tableLength (processesIn bytes) (messagesIn bytes)) (not-false (eqb (length bytes) (tableLength (processesIn bytes) (messagesIn bytes))) e) in
-      rw (decode-processes bytes, decode-messages bytes) length-is
+      let size = tableLength (processesIn bytes) (messagesIn bytes) in
+      rw (decode-processes bytes, decode-messages bytes) (eqb-true (length bytes) size (not-false (eqb (length bytes) size) e))
 
   process-count : badProcessCount bytes ≡ false → outside mostProcesses (processCount t) ≡ false
   unfolding badProcessCount
@@ -125,29 +128,26 @@ module _ (bytes : List ℕ) where
     whole : length bytes ≡ tableLength (processesIn bytes) (messagesIn bytes)
     whole = rw (← decode-processes bytes, ← decode-messages bytes) (a .whole)
 
-    long-enough : 4 ≤ length bytes
-    long-enough = omega (arith, whole)
-
     processes-good : badProcessCount bytes ≡ false
-    unfolding processesIn messagesIn
     processes-good =
-        checked-processes bytes (processesIn bytes) (messagesIn bytes) refl refl
-        ∙ in-limits mostProcesses (processesIn bytes) (omega (arith, a .well-formed .some-process, decode-processes bytes)) (omega (arith, a .limits .processes-limit, decode-processes bytes))
+        processes-checked (sizes-in bytes)
+        ∙ in-limits mostProcesses (processesIn bytes) (omega (arith, a .well-formed .some-process, decode-processes bytes))
+        (omega (arith, a .limits .processes-limit, decode-processes bytes))
 
     messages-good : tooManyMessages bytes ≡ false
-    unfolding processesIn messagesIn
-    messages-good = few-messages bytes (processesIn bytes) (messagesIn bytes) refl refl (omega (arith, a .limits .messages-limit, decode-messages bytes))
+    messages-good =
+        messages-checked (sizes-in bytes)
+        ∙ le-ltb mostMessages (messagesIn bytes) (omega (arith, a .limits .messages-limit, decode-messages bytes))
 
     length-good : badLength bytes ≡ false
-    unfolding processesIn messagesIn
-    length-good = right-length bytes (processesIn bytes) (messagesIn bytes) refl refl whole
+    length-good = length-checked (sizes-in bytes) ∙ ap not (eq-eqb (length bytes) (tableLength (processesIn bytes) (messagesIn bytes)) whole)
 
     pub refusal-zero : tableRefusal bytes ≡ 0
     unfolding tableRefusal tableChecks
     refusal-zero =
         let w = a .well-formed in
         let good = w .good-messages in
-        passed _ _ _ (not-short bytes long-enough)
+        passed _ _ _ (long-enough bytes (omega (arith, whole)))
         (passed _ _ _ processes-good
         (passed _ _ _ messages-good
         (passed _ _ _ length-good

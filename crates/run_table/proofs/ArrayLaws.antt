@@ -90,6 +90,7 @@ module _ (f : ℕ → ℕ) (n p : ℕ) (l : List ℕ) (h : Filling f n p l) wher
       filled-list f p (replicate 32 0) l (h .filled) (λ q c inside. getD-replicate 32 q 0 0 inside ∙ sym (beyond q (omega (arith, h .within))))
 
 -- the array of a list, where the loop went over its entries
-pub filling-array : (list : List ℕ) (n p : ℕ) (l : List ℕ) → Filling (λ q. getD list q 0) n p l → n ≤ p → n ≡ length list → l ≡ arrayOf list
+pub filling-array : (list : List ℕ) (n p : ℕ) (l : List ℕ) → Filling (λ q. getD list q 0) n p l → n ≤ p → n ≡ length list
+    → l ≡ arrayOf list
 unfolding arrayOf
 filling-array list n p l h b e = filling-all (λ q. getD list q 0) n p l h b (λ q c. List·getD-eq-default list 0 (omega arith))

@@ -2,7 +2,8 @@
 --     passed, stopped, quiet-none     the first check of a list that catches
 --     quiet-cons, caughtBy, quiet-number    none of a list catches, it is quiet: its first check, and the check of any number
 --     append-stopped, append-passed, caught-first, quiet-front    further checks behind a list
---     parts-refusal               checks 5 to 9 on the parts of a table are the document's, on the decoded table
+--     long-enough, processes-checked, messages-checked, length-checked    checks 1 to 4, by the sizes that the code read
+--     refused-short .. refused-parts  the refusal, as the code finds it; checks 5 to 9 on the parts are the document's, on the decoded table
 -- Assumes nothing.
 use mathlib.Core.Bool.{Bool, true, false, cond, not, _&&_, _||_}
 use mathlib.Core.List.{List, [], _∷_, _++_}
@@ -12,12 +13,13 @@ use native.Mathlib.Omega.{arith}
 use borrow.Author.Tests.{leb-false, lt-ltb, ltb-true, le-ltb, eq-eqb, ne-eqb}
 use lib.Dec.{eqb, leb, ltb}
 use lib.ListN.{length, take, drop}
-use Rattle.run_table.proofs.FormatLaws.{decode-count, decode-processes}
+use Rattle.run_table.proofs.FormatLaws.{ReadSizes, decode-count, decode-processes}
 use Rattle.run_table.proofs.ListLaws.{and-left, and-right, any-tabulate, anyBelow-ext, anyBelow-or, none-below, or-false-left, or-false-right}
-use Rattle.run_table.specs.Checks.{Check, badCount, badLength, badProcessCount, badReceipt, badSend, firstCaught, outside, tableChecks, tableRefusal, toItself, tooManyMessages, tooShort, unknownProcess}
-use Rattle.run_table.specs.Format.{checkpointAt, countAt, countsAt, countsPart, decode, messageAt, messagesIn, processAt, processesIn, receiptsAt, receiptsPart, sendsAt, sendsPart, tableLength}
+use Rattle.run_table.specs.Checks.{Check, badCount, badLength, badProcessCount, badReceipt, badSend, firstCaught, outside}
+use Rattle.run_table.specs.Checks.{tableChecks, tableRefusal, toItself, tooManyMessages, tooShort, unknownProcess}
+use Rattle.run_table.specs.Format.{checkpointAt, countAt, countsAt, countsPart, decode, messageAt, messagesIn}
+use Rattle.run_table.specs.Format.{processAt, processesIn, receiptsAt, receiptsPart, sendsAt, sendsPart, tableLength}
 use Rattle.run_table.specs.Lists.{any, anyBelow}
-use Rattle.run_table.specs.Numbers.{u16At}
 use Rattle.run_table.specs.Parts.{badCountAt, notBelowAt, partsRefusal, toItselfAt, unknownAt}
 use Rattle.run_table.specs.Table.{Message, Table, countOf, mostMessages, mostProcesses, processCount}
 
@@ -123,49 +125,7 @@ split-check c a b n rest rest′ e later = ap (λ (x : Bool). firstCaught (recor
     go false true f = refl
     go false false f = f refl
 
--- the checks of the sizes, from the numbers that the code read
-module _ (bytes : List ℕ) where
-  pub short : length bytes < 4 → tooShort bytes ≡ true
-  unfolding tooShort
-  short l = lt-ltb (length bytes) 4 l
-
-  pub not-short : 4 ≤ length bytes → tooShort bytes ≡ false
-  unfolding tooShort
-  not-short l = le-ltb (length bytes) 4 l
-
-  module _ (n m : ℕ) (read-n : n ≡ u16At bytes 0) (read-m : m ≡ u16At bytes 2) where
-    pub process-count : badProcessCount bytes ≡ outside mostProcesses n
-    unfolding badProcessCount processesIn
-    process-count = ap (outside mostProcesses) (sym read-n)
-
-    pub many-messages : mostMessages < m → tooManyMessages bytes ≡ true
-    unfolding tooManyMessages messagesIn
-    many-messages l = rw (← read-m) (lt-ltb mostMessages m l)
-
-    pub few-messages : m ≤ mostMessages → tooManyMessages bytes ≡ false
-    unfolding tooManyMessages messagesIn
-    few-messages l = rw (← read-m) (le-ltb mostMessages m l)
-
-    pub wrong-length : (length bytes ≡ tableLength n m → ⊥) → badLength bytes ≡ true
-    unfolding badLength messagesIn processesIn
-    wrong-length f = rw (← read-n, ← read-m) (ap not (ne-eqb (length bytes) (tableLength n m) f))
-
-    pub right-length : length bytes ≡ tableLength n m → badLength bytes ≡ false
-    unfolding badLength messagesIn processesIn
-    right-length e = rw (← read-n, ← read-m) (ap not (eq-eqb (length bytes) (tableLength n m) e))
-
-    -- the parts as the code takes them, from a start to an end
-    pub parts-read : (s r : ℕ) → s ≡ sendsAt n → r ≡ receiptsAt n m → length bytes ≡ tableLength n m
-        → partsRefusal n m (take (s - countsAt) (drop countsAt bytes)) (take (r - s) (drop s bytes)) (take (length bytes - r) (drop r bytes))
-        ≡ partsRefusal (processesIn bytes) (messagesIn bytes) (countsPart bytes) (sendsPart bytes) (receiptsPart bytes)
-    unfolding countsPart sendsPart receiptsPart messagesIn processesIn
-    parts-read s r is-s is-r whole =
-        let counts : s - countsAt ≡ 2 * n = omega arith in
-        let sends : r - s ≡ 4 * m = omega arith in
-        let receipts : length bytes - r ≡ 4 * m = omega arith in
-        rw (counts, sends, receipts, is-s, is-r, read-n, read-m)
-
--- checks 5 to 9 of the decoded table, in terms of the parts of its bytes
+-- ---- checks 5 to 9 of the decoded table, in terms of the parts of its bytes
 module _ (bytes : List ℕ) where
   abbrev N : ℕ
   N = processesIn bytes
@@ -207,24 +167,88 @@ module _ (bytes : List ℕ) where
       ap (λ (n : ℕ). leb n (checkpointAt part k))
       (decode-count bytes (processAt part k) (leb-false N (processAt part k) (none-below (unknownAt N part) M none k l)))
 
-  check-8 : anyBelow M (unknownAt N (sendsPart bytes)) ≡ false → any (badSend t) (t .messages) ≡ anyBelow M (notBelowAt (countsPart bytes) (sendsPart bytes))
+  check-8 : anyBelow M (unknownAt N (sendsPart bytes)) ≡ false
+      → any (badSend t) (t .messages) ≡ anyBelow M (notBelowAt (countsPart bytes) (sendsPart bytes))
   unfolding badSend messageAt
-  check-8 none = any-message (badSend t) ∙ anyBelow-ext (λ k. badSend t (message k)) (notBelowAt (countsPart bytes) (sendsPart bytes)) M (count-at (sendsPart bytes) none)
+  check-8 none =
+      any-message (badSend t)
+      ∙ anyBelow-ext (λ k. badSend t (message k)) (notBelowAt (countsPart bytes) (sendsPart bytes)) M (count-at (sendsPart bytes) none)
 
   check-9 : anyBelow M (unknownAt N (receiptsPart bytes)) ≡ false
       → any (badReceipt t) (t .messages) ≡ anyBelow M (notBelowAt (countsPart bytes) (receiptsPart bytes))
   unfolding badReceipt messageAt
   check-9 none =
-      any-message (badReceipt t) ∙ anyBelow-ext (λ k. badReceipt t (message k)) (notBelowAt (countsPart bytes) (receiptsPart bytes)) M (count-at (receiptsPart bytes) none)
+      any-message (badReceipt t)
+      ∙ anyBelow-ext (λ k. badReceipt t (message k)) (notBelowAt (countsPart bytes) (receiptsPart bytes)) M (count-at (receiptsPart bytes) none)
 
   -- where the sizes are right, the refusal is that of the parts
-  pub parts-refusal : tooShort bytes ≡ false → badProcessCount bytes ≡ false → tooManyMessages bytes ≡ false → badLength bytes ≡ false
+  parts-refusal : tooShort bytes ≡ false → badProcessCount bytes ≡ false → tooManyMessages bytes ≡ false → badLength bytes ≡ false
       → tableRefusal bytes ≡ partsRefusal N M (countsPart bytes) (sendsPart bytes) (receiptsPart bytes)
   unfolding tableRefusal tableChecks
   parts-refusal e1 e2 e3 e4 =
+      let senders = anyBelow M (unknownAt N (sendsPart bytes)) in
+      let receivers = anyBelow M (unknownAt N (receiptsPart bytes)) in
       passed _ _ _ e1 (passed _ _ _ e2 (passed _ _ _ e3 (passed _ _ _ e4
       (same-check _ _ _ _ _ check-5 (λ _.
       split-check _ _ _ _ _ _ check-6 (λ known.
       same-check _ _ _ _ _ check-7 (λ _.
-      same-check _ _ _ _ _ (check-8 (or-false-left (anyBelow M (unknownAt N (sendsPart bytes))) (anyBelow M (unknownAt N (receiptsPart bytes))) known)) (λ _.
-      same-check _ _ _ _ _ (check-9 (or-false-right (anyBelow M (unknownAt N (sendsPart bytes))) (anyBelow M (unknownAt N (receiptsPart bytes))) known)) (λ _. refl)))))))))
+      same-check _ _ _ _ _ (check-8 (or-false-left senders receivers known)) (λ _.
+      same-check _ _ _ _ _ (check-9 (or-false-right senders receivers known)) (λ _. refl)))))))))
+
+-- ---- the refusal of bytes, in the code's course
+module _ (bytes : List ℕ) where
+  pub long-enough : 4 ≤ length bytes → tooShort bytes ≡ false
+  unfolding tooShort
+  long-enough l = le-ltb (length bytes) 4 l
+
+  pub refused-short : length bytes < 4 → 1 ≡ tableRefusal bytes
+  unfolding tableRefusal tableChecks tooShort
+  refused-short l = sym (stopped _ _ (lt-ltb (length bytes) 4 l))
+
+module _ {bytes : List ℕ} {n m : ℕ} (read : ReadSizes bytes n m) where
+  -- checks 2 to 4, by the sizes that were read
+  pub processes-checked : badProcessCount bytes ≡ outside mostProcesses n
+  unfolding badProcessCount processesIn
+  processes-checked = ap (outside mostProcesses) (sym (read .n-is))
+
+  pub messages-checked : tooManyMessages bytes ≡ ltb mostMessages m
+  unfolding tooManyMessages messagesIn
+  messages-checked = ap (ltb mostMessages) (sym (read .m-is))
+
+  pub length-checked : badLength bytes ≡ not (eqb (length bytes) (tableLength n m))
+  unfolding badLength messagesIn processesIn
+  length-checked = rw (read .n-is, read .m-is)
+
+  module _ (long : 4 ≤ length bytes) where
+    pub refused-processes : outside mostProcesses n ≡ true → 2 ≡ tableRefusal bytes
+    unfolding tableRefusal tableChecks
+    refused-processes out = sym (passed _ _ _ (long-enough bytes long) (stopped _ _ (processes-checked ∙ out)))
+
+    module _ (some : outside mostProcesses n ≡ false) where
+      pub refused-messages : mostMessages < m → 3 ≡ tableRefusal bytes
+      unfolding tableRefusal tableChecks
+      refused-messages many =
+          sym (passed _ _ _ (long-enough bytes long) (passed _ _ _ (processes-checked ∙ some)
+          (stopped _ _ (messages-checked ∙ lt-ltb mostMessages m many))))
+
+      module _ (few : m ≤ mostMessages) {size : ℕ} (is-size : size ≡ tableLength n m) where
+        pub refused-length : (length bytes ≡ size → ⊥) → 4 ≡ tableRefusal bytes
+        unfolding tableRefusal tableChecks
+        refused-length other =
+            let wrong = ap not (ne-eqb (length bytes) (tableLength n m) (λ e. other (e ∙ sym is-size))) in
+            sym (passed _ _ _ (long-enough bytes long) (passed _ _ _ (processes-checked ∙ some)
+            (passed _ _ _ (messages-checked ∙ le-ltb mostMessages m few) (stopped _ _ (length-checked ∙ wrong)))))
+
+        -- the parts as the code takes them, from a start to an end
+        pub refused-parts : length bytes ≡ size → {s r : ℕ} → s ≡ sendsAt n → r ≡ receiptsAt n m
+            → partsRefusal n m (take (s - countsAt) (drop countsAt bytes)) (take (r - s) (drop s bytes)) (take (length bytes - r) (drop r bytes))
+            ≡ tableRefusal bytes
+        unfolding countsPart sendsPart receiptsPart messagesIn processesIn
+        refused-parts whole {s} {r} is-s is-r =
+            let counts : s - countsAt ≡ 2 * n = omega arith in
+            let sends : r - s ≡ 4 * m = omega arith in
+            let receipts : length bytes - r ≡ 4 * m = omega arith in
+            let right = ap not (eq-eqb (length bytes) (tableLength n m) (whole ∙ is-size)) in
+            rw (counts, sends, receipts, is-s, is-r, read .n-is, read .m-is)
+            (sym (parts-refusal bytes (long-enough bytes long) (processes-checked ∙ some) (messages-checked ∙ le-ltb mostMessages m few)
+            (length-checked ∙ right)))

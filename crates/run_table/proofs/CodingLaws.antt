@@ -11,15 +11,18 @@ use native.Mathlib.Nat.{le-of-suc-le-suc, not-suc-le-zero}
 use native.Mathlib.Omega.{arith}
 use lib.ListN.{length, getD, length-append, List·getD-append}
 use lib.Seq.{ext-getD, getD-append-add}
-use Rattle.run_table.proofs.FormatLaws.{count-place, count-some, decode-messages, decode-processes, length-entries, receipt-place, received-there, receiver-there, send-place, sender-there, sent-there}
+use Rattle.run_table.proofs.FormatLaws.{ReadSizes, count-place, count-some, decode-messages, decode-processes, length-entries}
+use Rattle.run_table.proofs.FormatLaws.{receipt-place, received-there, receiver-there, send-place, sender-there, sent-there}
 use Rattle.run_table.proofs.ListLaws.{tabulate-append, tabulate-ext}
 use Rattle.run_table.proofs.NumberLaws.{u16At-drop, u16At-u16s}
-use Rattle.run_table.specs.Format.{checkpointAt, countAt, countsAt, countsPart, decode, encode, entriesOf, messageAt, messagesIn, processAt, processesIn, receiptsAt, receiptsOf, receiptsPart, sendsAt, sendsOf, sendsPart, tableLength}
+use Rattle.run_table.specs.Format.{checkpointAt, countAt, countsAt, countsPart, decode, encode, entriesOf, messageAt, messagesIn}
+use Rattle.run_table.specs.Format.{processAt, processesIn, receiptsAt, receiptsOf, receiptsPart, sendsAt, sendsOf, sendsPart, tableLength}
 use Rattle.run_table.specs.Lists.{tabulate}
 use Rattle.run_table.specs.Numbers.{u16At, u16Bytes, u16s}
 use Rattle.run_table.specs.Table.{Message, Table, countOf, messageCount, messageOf, noMessage, processCount}
 
-pub message-path : (m m′ : Message) → m .sender ≡ m′ .sender → m .sent ≡ m′ .sent → m .receiver ≡ m′ .receiver → m .received ≡ m′ .received → m ≡ m′
+pub message-path : (m m′ : Message) → m .sender ≡ m′ .sender → m .sent ≡ m′ .sent → m .receiver ≡ m′ .receiver
+    → m .received ≡ m′ .received → m ≡ m′
 message-path m m′ a b c d = λ i. record { sender = a i; sent = b i; receiver = c i; received = d i }
 
 pub table-path : (t t′ : Table) → t .counts ≡ t′ .counts → t .messages ≡ t′ .messages → t ≡ t′
@@ -119,12 +122,14 @@ module _ (t : Table) (fits : Fits16 t) where
   unfolding messageCount
   encoded-messages = sym (number-at 1 M (omega arith) refl (fits .messages-fit))
 
+  sizes : ReadSizes (encode t) N M
+  sizes = record { n-is = encoded-processes; m-is = encoded-messages }
+
   encoded-count : (p : ℕ) → p < N → countOf (decode (encode t)) p ≡ countOf t p
   unfolding processCount
   encoded-count p l =
       let place : countsAt + 2 * p ≡ 2 * (2 + p) = omega arith in
-      count-some (encode t) N M encoded-processes encoded-messages p l
-      ∙ ap (u16At (encode t)) place
+      count-some (encode t) encoded-processes l ∙ ap (u16At (encode t)) place
       ∙ number-at (2 + p) (countOf t p) (omega arith) (count-number p l) (fits .counts-fit p l)
 
   encoded-message : (k : ℕ) → k < M → messageOf (decode (encode t)) k ≡ messageOf t k
@@ -134,15 +139,15 @@ module _ (t : Table) (fits : Fits16 t) where
       let b : sendsAt N + (4 * k + 2) ≡ 2 * (2 + N + (2 * k + 1)) = omega arith in
       let c : receiptsAt N M + 4 * k ≡ 2 * (2 + N + 2 * M + 2 * k) = omega arith in
       let d : receiptsAt N M + (4 * k + 2) ≡ 2 * (2 + N + 2 * M + (2 * k + 1)) = omega arith in
+      let sender = send-number (2 * k) (omega arith) ∙ entries-process (λ m. m .sender) (λ m. m .sent) (t .messages) k l in
+      let sent = send-number (2 * k + 1) (omega arith) ∙ entries-checkpoint (λ m. m .sender) (λ m. m .sent) (t .messages) k l in
+      let receiver = receipt-number (2 * k) ∙ entries-process (λ m. m .receiver) (λ m. m .received) (t .messages) k l in
+      let received = receipt-number (2 * k + 1) ∙ entries-checkpoint (λ m. m .receiver) (λ m. m .received) (t .messages) k l in
       message-path _ (messageOf t k)
-      (sym (sender-there (encode t) N M encoded-processes encoded-messages k l (sendsAt N) _ refl refl) ∙ ap (u16At (encode t)) a
-      ∙ number-at _ _ (omega arith) (send-number (2 * k) (omega arith) ∙ entries-process (λ m. m .sender) (λ m. m .sent) (t .messages) k l) (fits .senders-fit k l))
-      (sym (sent-there (encode t) N M encoded-processes encoded-messages k l (sendsAt N) _ refl refl) ∙ ap (u16At (encode t)) b
-      ∙ number-at _ _ (omega arith) (send-number (2 * k + 1) (omega arith) ∙ entries-checkpoint (λ m. m .sender) (λ m. m .sent) (t .messages) k l) (fits .sent-fit k l))
-      (sym (receiver-there (encode t) N M encoded-processes encoded-messages k l (receiptsAt N M) _ refl refl) ∙ ap (u16At (encode t)) c
-      ∙ number-at _ _ (omega arith) (receipt-number (2 * k) ∙ entries-process (λ m. m .receiver) (λ m. m .received) (t .messages) k l) (fits .receivers-fit k l))
-      (sym (received-there (encode t) N M encoded-processes encoded-messages k l (receiptsAt N M) _ refl refl) ∙ ap (u16At (encode t)) d
-      ∙ number-at _ _ (omega arith) (receipt-number (2 * k + 1) ∙ entries-checkpoint (λ m. m .receiver) (λ m. m .received) (t .messages) k l) (fits .received-fit k l))
+      (sym (sender-there sizes l refl refl) ∙ ap (u16At (encode t)) a ∙ number-at _ _ (omega arith) sender (fits .senders-fit k l))
+      (sym (sent-there sizes l refl refl) ∙ ap (u16At (encode t)) b ∙ number-at _ _ (omega arith) sent (fits .sent-fit k l))
+      (sym (receiver-there sizes l refl refl) ∙ ap (u16At (encode t)) c ∙ number-at _ _ (omega arith) receiver (fits .receivers-fit k l))
+      (sym (received-there sizes l refl refl) ∙ ap (u16At (encode t)) d ∙ number-at _ _ (omega arith) received (fits .received-fit k l))
 
   pub decode-encode : decode (encode t) ≡ t
   unfolding processCount messageCount countOf messageOf processesIn messagesIn
@@ -209,7 +214,8 @@ u16s-read (suc n) (x ∷ y ∷ rest) e b =
 
 -- entries that are the even and the odd numbers of w, one after another
 pub entries-tabulate : (f g : Message → ℕ) (m : ℕ) (h : ℕ → Message) (w : ℕ → ℕ)
-    → ((k : ℕ) → k < m → f (h k) ≡ w (2 * k)) → ((k : ℕ) → k < m → g (h k) ≡ w (2 * k + 1)) → entriesOf f g (tabulate m h) ≡ tabulate (2 * m) w
+    → ((k : ℕ) → k < m → f (h k) ≡ w (2 * k)) → ((k : ℕ) → k < m → g (h k) ≡ w (2 * k + 1))
+    → entriesOf f g (tabulate m h) ≡ tabulate (2 * m) w
 unfolding entriesOf tabulate
 entries-tabulate f g zero h w a b = refl
 entries-tabulate f g (suc m) h w a b =
@@ -296,11 +302,11 @@ module _ (bytes : List ℕ) where
   pub sends-numbers : sendsOf (decode bytes .messages) ≡ tabulate (2 * messagesIn bytes) (λ i. u16At (sendsPart bytes) (2 * i))
   unfolding decode messageAt processAt checkpointAt
   sends-numbers =
-      entries-tabulate (λ x. x .sender) (λ x. x .sent) (messagesIn bytes) (messageAt (sendsPart bytes) (receiptsPart bytes)) (λ i. u16At (sendsPart bytes) (2 * i))
-      (λ k _. even-number (sendsPart bytes) k) (λ k _. odd-number (sendsPart bytes) k)
+      entries-tabulate (λ x. x .sender) (λ x. x .sent) (messagesIn bytes) (messageAt (sendsPart bytes) (receiptsPart bytes))
+      (λ i. u16At (sendsPart bytes) (2 * i)) (λ k _. even-number (sendsPart bytes) k) (λ k _. odd-number (sendsPart bytes) k)
 
   pub receipts-numbers : receiptsOf (decode bytes .messages) ≡ tabulate (2 * messagesIn bytes) (λ i. u16At (receiptsPart bytes) (2 * i))
   unfolding decode messageAt processAt checkpointAt
   receipts-numbers =
-      entries-tabulate (λ x. x .receiver) (λ x. x .received) (messagesIn bytes) (messageAt (sendsPart bytes) (receiptsPart bytes)) (λ i. u16At (receiptsPart bytes) (2 * i))
-      (λ k _. even-number (receiptsPart bytes) k) (λ k _. odd-number (receiptsPart bytes) k)
+      entries-tabulate (λ x. x .receiver) (λ x. x .received) (messagesIn bytes) (messageAt (sendsPart bytes) (receiptsPart bytes))
+      (λ i. u16At (receiptsPart bytes) (2 * i)) (λ k _. even-number (receiptsPart bytes) k) (λ k _. odd-number (receiptsPart bytes) k)

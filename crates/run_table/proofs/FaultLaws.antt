@@ -1,8 +1,8 @@
 -- Checks of messages, as one loop over the messages finds them. It keeps the smallest place of a check that catches: places are in
 -- checking order, whatever the numbers are.
---     place-stops, place-passes, place-none    the first place at which a check catches
---     place-within, number-there               it is no further than the list's end, and the refusal is the number that stands there, 0 behind the last
---     Looked, looked-none, looked-more, looked-past, looked-all    the loop over the messages
+--     Past, past-none .. past-all    one check after another: the place of the first that catches
+--     place-within, number-there     it is no further than the list's end, and the refusal is the number that stands there, 0 behind the last
+--     Looked, looked-none .. looked-all    the loop over the messages
 -- Assumes nothing.
 use mathlib.Core.Bool.{Bool, true, false, cond, _||_}
 use mathlib.Core.List.{List, [], _∷_, _++_, map}
@@ -11,25 +11,42 @@ use Prim.Native.Nat.{ℕ, suc, min, _+_, _≤_, _<_, zero-le}
 use native.Mathlib.Nat.{le-antisymm}
 use native.Mathlib.Numerals.{add-one}
 use native.Mathlib.Omega.{arith}
-use lib.ListN.{length, getD, length-map}
+use lib.ListN.{length, drop, getD, length-map}
+use lib.Seq.{drop-drop}
 use Rattle.run_table.specs.Checks.{Check, firstCaught}
 use Rattle.run_table.specs.Lists.{anyBelow}
-use Rattle.run_table.specs.Parts.{MessageCheck, checksAt, checksBelow, firstPlace}
+use Rattle.run_table.specs.Parts.{FirstMessage, MessageCheck, checksAt, checksBelow, firstPlace}
 
--- ---- the first place at which a check catches
-module _ (c : Check) (rest : List Check) where
-  pub place-stops : c .caught ≡ true → firstPlace (c ∷ rest) ≡ 0
-  unfolding firstPlace
-  place-stops e = rw e
+-- ---- one check after another
+-- The first i of a list's checks catch nothing.
+pub record Past (checks : List Check) (i : ℕ) : Type 0 where
+  pub place : firstPlace checks ≡ firstPlace (drop i checks) + i
 
-  pub place-passes : (n : ℕ) → c .caught ≡ false → firstPlace rest ≡ n → firstPlace (c ∷ rest) ≡ n + 1
-  unfolding firstPlace
-  place-passes n e later = rw e (omega (arith, later))
+module _ {checks : List Check} where
+  pub past-none : Past checks 0
+  past-none = record { place = omega arith }
 
-pub place-none : firstPlace [] ≡ 0
-unfolding firstPlace
-place-none = refl
+  module _ {i : ℕ} (past : Past checks i) where
+    pub past-all : drop i checks ≡ [] → i ≡ firstPlace checks
+    unfolding firstPlace
+    past-all none = omega (arith, past .place, ap firstPlace none)
 
+    -- check i
+    module _ {c : Check} {rest : List Check} (here : drop i checks ≡ c ∷ rest) where
+      pub past-stops : c .caught ≡ true → i ≡ firstPlace checks
+      unfolding firstPlace
+      past-stops e =
+          let stops : firstPlace (drop i checks) ≡ 0 = rw (here, e) in
+          omega (arith, past .place)
+
+      pub past-more : c .caught ≡ false → Past checks (i + 1)
+      unfolding firstPlace
+      past-more e =
+          let next : drop (i + 1) checks ≡ rest = sym (drop-drop 1 i checks) ∙ ap (drop 1) here in
+          let passes : firstPlace (drop i checks) ≡ suc (firstPlace rest) = rw (here, e) in
+          record { place = omega (arith, past .place, passes, ap firstPlace next) }
+
+-- ---- the refusal, by the place of the first check that catches
 pub place-within : (checks : List Check) → firstPlace checks ≤ length checks
 unfolding firstPlace
 place-within [] = zero-le
@@ -79,25 +96,32 @@ unfolding firstPlace anyBelow
 nothing-below [] = refl
 nothing-below (c ∷ rest) = ap suc (nothing-below rest)
 
-module _ (checks : List MessageCheck) (m : ℕ) where
+module _ {checks : List MessageCheck} {m : ℕ} where
   pub looked-none : Looked checks m 0 (length checks)
   looked-none = record { within = zero-le; found = nothing-below checks }
 
-  module _ (k first : ℕ) (w : Looked checks m k first) where
-    pub looked-more : k < m → (fault next : ℕ) → fault ≡ firstPlace (checksAt checks k) → next ≡ min first fault → Looked checks m (k + 1) next
-    unfolding anyBelow
-    looked-more l fault next is-fault is-next = record {
-      within = omega arith;
-      found =
-          is-next ∙ ap₂ min (w .found) is-fault ∙ sym (pick-or (λ c. c .catches k) (λ c. anyBelow k (c .catches)) checks)
-          ∙ ap (λ (j : ℕ). firstPlace (checksBelow checks j)) (sym (add-one k));
-    }
-
-    -- no check catches message k
-    pub looked-past : k < m → (fault : ℕ) → fault ≡ firstPlace (checksAt checks k) → fault ≡ length checks → Looked checks m (k + 1) first
-    looked-past l fault is-fault none =
-        let whole : length (checksBelow checks k) ≡ length checks = length-map checks (λ c. record { caught = anyBelow k (c .catches); number = c .number }) in
-        looked-more l fault first is-fault (omega (arith, w .found, place-within (checksBelow checks k), whole))
-
+  module _ {k first : ℕ} (w : Looked checks m k first) where
     pub looked-all : m ≤ k → first ≡ firstPlace (checksBelow checks m)
     looked-all l = w .found ∙ ap (λ (j : ℕ). firstPlace (checksBelow checks j)) (le-antisymm (w .within) l)
+
+    -- message k, and the place of the first check that catches it
+    module _ (l : k < m) {fault : ℕ} (is-fault : fault ≡ firstPlace (checksAt checks k)) where
+      pub looked-more : {next : ℕ} → next ≡ min first fault → Looked checks m (k + 1) next
+      unfolding anyBelow
+      looked-more is-next = record {
+        within = omega arith;
+        found =
+            is-next ∙ ap₂ min (w .found) is-fault ∙ sym (pick-or (λ c. c .catches k) (λ c. anyBelow k (c .catches)) checks)
+            ∙ ap (λ (j : ℕ). firstPlace (checksBelow checks j)) (sym (add-one k));
+      }
+
+      -- none catches it
+      pub looked-past : fault ≡ length checks → Looked checks m (k + 1) first
+      looked-past none =
+          let whole = length-map {B = Check} checks (λ c. record { caught = anyBelow k (c .catches); number = c .number }) in
+          looked-more (omega (arith, w .found, place-within (checksBelow checks k), whole))
+
+  -- a loop that leaves at the first message that a check catches
+  module _ {k : ℕ} (w : Looked checks m k (length checks)) where
+    pub looked-first : (k < m → firstPlace (checksAt checks k) ≡ length checks → ⊥) → FirstMessage checks m k
+    looked-first caught = record { within = w .within; before = w .found; caught = caught }

@@ -2,15 +2,21 @@
 --     counts-length, sends-length, receipts-length      the parts of bytes whose length is right
 --     decode-processes, decode-messages                 N and M of the decoded table
 --     decode-count, decode-message                      its entries
+--     count-place, send-place, receipt-place            where the numbers of the parts stand among the bytes
+--     count-beyond, message-beyond                      what stands beyond the last process and the last message
+--     ReadSizes, count-none .. received-there           the lookups, from the numbers that the code read
+--     length-entries, encode-length                     the length of an encoded table
 -- Assumes nothing.
 use mathlib.Core.List.{List, [], _∷_, _++_}
 use mathlib.Core.Path.{_≡_, refl, sym, ap, ap₂, _∙_, subst, subst⁻¹}
 use Prim.Native.Nat.{ℕ, _+_, _*_, _<_, _≤_}
+use native.Mathlib.Nat.{add-zero}
 use native.Mathlib.Omega.{arith}
 use lib.ListN.{length, length-append, drop, length-take, length-drop, List·getD-eq-default}
 use Rattle.run_table.proofs.ListLaws.{getD-tabulate, length-tabulate}
 use Rattle.run_table.proofs.NumberLaws.{length-u16s, u16At-drop, u16At-take}
-use Rattle.run_table.specs.Format.{checkpointAt, countAt, countsAt, countsPart, decode, encode, entriesOf, messageAt, messagesIn, processAt, processesIn, receiptsAt, receiptsOf, receiptsPart, sendsAt, sendsOf, sendsPart, tableLength}
+use Rattle.run_table.specs.Format.{checkpointAt, countAt, countsAt, countsPart, decode, encode, entriesOf, messageAt, messagesIn}
+use Rattle.run_table.specs.Format.{processAt, processesIn, receiptsAt, receiptsOf, receiptsPart, sendsAt, sendsOf, sendsPart, tableLength}
 use Rattle.run_table.specs.Numbers.{u16At}
 use Rattle.run_table.specs.Table.{Message, Table, countOf, messageCount, messageOf, noMessage, processCount}
 
@@ -72,60 +78,68 @@ pub message-beyond : (t : Table) (k : ℕ) → messageCount t ≤ k → messageO
 unfolding messageOf messageCount
 message-beyond t k l = List·getD-eq-default (t .messages) noMessage l
 
--- the lookups of a decoded table, from the numbers that the code reads
-module _ (bytes : List ℕ) (n m : ℕ) (read-n : n ≡ u16At bytes 0) (read-m : m ≡ u16At bytes 2) where
-  pub count-none : (p : ℕ) → n ≤ p → countOf (decode bytes) p ≡ 0
-  unfolding processesIn
-  count-none p l = count-beyond (decode bytes) p (subst⁻¹ (λ (x : ℕ). x ≤ p) (decode-processes bytes ∙ sym read-n) l)
+-- ---- the lookups of a decoded table, from the numbers that the code read of any bytes
+pub record ReadSizes (bytes : List ℕ) (n m : ℕ) : Type 0 where
+  pub n-is : n ≡ u16At bytes 0
+  pub m-is : m ≡ u16At bytes 2
 
-  pub count-some : (p : ℕ) → p < n → countOf (decode bytes) p ≡ u16At bytes (countsAt + 2 * p)
+pub sizes-in : (bytes : List ℕ) → ReadSizes bytes (processesIn bytes) (messagesIn bytes)
+unfolding processesIn messagesIn
+sizes-in bytes = record { n-is = refl; m-is = refl }
+
+module _ (bytes : List ℕ) {n : ℕ} (read : n ≡ u16At bytes 0) where
+  pub count-none : {p : ℕ} → n ≤ p → countOf (decode bytes) p ≡ 0
   unfolding processesIn
-  count-some p l =
-      let below : p < processesIn bytes = subst (λ (x : ℕ). p < x) read-n l in
+  count-none {p} l = count-beyond (decode bytes) p (subst⁻¹ (λ (x : ℕ). x ≤ p) (decode-processes bytes ∙ sym read) l)
+
+  pub count-some : {p : ℕ} → p < n → countOf (decode bytes) p ≡ u16At bytes (countsAt + 2 * p)
+  unfolding processesIn
+  count-some {p} l =
+      let below : p < processesIn bytes = subst (λ (x : ℕ). p < x) read l in
       decode-count bytes p below ∙ count-place bytes p below
 
-  pub message-none : (k : ℕ) → m ≤ k → messageOf (decode bytes) k ≡ noMessage
+module _ {bytes : List ℕ} {n m : ℕ} (read : ReadSizes bytes n m) where
+  pub message-none : {k : ℕ} → m ≤ k → messageOf (decode bytes) k ≡ noMessage
   unfolding messagesIn
-  message-none k l = message-beyond (decode bytes) k (subst⁻¹ (λ (x : ℕ). x ≤ k) (decode-messages bytes ∙ sym read-m) l)
+  message-none {k} l = message-beyond (decode bytes) k (subst⁻¹ (λ (x : ℕ). x ≤ k) (decode-messages bytes ∙ sym (read .m-is)) l)
 
-  -- the number v that the code read of message k, in the array that begins at a place
-  module _ (k : ℕ) (l : k < m) (at v : ℕ) where
+  -- the number v that was read of message k, in the array that begins at a place
+  module _ {k : ℕ} (l : k < m) where
     below : k < messagesIn bytes
     unfolding messagesIn
-    below = subst (λ (x : ℕ). k < x) read-m l
+    below = subst (λ (x : ℕ). k < x) (read .m-is) l
 
-    sends-start : at ≡ sendsAt n → at ≡ sendsAt (processesIn bytes)
-    unfolding processesIn
-    sends-start e = e ∙ ap sendsAt read-n
-
-    receipts-start : at ≡ receiptsAt n m → at ≡ receiptsAt (processesIn bytes) (messagesIn bytes)
-    unfolding processesIn messagesIn
-    receipts-start e = e ∙ ap₂ receiptsAt read-n read-m
-
-    from-send : at ≡ sendsAt n → (d : ℕ) → d + 1 < 4 → u16At bytes (at + (4 * k + d)) ≡ u16At (sendsPart bytes) (4 * k + d)
-    from-send e d b = ap (λ (x : ℕ). u16At bytes (x + (4 * k + d))) (sends-start e) ∙ sym (send-place bytes (4 * k + d) (omega (arith, below)))
-
-    from-receipt : at ≡ receiptsAt n m → (d : ℕ) → d + 1 < 4 → u16At bytes (at + (4 * k + d)) ≡ u16At (receiptsPart bytes) (4 * k + d)
-    from-receipt e d b = ap (λ (x : ℕ). u16At bytes (x + (4 * k + d))) (receipts-start e) ∙ sym (receipt-place bytes (4 * k + d) (omega (arith, below)))
-
-    there : (f : Message → ℕ) → v ≡ f (messageAt (sendsPart bytes) (receiptsPart bytes) k) → v ≡ f (messageOf (decode bytes) k)
+    there : (f : Message → ℕ) {v : ℕ} → v ≡ f (messageAt (sendsPart bytes) (receiptsPart bytes) k) → v ≡ f (messageOf (decode bytes) k)
     there f e = e ∙ ap f (sym (decode-message bytes k below))
 
-    pub sender-there : at ≡ sendsAt n → v ≡ u16At bytes (at + 4 * k) → v ≡ messageOf (decode bytes) k .sender
-    unfolding messageAt processAt
-    sender-there e r = there (λ x. x .sender) (r ∙ ap (u16At bytes) (omega arith) ∙ from-send e 0 (omega arith) ∙ ap (u16At (sendsPart bytes)) (omega arith))
+    module _ {at : ℕ} (e : at ≡ sendsAt n) where
+      from-send : (d : ℕ) → d + 1 < 4 → u16At bytes (at + (4 * k + d)) ≡ u16At (sendsPart bytes) (4 * k + d)
+      unfolding processesIn
+      from-send d b =
+          ap (λ (x : ℕ). u16At bytes (x + (4 * k + d))) (e ∙ ap sendsAt (read .n-is)) ∙ sym (send-place bytes (4 * k + d) (omega (arith, below)))
 
-    pub sent-there : at ≡ sendsAt n → v ≡ u16At bytes (at + (4 * k + 2)) → v ≡ messageOf (decode bytes) k .sent
-    unfolding messageAt checkpointAt
-    sent-there e r = there (λ x. x .sent) (r ∙ from-send e 2 (omega arith))
+      pub sender-there : {v : ℕ} → v ≡ u16At bytes (at + 4 * k) → v ≡ messageOf (decode bytes) k .sender
+      unfolding messageAt processAt
+      sender-there r = there (λ x. x .sender) (r ∙ (simp add-zero at (from-send 0 (omega arith))))
 
-    pub receiver-there : at ≡ receiptsAt n m → v ≡ u16At bytes (at + 4 * k) → v ≡ messageOf (decode bytes) k .receiver
-    unfolding messageAt processAt
-    receiver-there e r = there (λ x. x .receiver) (r ∙ ap (u16At bytes) (omega arith) ∙ from-receipt e 0 (omega arith) ∙ ap (u16At (receiptsPart bytes)) (omega arith))
+      pub sent-there : {v : ℕ} → v ≡ u16At bytes (at + (4 * k + 2)) → v ≡ messageOf (decode bytes) k .sent
+      unfolding messageAt checkpointAt
+      sent-there r = there (λ x. x .sent) (r ∙ from-send 2 (omega arith))
 
-    pub received-there : at ≡ receiptsAt n m → v ≡ u16At bytes (at + (4 * k + 2)) → v ≡ messageOf (decode bytes) k .received
-    unfolding messageAt checkpointAt
-    received-there e r = there (λ x. x .received) (r ∙ from-receipt e 2 (omega arith))
+    module _ {at : ℕ} (e : at ≡ receiptsAt n m) where
+      from-receipt : (d : ℕ) → d + 1 < 4 → u16At bytes (at + (4 * k + d)) ≡ u16At (receiptsPart bytes) (4 * k + d)
+      unfolding processesIn messagesIn
+      from-receipt d b =
+          ap (λ (x : ℕ). u16At bytes (x + (4 * k + d))) (e ∙ ap₂ receiptsAt (read .n-is) (read .m-is))
+          ∙ sym (receipt-place bytes (4 * k + d) (omega (arith, below)))
+
+      pub receiver-there : {v : ℕ} → v ≡ u16At bytes (at + 4 * k) → v ≡ messageOf (decode bytes) k .receiver
+      unfolding messageAt processAt
+      receiver-there r = there (λ x. x .receiver) (r ∙ (simp add-zero at (from-receipt 0 (omega arith))))
+
+      pub received-there : {v : ℕ} → v ≡ u16At bytes (at + (4 * k + 2)) → v ≡ messageOf (decode bytes) k .received
+      unfolding messageAt checkpointAt
+      received-there r = there (λ x. x .received) (r ∙ from-receipt 2 (omega arith))
 
 -- ---- writing and reading
 -- the length of an encoded table
@@ -142,4 +156,6 @@ encode-length t =
     let all = length-u16s (length (t .counts) ∷ length (t .messages) ∷ (t .counts ++ (sendsOf (t .messages) ++ receiptsOf (t .messages)))) in
     let outer = length-append (t .counts) (sendsOf (t .messages) ++ receiptsOf (t .messages)) in
     let inner = length-append (sendsOf (t .messages)) (receiptsOf (t .messages)) in
-    omega (arith, all, outer, inner, length-entries (λ m. m .sender) (λ m. m .sent) (t .messages), length-entries (λ m. m .receiver) (λ m. m .received) (t .messages))
+    let sends = length-entries (λ m. m .sender) (λ m. m .sent) (t .messages) in
+    let receipts = length-entries (λ m. m .receiver) (λ m. m .received) (t .messages) in
+    omega (arith, all, outer, inner, sends, receipts)

@@ -66,7 +66,7 @@ module _ {A : Type 0} where
   tabulate-ext zero f g e = refl
   tabulate-ext (suc n) f g e =
       let here : f zero ≡ g zero = e zero (suc-le-suc zero-le) in
-      let rest : tabulate n (λ k. f (suc k)) ≡ tabulate n (λ k. g (suc k)) = tabulate-ext n (λ k. f (suc k)) (λ k. g (suc k)) (λ k h. e (suc k) (suc-le-suc h)) in
+      let rest = tabulate-ext n (λ k. f (suc k)) (λ k. g (suc k)) (λ k h. e (suc k) (suc-le-suc h)) in
       cc
 
   pub tabulate-getD : (l : List A) (d : A) → tabulate (length l) (λ k. getD l k d) ≡ l
@@ -78,14 +78,14 @@ module _ {A : Type 0} where
   unfolding tabulate
   tabulate-append zero m f = simp zero-add
   tabulate-append (suc n) m f =
-      let rest : tabulate (n + m) (λ k. f (suc k)) ≡ tabulate n (λ k. f (suc k)) ++ tabulate m (λ k. f (suc (n + k))) = tabulate-append n m (λ k. f (suc k)) in
-      simp (suc-add n, rest)
+      simp (suc-add n, tabulate-append n m (λ k. f (suc k)))
 
   pub tabulate-more : (n : ℕ) (f : ℕ → A) → tabulate (n + 1) f ≡ tabulate n f ++ (f n ∷ [])
   unfolding tabulate
   tabulate-more n f = tabulate-append n 1 f ∙ ap (λ (k : ℕ). tabulate n f ++ (f k ∷ [])) (add-zero n)
 
-  pub set-tabulate : (n : ℕ) (f g : ℕ → A) (i : ℕ) (v : A) → i < n → v ≡ g i → ((p : ℕ) → (p ≡ i → ⊥) → f p ≡ g p) → set (tabulate n f) i v ≡ tabulate n g
+  pub set-tabulate : (n : ℕ) (f g : ℕ → A) (i : ℕ) (v : A) → i < n → v ≡ g i → ((p : ℕ) → (p ≡ i → ⊥) → f p ≡ g p)
+      → set (tabulate n f) i v ≡ tabulate n g
   unfolding tabulate
   set-tabulate zero f g i v l here other = absurd (not-suc-le-zero l)
   set-tabulate (suc n) f g zero v l here other = ap₂ _∷_ here (tabulate-ext n _ _ (λ p _. other (suc p) (λ e. omega arith)))
@@ -97,7 +97,8 @@ module _ {A : Type 0} where
   any-last test [] x = or-none (test x)
   any-last test (y ∷ rest) x = go (test y) (any-last test rest x)
     where
-      go : (b : Bool) → any test (rest ++ (x ∷ [])) ≡ (any test rest || test x) → (b || any test (rest ++ (x ∷ []))) ≡ ((b || any test rest) || test x)
+      go : (b : Bool) → any test (rest ++ (x ∷ [])) ≡ (any test rest || test x)
+          → (b || any test (rest ++ (x ∷ []))) ≡ ((b || any test rest) || test x)
       go true e = refl
       go false e = e
 
@@ -147,7 +148,8 @@ none-below test n none k b = is-false (test k) refl
 abbrev pub Found : (ℕ → Bool) → ℕ → Type 0
 Found test n = (k : ℕ) × (k < n) × (test k ≡ true)
 
-found-here : (test : ℕ → Bool) (n : ℕ) (r : Bool) → test n ≡ r → (r || anyBelow n test) ≡ true → (anyBelow n test ≡ true → Found test n) → Found test (suc n)
+found-here : (test : ℕ → Bool) (n : ℕ) (r : Bool) → test n ≡ r → (r || anyBelow n test) ≡ true → (anyBelow n test ≡ true → Found test n)
+    → Found test (suc n)
 found-here test n true here e below = (n, omega arith, here)
 found-here test n false here e below =
     let found = below e in

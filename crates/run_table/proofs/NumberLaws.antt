@@ -20,7 +20,8 @@ u16At-beyond bytes at h =
     let high : getD bytes (at + 1) 0 ≡ 0 = List·getD-eq-default bytes 0 (omega arith) in
     omega arith
 
-pub u16At-last : (bytes : List ℕ) (at : ℕ) → length bytes ≤ at + 1 → u16At bytes at ≡ getD bytes at 0
+-- at the last byte the high byte is 0
+pub u16At-last : (bytes : List ℕ) (at : ℕ) → length bytes ≤ at + 1 → u16At bytes at ≡ getD bytes at 0 + 256 * 0
 unfolding u16At
 u16At-last bytes at h =
     let high : getD bytes (at + 1) 0 ≡ 0 = List·getD-eq-default bytes 0 h in
@@ -78,7 +79,8 @@ module _ (buffer : List ℕ) (at : ℕ) where
       ∙ append-assoc (take at buffer) (n % 256 ∷ n / 256 % 256 ∷ []) (drop (at + 2) buffer)
 
   -- what is put after what was put
-  pub putAt-more : (xs ys : List ℕ) → at + length xs + length ys ≤ length buffer → putAt (putAt buffer at xs) (at + length xs) ys ≡ putAt buffer at (xs ++ ys)
+  pub putAt-more : (xs ys : List ℕ) → at + length xs + length ys ≤ length buffer
+      → putAt (putAt buffer at xs) (at + length xs) ys ≡ putAt buffer at (xs ++ ys)
   unfolding putAt
   putAt-more xs ys fits =
       let whole : putAt buffer at xs ≡ P ++ D = sym (append-assoc (take at buffer) xs D) in

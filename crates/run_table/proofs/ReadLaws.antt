@@ -1,11 +1,13 @@
 -- What the code knows of an accepted table.
---     long-enough                              it has its two sizes
---     processes-few, messages-few, whole       N, M and the length
+--     whole, long-enough, processes-few, messages-few    its length, N and M
 --     counts-size, sends-size, receipts-size   the lengths of its parts
 --     count-is, counts-positive, counts-small  its counts, as the parts have them
---     message-is, senders-known, receivers-known   its messages, as the parts have them
+--     message-is, message-good, senders-known, receivers-known   its messages, as the parts have them
 --     sender-read .. received-read             the numbers of a message, as the code read them
---     counts-taken, sends-taken, receipts-taken    the parts, taken from a start to an end
+--     counts-known, counts-taken, sends-taken, receipts-taken    the parts, by the sizes that the code read
+--     ReadCounts, counts-read, count-read      the counts, as the code has read them
+--     ReadMessages, messages-read, messages-known    the messages, as the code has read them
+--     good, sender-is .. received-is           one of them
 -- Assumes nothing.
 use mathlib.Core.List.{List}
 use mathlib.Core.Path.{_≡_, sym, ap, ap₂, _∙_}
@@ -13,12 +15,15 @@ use Prim.Native.Nat.{ℕ, _+_, _-_, _*_, _<_, _≤_}
 use native.Mathlib.Omega.{arith}
 use lib.ListN.{length, take, drop}
 use Rattle.run_table.proofs.AcceptLaws.{facts}
-use Rattle.run_table.proofs.FormatLaws.{counts-length, decode-count, decode-message, decode-messages, decode-processes, receipts-length, sends-length}
+use Rattle.run_table.proofs.FormatLaws.{counts-length, decode-count, decode-message, decode-messages, decode-processes}
+use Rattle.run_table.proofs.FormatLaws.{receipts-length, sends-length}
 use Rattle.run_table.specs.Checks.{GoodMessage, tableRefusal}
-use Rattle.run_table.specs.Format.{checkpointAt, countAt, countsAt, countsPart, decode, messageAt, messagesIn, processAt, processesIn, receiptsAt, receiptsPart, sendsAt, sendsPart, tableLength}
+use Rattle.run_table.specs.Format.{checkpointAt, countAt, countsAt, countsPart, decode, messageAt, messagesIn}
+use Rattle.run_table.specs.Format.{processAt, processesIn, receiptsAt, receiptsPart, sendsAt, sendsPart, tableLength}
 use Rattle.run_table.specs.Numbers.{u16At}
 use Rattle.run_table.specs.Parts.{Counts, Messages}
-use Rattle.run_table.specs.Table.{Message, Table, countOf, messageCount, messageOf, mostCheckpoints, mostMessages, mostProcesses, processCount}
+use Rattle.run_table.specs.Table.{Message, Table, countOf, messageCount, messageOf, processCount}
+use Rattle.run_table.specs.Table.{mostCheckpoints, mostMessages, mostProcesses}
 
 module _ (bytes : List ℕ) (accepted : tableRefusal bytes ≡ 0) where
   abbrev N : ℕ
@@ -51,27 +56,6 @@ module _ (bytes : List ℕ) (accepted : tableRefusal bytes ≡ 0) where
 
   pub receipts-size : length (receiptsPart bytes) ≡ 4 * M
   receipts-size = omega (arith, receipts-length bytes whole-length, decode-messages bytes)
-
-  -- as the code takes them, from a start to an end
-  pub counts-taken : (end : ℕ) → end ≡ sendsAt N → take (end - countsAt) (drop countsAt bytes) ≡ countsPart bytes
-  unfolding countsPart
-  counts-taken end e =
-      let size : end - countsAt ≡ 2 * processesIn bytes = omega (arith, decode-processes bytes) in
-      rw size
-
-  pub sends-taken : (start end : ℕ) → start ≡ sendsAt N → end ≡ receiptsAt N M → take (end - start) (drop start bytes) ≡ sendsPart bytes
-  unfolding sendsPart
-  sends-taken start end s e =
-      let size : end - start ≡ 4 * messagesIn bytes = omega (arith, decode-messages bytes) in
-      let place : start ≡ sendsAt (processesIn bytes) = omega (arith, decode-processes bytes) in
-      ap₂ (λ (x y : ℕ). take x (drop y bytes)) size place
-
-  pub receipts-taken : (start : ℕ) → start ≡ receiptsAt N M → take (length bytes - start) (drop start bytes) ≡ receiptsPart bytes
-  unfolding receiptsPart
-  receipts-taken start s =
-      let size : length bytes - start ≡ 4 * messagesIn bytes = omega (arith, whole, decode-messages bytes) in
-      let place : start ≡ receiptsAt (processesIn bytes) (messagesIn bytes) = omega (arith, decode-processes bytes, decode-messages bytes) in
-      ap₂ (λ (x y : ℕ). take x (drop y bytes)) size place
 
   -- ---- their entries
   module _ (p : ℕ) (l : p < N) where
@@ -117,11 +101,57 @@ module _ (bytes : List ℕ) (accepted : tableRefusal bytes ≡ 0) where
       unfolding messageAt checkpointAt
       received-read is e = e ∙ ap (λ (s : List ℕ). u16At s (4 * k + 2)) is ∙ ap (λ (x : Message). x .received) message-is
 
--- ---- the parts as a function may take them
+-- ---- the parts, by the sizes that the code read
 module _ (bytes : List ℕ) (accepted : tableRefusal bytes ≡ 0) {n : ℕ} (n-is : n ≡ processCount (decode bytes)) where
+  -- as a function may take them
   pub counts-known : {counts : List ℕ} → counts ≡ countsPart bytes → Counts n counts
   counts-known are =
       rw (n-is, are) record { few = processes-few bytes accepted; size = counts-size bytes accepted; positive = counts-positive bytes accepted }
+
+  -- taken from a start to an end
+  pub counts-taken : {end : ℕ} → end ≡ sendsAt n → take (end - countsAt) (drop countsAt bytes) ≡ countsPart bytes
+  unfolding countsPart
+  counts-taken {end} e =
+      let size : end - countsAt ≡ 2 * processesIn bytes = omega (arith, decode-processes bytes) in
+      rw size
+
+  module _ {m : ℕ} (m-is : m ≡ messageCount (decode bytes)) where
+    pub sends-taken : {start end : ℕ} → start ≡ sendsAt n → end ≡ receiptsAt n m → take (end - start) (drop start bytes) ≡ sendsPart bytes
+    unfolding sendsPart
+    sends-taken {start} {end} s e =
+        let size : end - start ≡ 4 * messagesIn bytes = omega (arith, decode-messages bytes) in
+        let place : start ≡ sendsAt (processesIn bytes) = omega (arith, decode-processes bytes) in
+        ap₂ (λ (x y : ℕ). take x (drop y bytes)) size place
+
+    pub receipts-taken : {start : ℕ} → start ≡ receiptsAt n m → take (length bytes - start) (drop start bytes) ≡ receiptsPart bytes
+    unfolding receiptsPart
+    receipts-taken {start} s =
+        let size : length bytes - start ≡ 4 * messagesIn bytes = omega (arith, whole bytes accepted, decode-messages bytes) in
+        let place : start ≡ receiptsAt (processesIn bytes) (messagesIn bytes) = omega (arith, decode-processes bytes, decode-messages bytes) in
+        ap₂ (λ (x y : ℕ). take x (drop y bytes)) size place
+
+-- ---- the counts as the code has read them
+-- How many there are in an accepted table, and their part. That n is small and the size follow from the rest; where they stand in a
+-- loop's invariant, `omega` finds them.
+pub record ReadCounts (bytes : List ℕ) (n : ℕ) (counts : List ℕ) : Type 0 where
+  pub accepted : tableRefusal bytes ≡ 0
+  pub n-is : n ≡ processCount (decode bytes)
+  pub counts-are : counts ≡ countsPart bytes
+  pub few : n ≤ mostProcesses
+  pub counts-size : length counts ≡ 2 * n
+
+pub counts-read : {bytes : List ℕ} {n : ℕ} {counts : List ℕ} → tableRefusal bytes ≡ 0 → n ≡ processCount (decode bytes)
+    → counts ≡ countsPart bytes → ReadCounts bytes n counts
+counts-read {bytes} accepted n-is counts-are =
+    let known = counts-known bytes accepted n-is counts-are in
+    record { accepted = accepted; n-is = n-is; counts-are = counts-are; few = known .few; counts-size = known .size }
+
+-- count p, by the number that was read of it
+pub count-read : {bytes : List ℕ} {n : ℕ} {counts : List ℕ} → ReadCounts bytes n counts → {p : ℕ} → p < n
+    → {v : ℕ} → v ≡ u16At counts (2 * p) → v ≡ countOf (decode bytes) p
+unfolding countAt
+count-read {bytes} read {p} l e =
+    e ∙ ap (λ (part : List ℕ). u16At part (2 * p)) (read .counts-are) ∙ count-is bytes (read .accepted) p (omega (arith, read .n-is))
 
 -- ---- the messages as the code has read them
 -- How many there are in an accepted table, their sends and their receipts. The sizes follow from the rest; where they stand in a

@@ -1,4 +1,5 @@
--- Of the code: numbers of processes, counts or a line, as an array of 32; a list that is filled from the front. Assumes nothing.
+-- Of the code: numbers of processes, counts or a line, as an array of 32; a list that is filled from the front.
+-- Assumes nothing.
 use mathlib.Core.List.{List}
 use mathlib.Core.Path.{_≡_}
 use Prim.Native.Nat.{ℕ, _≤_, _<_}

@@ -1,5 +1,5 @@
--- The checks of a table (docs/MANUAL.md, "Refusals"). Each is a test over the whole table, and the refusal is the number of the first
--- one, in checking order, that catches; 0 says that none does. Assumes nothing.
+-- The checks of a table (docs/MANUAL.md, "Refusals"). Each is a test over the whole table, and the refusal is the
+-- number of the first one, in checking order, that catches; 0 says that none does. Assumes nothing.
 use mathlib.Core.Bool.{Bool, cond, not, _||_}
 use mathlib.Core.List.{List, [], _∷_}
 use mathlib.Core.Path.{_≡_}
@@ -8,7 +8,8 @@ use lib.Dec.{eqb, leb, ltb}
 use lib.ListN.{length}
 use Rattle.run_table.specs.Format.{decode, messagesIn, processesIn, tableLength}
 use Rattle.run_table.specs.Lists.{any}
-use Rattle.run_table.specs.Table.{Message, Table, countOf, messageCount, messageOf, mostCheckpoints, mostMessages, mostProcesses, processCount}
+use Rattle.run_table.specs.Table.{Message, Table, countOf, messageCount, messageOf, processCount}
+use Rattle.run_table.specs.Table.{mostCheckpoints, mostMessages, mostProcesses}
 
 -- A check: whether it catches, and the number of its refusal.
 pub record Check : Type 0 where
@@ -89,7 +90,8 @@ pub record GoodMessage (t : Table) (m : Message) : Type 0 where
   pub sent-below : m .sent < countOf t (m .sender)
   pub received-below : m .received < countOf t (m .receiver)
 
--- What an accepted table satisfies, the limits apart: a process at least, a checkpoint at least of each, and good messages.
+-- What an accepted table satisfies, the limits apart: a process at least, a checkpoint at least of each, and good
+-- messages.
 pub record WellFormed (t : Table) : Type 0 where
   pub some-process : 0 < processCount t
   pub some-checkpoint : (p : ℕ) → p < processCount t → 0 < countOf t p

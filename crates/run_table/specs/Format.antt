@@ -1,5 +1,6 @@
--- The bytes of a run table (docs/MANUAL.md, "The run table"): N, M, the counts, then two parallel arrays of M entries each, sends and
--- receipts. An entry is two numbers, a process and a checkpoint. Reading is total: what stands beyond the end is 0. Assumes nothing.
+-- The bytes of a run table (docs/MANUAL.md, "The run table"): N, M, the counts, then two parallel arrays of M entries
+-- each, sends and receipts. An entry is two numbers, a process and a checkpoint. Reading is total: what stands beyond
+-- the end is 0. Assumes nothing.
 use mathlib.Core.List.{List, [], _∷_, _++_}
 use Prim.Native.Nat.{ℕ, _+_, _*_}
 use lib.ListN.{length, take, drop}
@@ -14,8 +15,8 @@ processesIn bytes = u16At bytes 0
 unfoldable pub messagesIn : List ℕ → ℕ
 messagesIn bytes = u16At bytes 2
 
--- Where the parts of a table of n processes and m messages begin: the counts behind the two sizes, n of them; then the sends, and the
--- receipts, each m entries of 4 bytes.
+-- Where the parts of a table of n processes and m messages begin: the counts behind the two sizes, n of them; then the
+-- sends, and the receipts, each m entries of 4 bytes.
 abbrev pub countsAt : ℕ
 countsAt = 4
 
@@ -79,4 +80,6 @@ receiptsOf = entriesOf (λ m. m .receiver) (λ m. m .received)
 
 -- The bytes of a table.
 unfoldable pub encode : Table → List ℕ
-encode t = u16s (length (t .counts) ∷ length (t .messages) ∷ (t .counts ++ (sendsOf (t .messages) ++ receiptsOf (t .messages))))
+encode t =
+    u16s (length (t .counts) ∷ length (t .messages)
+    ∷ (t .counts ++ (sendsOf (t .messages) ++ receiptsOf (t .messages))))

@@ -1,5 +1,5 @@
--- Of the code: what its loops read off a part of a table's bytes, entry by entry, and what it may assume of the parts of an accepted
--- table. The laws join these to the checks. Assumes nothing.
+-- Of the code: what its loops read off a part of a table's bytes, entry by entry, and what it may assume of the parts
+-- of an accepted table. The laws join these to the checks. Assumes nothing.
 use mathlib.Core.Bool.{Bool, cond}
 use mathlib.Core.List.{List, [], _∷_, map}
 use mathlib.Core.Path.{_≡_}
@@ -55,12 +55,26 @@ unfoldable pub firstPlace : List Check → ℕ
 firstPlace [] = 0
 firstPlace (c ∷ rest) = cond (c .caught) 0 (suc (firstPlace rest))
 
+-- k is the first of m messages that one of such checks catches, or m.
+pub record FirstMessage (checks : List MessageCheck) (m k : ℕ) : Type 0 where
+  pub within : k ≤ m
+  pub before : length checks ≡ firstPlace (checksBelow checks k)
+  pub caught : k < m → firstPlace (checksAt checks k) ≡ length checks → ⊥
+
 -- Checks 5 to 9, on the parts of a table of n processes and m messages.
 abbrev pub partsChecks : ℕ → ℕ → List ℕ → List ℕ → List ℕ → List Check
-partsChecks n m counts sends receipts = record { caught = anyBelow n (badCountAt counts); number = 5 } ∷ checksBelow (messageChecks n counts sends receipts) m
+partsChecks n m counts sends receipts =
+    record { caught = anyBelow n (badCountAt counts); number = 5 }
+    ∷ checksBelow (messageChecks n counts sends receipts) m
 
 abbrev pub partsRefusal : ℕ → ℕ → List ℕ → List ℕ → List ℕ → ℕ
 partsRefusal n m counts sends receipts = firstCaught (partsChecks n m counts sends receipts)
+
+-- The parts of such a table, where its length is right.
+pub record Sized (n m : ℕ) (counts sends receipts : List ℕ) : Type 0 where
+  pub counts-size : length counts ≡ 2 * n
+  pub sends-size : length sends ≡ 4 * m
+  pub receipts-size : length receipts ≡ 4 * m
 
 -- ---- the parts of an accepted table
 -- n counts, each at least 1.

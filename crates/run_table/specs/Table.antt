@@ -1,10 +1,11 @@
--- Messages and tables, free of bytes (docs/MANUAL.md, "The run table"). The definitions hold for numbers of any size. Assumes nothing.
+-- Messages and tables, free of bytes (docs/MANUAL.md, "The run table"). The definitions hold for numbers of any size.
+-- Assumes nothing.
 use mathlib.Core.List.{List}
 use Prim.Native.Nat.{ℕ}
 use lib.ListN.{length, getD}
 
--- A message: its sender and the latest checkpoint that the sender took before sending; its receiver and the first checkpoint that the
--- receiver took after receiving, where 0 says that the message is undelivered (waiting).
+-- A message: its sender and the latest checkpoint that the sender took before sending; its receiver and the first
+-- checkpoint that the receiver took after receiving, where 0 says that the message is undelivered (waiting).
 pub record Message : Type 0 where
   pub sender : ℕ
   pub sent : ℕ

@@ -10,11 +10,12 @@ use crate::format::table_length;
 use crate::numbers::u16_at;
 ghost use mathlib.Core.Path.{_≡_};
 ghost use mathlib.Core.Bool.{false};
-ghost use Prim.Native.Nat.{_+_, _*_, _<_, _≤_};
+ghost use Prim.Native.Nat.{_+_, _*_, _<_};
 ghost use lib.ListN.{length};
 ghost use Rattle.run_table.specs.Checks.{tableRefusal};
 ghost use Rattle.run_table.specs.Lists.{anyBelow};
-ghost use Rattle.run_table.specs.Parts.{badCountAt, checksAt, checksBelow, firstPlace, messageChecks, notBelowAt, partsRefusal, toItselfAt, unknownAt};
+ghost use Rattle.run_table.specs.Parts.{FirstMessage, Sized, badCountAt, checksAt, checksBelow, firstPlace};
+ghost use Rattle.run_table.specs.Parts.{messageChecks, notBelowAt, partsRefusal, toItselfAt, unknownAt};
 
 // The numbers of the checks of a message, in checking order; 0 behind the last, where none catches.
 const FAULTS: [u32; 6] = [6, 6, 7, 8, 9, 0];
@@ -77,7 +78,8 @@ fn fault_at(counts: &[u8], sends: &[u8], receipts: &[u8], n: usize, k: usize) ->
     requires { ⌜ length (now counts) ≡ 2 * n ⌝ }
     requires { ⌜ 4 * k + 3 < length (now sends) ⌝ }
     requires { ⌜ 4 * k + 3 < length (now receipts) ⌝ }
-    ensures { λ r. ⌜ r ≡ firstPlace (checksAt (messageChecks n (now (counts .entry)) (now (sends .entry)) (now (receipts .entry))) k) ⌝ }
+    ensures { λ r. ⌜ r ≡ firstPlace (checksAt
+        (messageChecks n (now (counts .entry)) (now (sends .entry)) (now (receipts .entry))) k) ⌝ }
 {
     if unknown_at(sends, n, k) {
         return 0;
@@ -100,11 +102,9 @@ fn fault_at(counts: &[u8], sends: &[u8], receipts: &[u8], n: usize, k: usize) ->
 // The first of m messages that a check catches, or m. An accepted table, the usual case, is gone through
 // here alone.
 fn first_caught(counts: &[u8], sends: &[u8], receipts: &[u8], n: usize, m: usize) -> usize
-    requires { ⌜ length (now counts) ≡ 2 * n ⌝ }
-    requires { ⌜ length (now sends) ≡ 4 * m ⌝ }
-    requires { ⌜ length (now receipts) ≡ 4 * m ⌝ }
-    ensures before { λ r. ⌜ (r ≤ m) × (5 ≡ firstPlace (checksBelow (messageChecks n (now (counts .entry)) (now (sends .entry)) (now (receipts .entry))) r)) ⌝ }
-    ensures caught { λ r. ⌜ (r < m → firstPlace (checksAt (messageChecks n (now (counts .entry)) (now (sends .entry)) (now (receipts .entry))) r) ≡ 5 → ⊥) ⌝ }
+    requires { ⌜ Sized n m (now counts) (now sends) (now receipts) ⌝ }
+    ensures { λ r. ⌜ FirstMessage
+        (messageChecks n (now (counts .entry)) (now (sends .entry)) (now (receipts .entry))) m r ⌝ }
 {
     let mut k = 0;
     while k < m {
@@ -119,10 +119,9 @@ fn first_caught(counts: &[u8], sends: &[u8], receipts: &[u8], n: usize, m: usize
 // The place of the first check that catches one of m messages; 5 where none does. One look at each
 // message is enough: the smallest of their places is that of the check that comes first.
 fn first_fault(counts: &[u8], sends: &[u8], receipts: &[u8], n: usize, m: usize) -> usize
-    requires { ⌜ length (now counts) ≡ 2 * n ⌝ }
-    requires { ⌜ length (now sends) ≡ 4 * m ⌝ }
-    requires { ⌜ length (now receipts) ≡ 4 * m ⌝ }
-    ensures { λ r. ⌜ r ≡ firstPlace (checksBelow (messageChecks n (now (counts .entry)) (now (sends .entry)) (now (receipts .entry))) m) ⌝ }
+    requires { ⌜ Sized n m (now counts) (now sends) (now receipts) ⌝ }
+    ensures { λ r. ⌜ r ≡ firstPlace (checksBelow
+        (messageChecks n (now (counts .entry)) (now (sends .entry)) (now (receipts .entry))) m) ⌝ }
 {
     let mut first = 5;
     let mut k = first_caught(counts, sends, receipts, n, m);
@@ -168,9 +167,7 @@ pub fn check(table: &[u8]) -> u32
 
 // Checks 5 to 9, on the three parts of a table whose length is right.
 fn entry_checks(counts: &[u8], sends: &[u8], receipts: &[u8], n: usize, m: usize) -> u32
-    requires { ⌜ length (now counts) ≡ 2 * n ⌝ }
-    requires { ⌜ length (now sends) ≡ 4 * m ⌝ }
-    requires { ⌜ length (now receipts) ≡ 4 * m ⌝ }
+    requires { ⌜ Sized n m (now counts) (now sends) (now receipts) ⌝ }
     ensures { λ r. ⌜ r ≡ partsRefusal n m (now (counts .entry)) (now (sends .entry)) (now (receipts .entry)) ⌝ }
 {
     if bad_count(counts, n) {

@@ -7,9 +7,6 @@ use Rattle.run_table.specs.Format.{messagesIn}
 use Rattle.run_table.proofs.run_table_messages.Statement.{statement}
 use Rattle.run_table.proofs.run_table_messages.Tie as tie
 
-returns : tie.Need-returns
-unfolding messagesIn
-returns c = c .u16-or-zero .ensures ∙ sym (decode-messages _)
-
 pub run-table-messages-spec : {M : Type 1} → statement M
-run-table-messages-spec = tie.close (tie.spec (λ c κs. search needs) returns)
+unfolding messagesIn
+run-table-messages-spec = tie.close (tie.spec (λ c κs. search needs) (λ c. c .u16-or-zero .ensures ∙ sym (decode-messages _)))

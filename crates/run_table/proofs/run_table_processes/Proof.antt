@@ -7,9 +7,6 @@ use Rattle.run_table.specs.Format.{processesIn}
 use Rattle.run_table.proofs.run_table_processes.Statement.{statement}
 use Rattle.run_table.proofs.run_table_processes.Tie as tie
 
-returns : tie.Need-returns
-unfolding processesIn
-returns c = c .u16-or-zero .ensures ∙ sym (decode-processes _)
-
 pub run-table-processes-spec : {M : Type 1} → statement M
-run-table-processes-spec = tie.close (tie.spec (λ c κs. search needs) returns)
+unfolding processesIn
+run-table-processes-spec = tie.close (tie.spec (λ c κs. search needs) (λ c. c .u16-or-zero .ensures ∙ sym (decode-processes _)))

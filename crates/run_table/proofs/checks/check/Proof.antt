@@ -1,96 +1,74 @@
 -- `checks::check` meets its contract: the sizes are checked in the order of the list, and `entry_checks` answers the rest.
 -- Assumes nothing.
 use borrow.Author.Needs.{needs}
-use native.Mathlib.Omega.{arith}
 use mathlib.Core.Bool.{false}
-use mathlib.Core.List.{List}
-use mathlib.Core.Path.{_≡_, sym, _∙_}
-use Prim.Native.Nat.{ℕ}
+use mathlib.Core.Path.{_≡_, _∙_}
 use denote.Ref.{now}
-use Rattle.run_table.proofs.CheckLaws.{few-messages, many-messages, not-short, parts-read, parts-refusal, passed, process-count, right-length, short, stopped, wrong-length}
+use Rattle.run_table.proofs.CheckLaws.{refused-length, refused-messages, refused-parts, refused-processes, refused-short}
+use Rattle.run_table.proofs.FormatLaws.{ReadSizes}
 use Rattle.run_table.proofs.ScanLaws.{inside, outside-above, outside-zero}
-use Rattle.run_table.specs.Checks.{badLength, badProcessCount, tableChecks, tableRefusal, tooManyMessages, tooShort}
+use Rattle.run_table.specs.Checks.{outside}
+use Rattle.run_table.specs.Table.{mostProcesses}
 use Rattle.run_table.proofs.checks.check.Statement.{statement}
 use Rattle.run_table.proofs.checks.check.Tie as tie
 
--- the bytes, and what each check has shown where it caught nothing
-abbrev B : tie.Else1 → List ℕ
-B c = now (c .before .before .args .table)
+-- ---- the places: the entry; where there are 4 bytes; where N and M were read; where N is in its limits; where M is; where the length
+-- is right; where the parts begin
+abbrev entry : tie.Else1 → tie.Start
+entry c = c .before .before
 
-passed-1 : (c : tie.Else1) → tooShort (B c) ≡ false
-passed-1 c = not-short (B c) (c .if1 .left)
+abbrev long : tie.After-u16-at2 → tie.Else1
+long c = c .before .before
 
-passed-2 : (c : tie.Else3) → badProcessCount (B (c .before .before .before .before)) ≡ false
-passed-2 c =
-    let read = c .before .before in
-    process-count _ _ _ (read .before .u16-at .ensures) (read .u16-at2 .ensures) ∙ inside _ _ (c .before .if2 .left) (c .if3 .left)
+abbrev read : tie.Else3 → tie.After-u16-at2
+read c = c .before .before
 
-passed-3 : (c : tie.Else4) → tooManyMessages (B (c .before .before .before .before .before)) ≡ false
-passed-3 c =
-    let read = c .before .before .before in
-    few-messages _ _ _ (read .before .u16-at .ensures) (read .u16-at2 .ensures) (c .if4 .left)
+abbrev some : tie.Else4 → tie.Else3
+some c = c .before
 
-passed-4 : (c : tie.Else5) → badLength (B (c .before .before .before .before .before .before .before)) ≡ false
-passed-4 c =
-    let sized = c .before in
-    let read = sized .before .before .before .before in
-    right-length _ _ _ (read .before .u16-at .ensures) (read .u16-at2 .ensures) (omega (arith, c .if5 .left, sized .table-length .ensures))
+abbrev few : tie.After-table-length → tie.Else4
+few c = c .before
 
-returns : tie.Need-returns
-unfolding tableRefusal tableChecks
-returns c = sym (stopped _ _ (short _ (c .if1 .taken)))
+abbrev whole : tie.After-receipts-at → tie.Else5
+whole c = c .before .before
 
-returns-2 : tie.Need-returns-2
-unfolding tableRefusal tableChecks
-returns-2 c =
-    let read = c .before in
-    sym (passed _ _ _ (passed-1 (read .before .before)) (stopped _ _ (process-count _ _ _ (read .before .u16-at .ensures) (read .u16-at2 .ensures) ∙ outside-zero _ _ (c .if2 .taken))))
+abbrev placed : tie.After-entry-checks → tie.After-receipts-at
+placed c = c .before .before .before .before
 
-returns-3 : tie.Need-returns-3
-unfolding tableRefusal tableChecks
-returns-3 c =
-    let read = c .before .before in
-    sym (passed _ _ _ (passed-1 (read .before .before)) (stopped _ _ (process-count _ _ _ (read .before .u16-at .ensures) (read .u16-at2 .ensures) ∙ outside-above _ _ (c .if3 .taken))))
+-- ---- what is known there: N and M, and that N is in its limits
+sizes : (c : tie.After-u16-at2) → ReadSizes (now (entry (long c) .args .table)) (c .before .u16-at .result) (c .u16-at2 .result)
+sizes c = record { n-is = c .before .u16-at .ensures; m-is = c .u16-at2 .ensures }
 
-returns-4 : tie.Need-returns-4
-unfolding tableRefusal tableChecks
-returns-4 c =
-    let read = c .before .before .before in
-    sym (passed _ _ _ (passed-1 (read .before .before)) (passed _ _ _ (passed-2 (c .before)) (stopped _ _ (many-messages _ _ _ (read .before .u16-at .ensures) (read .u16-at2 .ensures) (c .if4 .taken)))))
+limited : (c : tie.Else3) → outside mostProcesses (read c .before .u16-at .result) ≡ false
+limited c = inside _ _ (c .before .if2 .left) (c .if3 .left)
 
-returns-5 : tie.Need-returns-5
-unfolding tableRefusal tableChecks
-returns-5 c =
-    let few = c .before .before in
-    let read = few .before .before .before in
-    sym (passed _ _ _ (passed-1 (read .before .before)) (passed _ _ _ (passed-2 (few .before)) (passed _ _ _ (passed-3 few)
-    (stopped _ _ (wrong-length _ _ _ (read .before .u16-at .ensures) (read .u16-at2 .ensures) (λ e. c .if5 .taken (omega (arith, e, c .before .table-length .ensures))))))))
-
-returns-6 : tie.Need-returns-6
-returns-6 c =
-    let placed = c .before .before .before .before in
-    let whole = placed .before .before in
-    let few = whole .before .before in
-    let read = few .before .before .before in
-    c .entry-checks .ensures
-    ∙ parts-read _ _ _ (read .before .u16-at .ensures) (read .u16-at2 .ensures) (placed .before .sends-at .result) (placed .receipts-at .result)
-    (placed .before .sends-at .ensures) (placed .receipts-at .ensures) (omega (arith, whole .if5 .left, whole .before .table-length .ensures))
-    ∙ sym (parts-refusal _ (passed-1 (read .before .before)) (passed-2 (few .before)) (passed-3 few) (passed-4 whole))
-
+-- ---- the needs, in the code's course
 pub check-spec : {M : Type 1} → statement M
 check-spec =
     tie.close
     (tie.spec
-    returns
+    -- 1
+    (λ c. refused-short _ (c .if1 .taken))
     (λ c κs. search needs)
     (λ c. search needs)
     (λ c κs. search needs)
     (λ c. search needs)
-    returns-2
-    returns-3
-    returns-4
+    -- 2
+    (λ c. refused-processes (sizes (c .before)) (long (c .before) .if1 .left) (outside-zero _ _ (c .if2 .taken)))
+    (λ c.
+    let read = c .before .before in
+    refused-processes (sizes read) (long read .if1 .left) (outside-above _ _ (c .if3 .taken)))
+    -- 3
+    (λ c.
+    let read = read (c .before) in
+    refused-messages (sizes read) (long read .if1 .left) (limited (c .before)) (c .if4 .taken))
     (λ c κs. search needs)
-    returns-5
+    -- 4
+    (λ c.
+    let few = few (c .before) in
+    let read = read (some few) in
+    refused-length (sizes read) (long read .if1 .left) (limited (some few)) (few .if4 .left) (c .before .table-length .ensures) (c .if5 .taken))
+    -- the parts, as they are lent on
     (λ c κs. search needs)
     (λ c κs. search needs)
     (λ c. search needs)
@@ -103,4 +81,12 @@ check-spec =
     (λ c. search needs)
     (λ c. search needs)
     (λ c κs. search needs)
-    returns-6)
+    -- 5 to 9
+    (λ c.
+    let placed = placed c in
+    let whole = whole placed in
+    let few = few (whole .before) in
+    let read = read (some few) in
+    c .entry-checks .ensures
+    ∙ refused-parts (sizes read) (long read .if1 .left) (limited (some few)) (few .if4 .left) (whole .before .table-length .ensures)
+    (whole .if5 .left) (placed .before .sends-at .ensures) (placed .receipts-at .ensures)))

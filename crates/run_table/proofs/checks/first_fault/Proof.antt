@@ -13,24 +13,11 @@ Inv-loop counts sends receipts n m first₀ k₀ first k = Looked (messageChecks
 abbrev μ-loop : tie.MeasureT-loop
 μ-loop counts sends receipts n m first₀ k₀ first k = m - k
 
-loop-holds : tie.Need-loop-holds Inv-loop μ-loop
-loop-holds c =
-    let seen = c .first-caught .ensures .0 in
-    record { within = seen .0; found = seen .1 }
+-- ---- the places: a turn of the loop, from where its message was looked at
+abbrev turn : tie.After-fault-at Inv-loop μ-loop → tie.In-loop Inv-loop μ-loop
+turn c = c .before
 
-loop-again : tie.Need-loop-again Inv-loop μ-loop
-loop-again c =
-    let turn = c .before .before in
-    looked-more _ _ _ _ (turn .before .loop .inv) (turn .loop-test .taken) _ _ (c .before .fault-at .ensures) (omega (arith, c .if1 .taken))
-
-loop-again-2 : tie.Need-loop-again-2 Inv-loop μ-loop
-loop-again-2 c =
-    let turn = c .before .before in
-    looked-more _ _ _ _ (turn .before .loop .inv) (turn .loop-test .taken) _ _ (c .before .fault-at .ensures) (omega (arith, c .if1 .left))
-
-returns : tie.Need-returns Inv-loop μ-loop
-returns c = looked-all _ _ _ _ (c .before .loop .inv) (c .loop-test .left)
-
+-- ---- the needs, in the code's course
 pub first-fault-spec : {M : Type 1} → statement M
 first-fault-spec =
     tie.close
@@ -38,11 +25,16 @@ first-fault-spec =
     Inv-loop
     μ-loop
     (λ c κs. omega arith)
-    loop-holds
+    (λ c. record { within = c .first-caught .ensures .within; found = c .first-caught .ensures .before })
     (λ c κs. omega arith)
     (λ c. omega arith)
+    -- the first place stays, or is the message's
     (λ c. omega arith)
-    loop-again
+    (λ c.
+    let turn = turn (c .before) in
+    looked-more (turn .before .loop .inv) (turn .loop-test .taken) (c .before .fault-at .ensures) (omega (arith, c .if1 .taken)))
     (λ c. omega arith)
-    loop-again-2
-    returns)
+    (λ c.
+    let turn = turn (c .before) in
+    looked-more (turn .before .loop .inv) (turn .loop-test .taken) (c .before .fault-at .ensures) (omega (arith, c .if1 .left)))
+    (λ c. looked-all (c .before .loop .inv) (c .loop-test .left)))

@@ -8,9 +8,13 @@ use Rattle.run_table.specs.Parts.{toItselfAt}
 use Rattle.run_table.proofs.checks.to_itself_at.Statement.{statement}
 use Rattle.run_table.proofs.checks.to_itself_at.Tie as tie
 
-returns : tie.Need-returns
-unfolding toItselfAt processAt
-returns c = ap₂ eqb (c .before .u16-at .ensures) (c .u16-at2 .ensures)
-
 pub to-itself-at-spec : {M : Type 1} → statement M
-to-itself-at-spec = tie.close (tie.spec (λ c. search needs) (λ c κs. search needs) (λ c. search needs) (λ c κs. search needs) returns)
+unfolding toItselfAt processAt
+to-itself-at-spec =
+    tie.close
+    (tie.spec
+    (λ c. search needs)
+    (λ c κs. search needs)
+    (λ c. search needs)
+    (λ c κs. search needs)
+    (λ c. ap₂ eqb (c .before .u16-at .ensures) (c .u16-at2 .ensures)))

@@ -8,9 +8,7 @@ use Rattle.run_table.specs.Parts.{unknownAt}
 use Rattle.run_table.proofs.checks.unknown_at.Statement.{statement}
 use Rattle.run_table.proofs.checks.unknown_at.Tie as tie
 
-returns : tie.Need-returns
-unfolding unknownAt processAt
-returns c = ap (leb _) (c .u16-at .ensures)
-
 pub unknown-at-spec : {M : Type 1} → statement M
-unknown-at-spec = tie.close (tie.spec (λ c. search needs) (λ c κs. search needs) (λ c. search needs) returns)
+unfolding unknownAt processAt
+unknown-at-spec =
+    tie.close (tie.spec (λ c. search needs) (λ c κs. search needs) (λ c. search needs) (λ c. ap (leb _) (c .u16-at .ensures)))

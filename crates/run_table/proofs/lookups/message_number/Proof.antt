@@ -2,10 +2,10 @@
 -- Assumes nothing.
 use borrow.Author.Needs.{needs}
 use mathlib.Core.Path.{_≡_, refl, sym, ap, _∙_}
-use Prim.Native.Nat.{ℕ}
-use Rattle.run_table.proofs.FormatLaws.{message-none, received-there, receiver-there, sender-there, sent-there}
+use denote.Ref.{now}
+use Rattle.run_table.proofs.FormatLaws.{ReadSizes, message-none, received-there, receiver-there, sender-there, sent-there}
 use Rattle.run_table.specs.Fields.{numberOf}
-use Rattle.run_table.specs.Table.{Message, noMessage}
+use Rattle.run_table.specs.Table.{noMessage}
 use Rattle.run_table.specs.declared.lookups.Field.{Field}
 use Rattle.run_table.specs.declared.lookups.Field.the-variants.{Received, Receiver, Sender, Sent}
 use Rattle.run_table.proofs.lookups.message_number.Statement.{statement}
@@ -17,48 +17,15 @@ none-number Sent = refl
 none-number Receiver = refl
 none-number Received = refl
 
--- the number that was read is that of the named field
-named : (f g : Field) (m : Message) (r : ℕ) → f ≡ g → r ≡ numberOf g m → r ≡ numberOf f m
-named f g m r e read = read ∙ sym (ap (λ (h : Field). numberOf h m) e)
+-- ---- the places: the entry, from where N and M were read
+abbrev entry : tie.After-u16-or-zero2 → tie.Start
+entry c = c .before .before .before
 
-returns : tie.Need-returns
-returns c =
-    let read = c .before in
-    let field = read .before .before .before .args .field in
-    sym (ap (numberOf field) (message-none _ _ _ (read .before .u16-or-zero .ensures) (read .u16-or-zero2 .ensures) _ (c .if1 .taken)) ∙ none-number field)
+-- ---- what is known there: N and M
+sizes : (c : tie.After-u16-or-zero2) → ReadSizes (now (entry c .args .table)) (c .before .u16-or-zero .result) (c .u16-or-zero2 .result)
+sizes c = record { n-is = c .before .u16-or-zero .ensures; m-is = c .u16-or-zero2 .ensures }
 
-returns-2 : tie.Need-returns-2
-returns-2 c =
-    let told = c .before .before in
-    let some = told .before .before in
-    let read = some .before in
-    named _ Sender _ _ (told .enum-told .given .1)
-    (sender-there _ _ _ (read .before .u16-or-zero .ensures) (read .u16-or-zero2 .ensures) _ (some .if1 .left) _ _ (c .before .sends-at .ensures) (c .u16-or-zero3 .ensures))
-
-returns-3 : tie.Need-returns-3
-returns-3 c =
-    let told = c .before .before in
-    let some = told .before .before in
-    let read = some .before in
-    named _ Sent _ _ (told .enum-told2 .given .1)
-    (sent-there _ _ _ (read .before .u16-or-zero .ensures) (read .u16-or-zero2 .ensures) _ (some .if1 .left) _ _ (c .before .sends-at2 .ensures) (c .u16-or-zero4 .ensures))
-
-returns-4 : tie.Need-returns-4
-returns-4 c =
-    let told = c .before .before in
-    let some = told .before .before in
-    let read = some .before in
-    named _ Receiver _ _ (told .enum-told3 .given .1)
-    (receiver-there _ _ _ (read .before .u16-or-zero .ensures) (read .u16-or-zero2 .ensures) _ (some .if1 .left) _ _ (c .before .receipts-at .ensures) (c .u16-or-zero5 .ensures))
-
-returns-5 : tie.Need-returns-5
-returns-5 c =
-    let told = c .before .before in
-    let some = told .before .before in
-    let read = some .before in
-    named _ Received _ _ (told .enum-told4 .given .1)
-    (received-there _ _ _ (read .before .u16-or-zero .ensures) (read .u16-or-zero2 .ensures) _ (some .if1 .left) _ _ (c .before .receipts-at2 .ensures) (c .u16-or-zero6 .ensures))
-
+-- ---- the needs, in the code's course
 pub message-number-spec : {M : Type 1} → statement M
 message-number-spec =
     tie.close
@@ -67,30 +34,54 @@ message-number-spec =
     (λ c. search needs)
     (λ c κs. search needs)
     (λ c. search needs)
-    returns
+    -- k is M or above
+    (λ c.
+    let field = entry (c .before) .args .field in
+    sym (ap (numberOf field) (message-none (sizes (c .before)) (c .if1 .taken)) ∙ none-number field))
+    -- it is below: the sender
     (λ c. search needs)
     (λ c κs. search needs)
     (λ c. search needs)
     (λ c. search needs)
     (λ c κs. search needs)
-    (λ c. search needs)
-    (λ c κs. search needs)
-    (λ c. search needs)
-    (λ c. search needs)
-    (λ c. search needs)
-    (λ c κs. search needs)
-    (λ c. search needs)
-    (λ c κs. search needs)
-    (λ c. search needs)
-    (λ c. search needs)
-    (λ c κs. search needs)
+    -- its checkpoint
     (λ c. search needs)
     (λ c κs. search needs)
     (λ c. search needs)
     (λ c. search needs)
     (λ c. search needs)
     (λ c κs. search needs)
-    returns-2
-    returns-3
-    returns-4
-    returns-5)
+    -- the receiver
+    (λ c. search needs)
+    (λ c κs. search needs)
+    (λ c. search needs)
+    (λ c. search needs)
+    (λ c κs. search needs)
+    -- its checkpoint
+    (λ c. search needs)
+    (λ c κs. search needs)
+    (λ c. search needs)
+    (λ c. search needs)
+    (λ c. search needs)
+    (λ c κs. search needs)
+    -- what was read is the field's
+    (λ c.
+    let told = c .before .before in
+    let some = told .before .before in
+    rw (told .enum-told .given .1)
+    (sender-there (sizes (some .before)) (some .if1 .left) (c .before .sends-at .ensures) (c .u16-or-zero3 .ensures)))
+    (λ c.
+    let told = c .before .before in
+    let some = told .before .before in
+    rw (told .enum-told2 .given .1)
+    (sent-there (sizes (some .before)) (some .if1 .left) (c .before .sends-at2 .ensures) (c .u16-or-zero4 .ensures)))
+    (λ c.
+    let told = c .before .before in
+    let some = told .before .before in
+    rw (told .enum-told3 .given .1)
+    (receiver-there (sizes (some .before)) (some .if1 .left) (c .before .receipts-at .ensures) (c .u16-or-zero5 .ensures)))
+    (λ c.
+    let told = c .before .before in
+    let some = told .before .before in
+    rw (told .enum-told4 .given .1)
+    (received-there (sizes (some .before)) (some .if1 .left) (c .before .receipts-at2 .ensures) (c .u16-or-zero6 .ensures))))

@@ -5,9 +5,6 @@ use Rattle.run_table.proofs.NumberLaws.{putAt-number}
 use Rattle.run_table.proofs.numbers.put_u16.Statement.{statement}
 use Rattle.run_table.proofs.numbers.put_u16.Tie as tie
 
-returns : tie.Need-returns
-returns c = putAt-number _ _ _ (search needs)
-
 pub put-u16-spec : {M : Type 1} → statement M
 put-u16-spec =
     tie.close
@@ -18,4 +15,4 @@ put-u16-spec =
     (λ c. search needs)
     (λ c. search needs)
     (λ c. search needs)
-    returns)
+    (λ c. putAt-number _ _ _ (search needs)))

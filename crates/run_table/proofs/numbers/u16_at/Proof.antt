@@ -5,16 +5,7 @@ use Rattle.run_table.specs.Numbers.{u16At}
 use Rattle.run_table.proofs.numbers.u16_at.Statement.{statement}
 use Rattle.run_table.proofs.numbers.u16_at.Tie as tie
 
-returns : tie.Need-returns
-unfolding u16At
-returns c = search needs
-
 pub u16-at-spec : {M : Type 1} → statement M
+unfolding u16At
 u16-at-spec =
-    tie.close
-    (tie.spec
-    (λ c. search needs)
-    (λ c. search needs)
-    (λ c. search needs)
-    (λ c κs. search needs)
-    returns)
+    tie.close (tie.spec (λ c. search needs) (λ c. search needs) (λ c. search needs) (λ c κs. search needs) (λ c. search needs))

@@ -9,12 +9,11 @@ use Rattle.run_table.specs.Format.{processesIn}
 use Rattle.run_table.proofs.parts.process_count.Statement.{statement}
 use Rattle.run_table.proofs.parts.process_count.Tie as tie
 
-u16-at-requires : tie.Need-u16-at-requires
-u16-at-requires c κs = omega (arith, long-enough _ (c .before .pre))
-
-returns : tie.Need-returns
-unfolding processesIn
-returns c = c .u16-at .ensures ∙ sym (decode-processes _)
-
 pub process-count-spec : {M : Type 1} → statement M
-process-count-spec = tie.close (tie.spec u16-at-requires (λ c. search needs) returns)
+unfolding processesIn
+process-count-spec =
+    tie.close
+    (tie.spec
+    (λ c κs. omega (arith, long-enough _ (c .before .pre)))
+    (λ c. search needs)
+    (λ c. c .u16-at .ensures ∙ sym (decode-processes _)))

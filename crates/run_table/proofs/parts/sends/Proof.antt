@@ -6,39 +6,29 @@ use Rattle.run_table.proofs.ReadLaws.{messages-few, processes-few, send
 use Rattle.run_table.proofs.parts.sends.Statement.{statement}
 use Rattle.run_table.proofs.parts.sends.Tie as tie
 
-sends-at-requires : tie.Need-sends-at-requires
-sends-at-requires c κs = omega (arith, processes-few _ (c .before .before .pre), c .process-count .ensures)
+-- ---- the places: the entry; where N was read, from where M was
+abbrev entry : tie.After-process-count → tie.Start
+entry c = c .before .before
 
-receipts-at-requires : tie.Need-receipts-at-requires
-receipts-at-requires c κs =
-    let counted = c .before .before in
-    let none = counted .before .before .pre in
-    omega (arith, processes-few _ none, messages-few _ none, counted .process-count .ensures, c .message-count .ensures)
+abbrev sized : tie.After-message-count → tie.After-process-count
+sized c = c .before .before
 
-part-result-end : tie.Need-part-result-end
-part-result-end c =
-    let counted = c .before .before .before in
-    omega (arith, whole _ (counted .before .before .pre), counted .process-count .ensures, c .before .message-count .ensures, c .receipts-at .ensures)
-
-returns : tie.Need-returns
-returns c =
-    let placed = c .before in
-    let sized = placed .before in
-    let started = sized .before in
-    let counted = started .before in
-    sends-taken _ (counted .before .before .pre) (started .sends-at .result) (placed .receipts-at .result)
-    (omega (arith, counted .process-count .ensures, started .sends-at .ensures))
-    (omega (arith, counted .process-count .ensures, sized .message-count .ensures, placed .receipts-at .ensures))
-
+-- ---- the needs, in the code's course
 pub sends-spec : {M : Type 1} → statement M
 sends-spec =
     tie.close
     (tie.spec
     (λ c κs. search needs)
-    sends-at-requires
+    (λ c κs. omega (arith, processes-few _ (entry c .pre)))
     (λ c κs. search needs)
-    receipts-at-requires
+    (λ c κs.
+    let accepted = entry (sized c) .pre in
+    omega (arith, processes-few _ accepted, messages-few _ accepted))
     (λ c. search needs)
     (λ c. search needs)
-    part-result-end
-    returns)
+    (λ c. omega (arith, whole _ (entry (sized (c .before)) .pre)))
+    (λ c.
+    let read = c .before .before in
+    let n = sized read in
+    sends-taken _ (entry n .pre) (n .process-count .ensures) (read .message-count .ensures) (read .before .sends-at .ensures)
+    (c .before .receipts-at .ensures)))
