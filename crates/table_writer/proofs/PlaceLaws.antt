@@ -20,7 +20,8 @@ put-later x b ys i = ap (λ (n : ℕ). x ∷ (take i b ++ (ys ++ drop n (x ∷ b
 
 put-first : (c : ℕ) (b : List ℕ) (x : ℕ) (xs : List ℕ) → putAt (c ∷ b) 0 (x ∷ xs) ≡ x ∷ putAt b 0 xs
 unfolding putAt
-put-first c b x xs = ap (λ (n : ℕ). x ∷ (xs ++ drop n (c ∷ b))) (zero-add (suc (length xs))) ∙ ap (λ (n : ℕ). x ∷ (xs ++ drop n b)) (sym (zero-add (length xs)))
+put-first c b x xs =
+    ap (λ (n : ℕ). x ∷ (xs ++ drop n (c ∷ b))) (zero-add (suc (length xs))) ∙ ap (λ (n : ℕ). x ∷ (xs ++ drop n b)) (sym (zero-add (length xs)))
 
 -- ---- places apart
 apart-front : (b xs ys : List ℕ) (j : ℕ) → length xs ≤ j → j + length ys ≤ length b → putAt (putAt b 0 xs) j ys ≡ putAt (putAt b j ys) 0 xs
@@ -32,7 +33,8 @@ apart-front (c ∷ b) (x ∷ xs) ys (suc j) h g =
     ∙ ap (λ (l : List ℕ). x ∷ l) (apart-front b xs ys j (omega arith) (omega arith))
     ∙ sym (put-first c (putAt b j ys) x xs) ∙ ap (λ (l : List ℕ). putAt l 0 (x ∷ xs)) (sym (put-later c b ys j))
 
-pub putAt-apart : (b xs ys : List ℕ) (i j : ℕ) → i + length xs ≤ j → j + length ys ≤ length b → putAt (putAt b i xs) j ys ≡ putAt (putAt b j ys) i xs
+pub putAt-apart : (b xs ys : List ℕ) (i j : ℕ) → i + length xs ≤ j → j + length ys ≤ length b
+    → putAt (putAt b i xs) j ys ≡ putAt (putAt b j ys) i xs
 putAt-apart b xs ys zero j h g = apart-front b xs ys j (omega arith) g
 putAt-apart [] xs ys (suc i) j h g = absurd (omega arith)
 putAt-apart (c ∷ b) xs ys (suc i) zero h g = absurd (omega arith)
@@ -51,7 +53,8 @@ within-first (c ∷ b) (x ∷ xs) (y ∷ ys) h g =
     ∙ ap (λ (l : List ℕ). y ∷ l) (within-first b xs ys (omega arith) (omega arith))
     ∙ sym (put-first c b y (putAt xs 0 ys)) ∙ ap (putAt (c ∷ b) 0) (sym (put-first x xs y ys))
 
-within-front : (b xs ys : List ℕ) (j : ℕ) → j + length ys ≤ length xs → length xs ≤ length b → putAt (putAt b 0 xs) j ys ≡ putAt b 0 (putAt xs j ys)
+within-front : (b xs ys : List ℕ) (j : ℕ) → j + length ys ≤ length xs → length xs ≤ length b
+    → putAt (putAt b 0 xs) j ys ≡ putAt b 0 (putAt xs j ys)
 within-front b xs ys zero h g = within-first b xs ys (omega arith) g
 within-front b [] ys (suc j) h g = absurd (omega arith)
 within-front [] (x ∷ xs) ys (suc j) h g = absurd (omega arith)
@@ -60,7 +63,8 @@ within-front (c ∷ b) (x ∷ xs) ys (suc j) h g =
     ∙ ap (λ (l : List ℕ). x ∷ l) (within-front b xs ys j (omega arith) (omega arith))
     ∙ sym (put-first c b x (putAt xs j ys)) ∙ ap (putAt (c ∷ b) 0) (sym (put-later x xs ys j))
 
-pub putAt-within : (b xs ys : List ℕ) (i j : ℕ) → j + length ys ≤ length xs → i + length xs ≤ length b → putAt (putAt b i xs) (i + j) ys ≡ putAt b i (putAt xs j ys)
+pub putAt-within : (b xs ys : List ℕ) (i j : ℕ) → j + length ys ≤ length xs → i + length xs ≤ length b
+    → putAt (putAt b i xs) (i + j) ys ≡ putAt b i (putAt xs j ys)
 putAt-within b xs ys zero j h g = ap (λ (n : ℕ). putAt (putAt b 0 xs) n ys) (zero-add j) ∙ within-front b xs ys j h (omega arith)
 putAt-within [] xs ys (suc i) j h g = absurd (omega arith)
 putAt-within (c ∷ b) xs ys (suc i) j h g =
@@ -73,17 +77,21 @@ pub both-more : (b xs ys x y : List ℕ) (near far : ℕ) → near + length xs +
 both-more b xs ys x y near far h g =
     let long : length (putAt b near xs) ≡ length b = length-putAt b near xs (omega arith) in
     ap (λ (l : List ℕ). putAt l (far + length ys) y)
-    (sym (putAt-apart (putAt b near xs) x ys (near + length xs) far h (omega (arith, long))) ∙ ap (λ (l : List ℕ). putAt l far ys) (putAt-more b near xs x (omega arith)))
+    (sym (putAt-apart (putAt b near xs) x ys (near + length xs) far h (omega (arith, long)))
+    ∙ ap (λ (l : List ℕ). putAt l far ys) (putAt-more b near xs x (omega arith)))
     ∙ putAt-more (putAt b near (xs ++ x)) far ys y (omega (arith, length-putAt b near (xs ++ x) (omega (arith, length-append xs x))))
 
 -- ---- one number of an array
 two-first : (a b x y : ℕ) (rest : List ℕ) → putAt (a ∷ b ∷ rest) 0 (x ∷ y ∷ []) ≡ x ∷ y ∷ rest
-two-first a b x y rest = put-first a (b ∷ rest) x (y ∷ []) ∙ ap (λ (l : List ℕ). x ∷ l) (put-first b rest y [] ∙ ap (λ (l : List ℕ). y ∷ l) (putAt-none rest 0))
+two-first a b x y rest =
+    put-first a (b ∷ rest) x (y ∷ [])
+    ∙ ap (λ (l : List ℕ). x ∷ l) (put-first b rest y [] ∙ ap (λ (l : List ℕ). y ∷ l) (putAt-none rest 0))
 
 two-later : (a b : ℕ) (rest ys : List ℕ) (i : ℕ) → putAt (a ∷ b ∷ rest) (2 * suc i) ys ≡ a ∷ b ∷ putAt rest (2 * i) ys
 two-later a b rest ys i =
     let further : 2 * suc i ≡ suc (suc (2 * i)) = omega arith in
-    ap (λ (k : ℕ). putAt (a ∷ b ∷ rest) k ys) further ∙ put-later a (b ∷ rest) ys (suc (2 * i)) ∙ ap (λ (l : List ℕ). a ∷ l) (put-later b rest ys (2 * i))
+    ap (λ (k : ℕ). putAt (a ∷ b ∷ rest) k ys) further ∙ put-later a (b ∷ rest) ys (suc (2 * i))
+    ∙ ap (λ (l : List ℕ). a ∷ l) (put-later b rest ys (2 * i))
 
 number-set : (ns : List ℕ) (i v : ℕ) → i < length ns → putAt (u16s ns) (2 * i) (u16Bytes v) ≡ u16s (set ns i v)
 unfolding u16s u16Bytes
@@ -96,4 +104,5 @@ pub number-within : (b ns : List ℕ) (place i v : ℕ) → i < length ns → pl
     → putAt (putAt b place (u16s ns)) (place + 2 * i) (u16Bytes v) ≡ putAt b place (u16s (set ns i v))
 unfolding u16Bytes
 number-within b ns place i v h g =
-    putAt-within b (u16s ns) (u16Bytes v) place (2 * i) (omega (arith, length-u16s ns)) (omega (arith, length-u16s ns)) ∙ ap (putAt b place) (number-set ns i v h)
+    putAt-within b (u16s ns) (u16Bytes v) place (2 * i) (omega (arith, length-u16s ns)) (omega (arith, length-u16s ns))
+    ∙ ap (putAt b place) (number-set ns i v h)

@@ -1,10 +1,11 @@
 -- Numbers and bytes put into a buffer, one after another.
---     Front, front-first, front-next  bytes put to the front of a buffer, and further ones after them
+--     Front, front-next               bytes put to the front of a buffer, and further ones after them
 --     pair-put, head-put, table-put   two numbers; the head of a table; a whole table, part by part
 --     numbers-size                    the length of numbers, as bytes
 --     Written                         pieces of one width, put from a place on by a loop: the invariant
 --     written-none, written-more, written-room, written-all    how it begins, goes on and ends
---     numbers-put, numbers-stored     the pieces are numbers, each in two bytes; each as one entry
+--     numbers-more, numbers-all       the pieces are numbers, each in two bytes
+--     stored-more, stored-all         each as one entry
 -- Assumes nothing.
 use mathlib.Core.List.{List, [], _∷_, _++_, append-assoc}
 use mathlib.Core.Path.{_≡_, refl, sym, ap, ap₂, _∙_, subst}
@@ -12,10 +13,10 @@ use Prim.Native.Nat.{ℕ, zero, suc, _+_, _*_, _≤_, _<_, zero-le}
 use native.Mathlib.Nat.{le-antisymm, mul-le-mul-left, mul-suc, zero-add}
 use native.Mathlib.Numerals.{add-one}
 use native.Mathlib.Omega.{arith}
-use lib.ListN.{length, length-append}
+use lib.ListN.{length, set, length-append}
 use Rattle.run_table.proofs.FormatLaws.{length-entries}
 use Rattle.run_table.proofs.ListLaws.{length-tabulate, rows-length, rows-more, tabulate-more}
-use Rattle.run_table.proofs.NumberLaws.{length-putAt, length-u16s, putAt-more, putAt-none, u16s-append}
+use Rattle.run_table.proofs.NumberLaws.{length-putAt, length-u16s, putAt-more, putAt-none, putAt-one, u16s-append}
 use Rattle.run_table.specs.Format.{encode, receiptsAt, receiptsOf, sendsAt, sendsOf, tableLength}
 use Rattle.run_table.specs.Lists.{rows, tabulate}
 use Rattle.run_table.specs.Numbers.{putAt, u16Bytes, u16s}
@@ -26,12 +27,9 @@ pub record Front (before after bytes : List ℕ) (at : ℕ) : Type 0 where
   pub put : after ≡ putAt before 0 bytes
   pub size : length bytes ≡ at
 
-pub front-first : (before after bytes : List ℕ) (at : ℕ) → after ≡ putAt before 0 bytes → length bytes ≡ at → Front before after bytes at
-front-first before after bytes at put size = record { put = put; size = size }
-
 -- further bytes, put where the last ones end
-pub front-next : {before after bytes : List ℕ} {at : ℕ} → Front before after bytes at → (later more : List ℕ) (next : ℕ) → later ≡ putAt after at more
-    → length more + at ≡ next → next ≤ length before → Front before later (bytes ++ more) next
+pub front-next : {before after bytes : List ℕ} {at : ℕ} → Front before after bytes at → (later more : List ℕ) (next : ℕ)
+    → later ≡ putAt after at more → length more + at ≡ next → next ≤ length before → Front before later (bytes ++ more) next
 front-next {before} {after} {bytes} {at} f later more next put size fits = record {
   put = put ∙ ap₂ (λ (b : List ℕ) (i : ℕ). putAt b i more) (f .put) (sym (f .size) ∙ sym (zero-add (length bytes)))
       ∙ putAt-more before 0 bytes more (omega (arith, f .size));
@@ -42,17 +40,19 @@ front-next {before} {after} {bytes} {at} f later more next put size fits = recor
 pub numbers-size : (n : ℕ) (f : ℕ → ℕ) → length (u16s (tabulate n f)) ≡ 2 * n
 numbers-size n f = length-u16s (tabulate n f) ∙ ap (λ (x : ℕ). 2 * x) (length-tabulate n f)
 
-pub pair-put : (before after later : List ℕ) (at a b : ℕ) → after ≡ putAt before at (u16Bytes a) → later ≡ putAt after (at + 2) (u16Bytes b)
-    → at + 4 ≤ length before → later ≡ putAt before at (u16s (a ∷ b ∷ []))
+-- two numbers
+pub pair-put : (before : List ℕ) (at a b : ℕ) {after later : List ℕ} → at + 4 ≤ length before → after ≡ putAt before at (u16Bytes a)
+    → later ≡ putAt after (at + 2) (u16Bytes b) → later ≡ putAt before at (u16s (a ∷ b ∷ []))
 unfolding u16s u16Bytes
-pair-put before after later at a b first second fits =
+pair-put before at a b fits first second =
     second ∙ ap (λ (l : List ℕ). putAt l (at + 2) (u16Bytes b)) first ∙ putAt-more before at (u16Bytes a) (u16Bytes b) (omega arith)
 
 -- the head of a table: its sizes, and the counts behind them
-pub head-put : (counts : List ℕ) (m : ℕ) (b₀ b₁ b₂ : List ℕ) → sendsAt (length counts) ≤ length b₀ → b₁ ≡ putAt b₀ 0 (u16s (length counts ∷ m ∷ []))
-    → b₂ ≡ putAt b₁ 4 (u16s counts) → b₂ ≡ putAt b₀ 0 (u16s (length counts ∷ m ∷ counts))
+pub head-put : (counts : List ℕ) (m : ℕ) (b₀ : List ℕ) {b₁ b₂ : List ℕ} → sendsAt (length counts) ≤ length b₀
+    → b₁ ≡ putAt b₀ 0 (u16s (length counts ∷ m ∷ [])) → b₂ ≡ putAt b₁ 4 (u16s counts)
+    → b₂ ≡ putAt b₀ 0 (u16s (length counts ∷ m ∷ counts))
 unfolding u16s u16Bytes
-head-put counts m b₀ b₁ b₂ fits first second =
+head-put counts m b₀ fits first second =
     second ∙ ap (λ (b : List ℕ). putAt b 4 (u16s counts)) first
     ∙ putAt-more b₀ 0 (u16s (length counts ∷ m ∷ [])) (u16s counts) (omega (arith, length-u16s counts))
 
@@ -69,9 +69,12 @@ module _ (t : Table) (n m : ℕ) (counts sends receipts : List ℕ) (read-n : n 
       → b₂ ≡ putAt b₁ (sendsAt n) (u16s sends) → b₃ ≡ putAt b₂ (receiptsAt n m) (u16s receipts) → b₃ ≡ putAt b₀ 0 (encode t)
   unfolding processCount messageCount
   table-put b₀ b₁ b₂ b₃ fits w₁ w₂ w₃ =
-      let f₁ = front-first b₀ b₁ (u16s (n ∷ m ∷ counts)) (sendsAt n) w₁ (omega (arith, length-u16s (n ∷ m ∷ counts), ap length is-c)) in
-      let f₂ = front-next f₁ b₂ (u16s sends) (receiptsAt n m) w₂ (omega (arith, length-u16s sends, ap length is-s, length-entries (λ x. x .sender) (λ x. x .sent) (t .messages))) (omega arith) in
-      let f₃ = front-next f₂ b₃ (u16s receipts) (tableLength n m) w₃ (omega (arith, length-u16s receipts, ap length is-r, length-entries (λ x. x .receiver) (λ x. x .received) (t .messages))) (omega arith) in
+      let s = ap length is-s ∙ length-entries (λ x. x .sender) (λ x. x .sent) (t .messages) in
+      let r = ap length is-r ∙ length-entries (λ x. x .receiver) (λ x. x .received) (t .messages) in
+      let c : length (u16s (n ∷ m ∷ counts)) ≡ sendsAt n = omega (arith, length-u16s (n ∷ m ∷ counts), ap length is-c) in
+      let f₁ : Front b₀ b₁ (u16s (n ∷ m ∷ counts)) (sendsAt n) = record { put = w₁; size = c } in
+      let f₂ = front-next f₁ b₂ (u16s sends) (receiptsAt n m) w₂ (omega (arith, length-u16s sends, s)) (omega arith) in
+      let f₃ = front-next f₂ b₃ (u16s receipts) (tableLength n m) w₃ (omega (arith, length-u16s receipts, r)) (omega arith) in
       f₃ .put ∙ ap (putAt b₀ 0) in-groups
 
 -- ---- a loop that puts one piece after another
@@ -93,7 +96,8 @@ module _ (w : ℕ) (piece : ℕ → List ℕ) (n at : ℕ) (before : List ℕ) w
     written-room l = omega (arith, h .room, h .same-length, mul-suc w k, mul-le-mul-left w l)
 
     -- piece k was put at its place
-    pub written-more : k < n → (i : ℕ) (later : List ℕ) → i ≡ at + w * k → later ≡ putAt after i (piece k) → Written w piece n at before later (k + 1)
+    pub written-more : k < n → (i : ℕ) (later : List ℕ) → i ≡ at + w * k → later ≡ putAt after i (piece k)
+        → Written w piece n at before later (k + 1)
     written-more l i later place put =
         let fits : at + w * k + w ≤ length before = omega (arith, written-room l, h .same-length) in
         let so-far = rows-length piece w each k in
@@ -109,21 +113,42 @@ module _ (w : ℕ) (piece : ℕ → List ℕ) (n at : ℕ) (before : List ℕ) w
     pub written-all : n ≤ k → after ≡ putAt before at (rows piece n)
     written-all l = subst (λ (j : ℕ). after ≡ putAt before at (rows piece j)) (le-antisymm (h .within) l) (h .contents)
 
--- numbers as such pieces: in two bytes each, or as they are
+-- ---- numbers as such pieces
+pub two-bytes : (n : ℕ) → length (u16Bytes n) ≡ 2
+unfolding u16Bytes
+two-bytes n = refl
+
 module _ (f : ℕ → ℕ) where
-  pub numbers-put : (n : ℕ) → rows (λ k. u16Bytes (f k)) n ≡ u16s (tabulate n f)
+  numbers-put : (n : ℕ) → rows (λ k. u16Bytes (f k)) n ≡ u16s (tabulate n f)
   unfolding rows tabulate u16s u16Bytes
   numbers-put zero = refl
   numbers-put (suc n) =
       ap (λ (l : List ℕ). l ++ u16Bytes (f n)) (numbers-put n) ∙ sym (u16s-append (tabulate n f) (f n ∷ []))
       ∙ ap u16s (sym (tabulate-more n f) ∙ ap (λ (j : ℕ). tabulate j f) (add-one n))
 
-  pub numbers-stored : (n : ℕ) → rows (λ k. f k ∷ []) n ≡ tabulate n f
+  numbers-stored : (n : ℕ) → rows (λ k. f k ∷ []) n ≡ tabulate n f
   unfolding rows tabulate
   numbers-stored zero = refl
   numbers-stored (suc n) =
       ap (λ (l : List ℕ). l ++ (f n ∷ [])) (numbers-stored n) ∙ sym (tabulate-more n f) ∙ ap (λ (j : ℕ). tabulate j f) (add-one n)
 
-pub two-bytes : (n : ℕ) → length (u16Bytes n) ≡ 2
-unfolding u16Bytes
-two-bytes n = refl
+  module _ {n at : ℕ} {before after : List ℕ} {k : ℕ} where
+    -- in two bytes each
+    module _ (h : Written 2 (λ k. u16Bytes (f k)) n at before after k) where
+      pub numbers-more : k < n → {later : List ℕ} → later ≡ putAt after (at + 2 * k) (u16Bytes (f k))
+          → Written 2 (λ k. u16Bytes (f k)) n at before later (k + 1)
+      numbers-more l put = written-more 2 (λ k. u16Bytes (f k)) n at before (λ k. two-bytes (f k)) after k h l (at + 2 * k) _ refl put
+
+      pub numbers-all : n ≤ k → after ≡ putAt before at (u16s (tabulate n f))
+      numbers-all l =
+          written-all 2 (λ k. u16Bytes (f k)) n at before (λ k. two-bytes (f k)) after k h l ∙ ap (putAt before at) (numbers-put n)
+
+    -- as they are
+    module _ (h : Written 1 (λ k. f k ∷ []) n at before after k) where
+      pub stored-more : k < n → Written 1 (λ k. f k ∷ []) n at before (set after (at + k) (f k)) (k + 1)
+      stored-more l =
+          written-more 1 (λ k. f k ∷ []) n at before (λ k. refl) after k h l (at + k) _ (omega arith)
+          (putAt-one after (at + k) (f k) (omega (arith, h .room, h .same-length)))
+
+      pub stored-all : n ≤ k → after ≡ putAt before at (tabulate n f)
+      stored-all l = written-all 1 (λ k. f k ∷ []) n at before (λ k. refl) after k h l ∙ ap (putAt before at) (numbers-stored n)

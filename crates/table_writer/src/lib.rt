@@ -28,7 +28,8 @@ pub fn put_numbers(buffer: &mut [u8], at: usize, numbers: &[u16])
 pub fn copy_numbers(buffer: &mut [u8], at: usize, part: &[u8], n: usize)
     requires { ⌜ 2 * n ≤ length (now part) ⌝ }
     requires { ⌜ at + 2 * n ≤ length (now buffer) ⌝ }
-    ensures { λ _. ⌜ now (buffer .exit) ≡ putAt (now (buffer .entry)) at (u16s (tabulate n (λ k. u16At (now (part .entry)) (2 * k)))) ⌝ }
+    ensures { λ _. ⌜ now (buffer .exit)
+        ≡ putAt (now (buffer .entry)) at (u16s (tabulate n (λ k. u16At (now (part .entry)) (2 * k)))) ⌝ }
 {
     let mut k = 0;
     while k < n {
@@ -64,7 +65,8 @@ pub fn put_head(buffer: &mut [u8], counts: &[u16], m: usize)
     requires { ⌜ length (now counts) ≤ mostProcesses ⌝ }
     requires { ⌜ m < 65536 ⌝ }
     requires { ⌜ sendsAt (length (now counts)) ≤ length (now buffer) ⌝ }
-    ensures { λ _. ⌜ now (buffer .exit) ≡ putAt (now (buffer .entry)) 0 (u16s (length (now (counts .entry)) ∷ m ∷ now (counts .entry))) ⌝ }
+    ensures { λ _. ⌜ now (buffer .exit)
+        ≡ putAt (now (buffer .entry)) 0 (u16s (length (now (counts .entry)) ∷ m ∷ now (counts .entry))) ⌝ }
 {
     put_entry(buffer, 0, counts.len() as u16, m as u16);
     put_numbers(buffer, COUNTS_AT, counts);

@@ -17,9 +17,6 @@ power-at : (table : List ℕ) → anyBelow 32 (λ p. not (eqb (getD table p 0) (
 power-at table test p h = eqb-true (getD table p 0) (2 ^ p) (passes-below 32 (λ k. eqb (getD table k 0) (2 ^ k)) test p h)
 
 -- the search finds the table in the goal, and computes its test
-returns : tie.Need-returns
-unfolding anyBelow
-returns c = search (needs, power-at)
-
 pub bit-spec : {M : Type 1} → statement M
-bit-spec = tie.close (tie.spec (λ c. search needs) (λ c. search needs) returns)
+unfolding anyBelow
+bit-spec = tie.close (tie.spec (λ c. search needs) (λ c. search needs) (λ c. search (needs, power-at)))

@@ -6,12 +6,10 @@ use Rattle.process_set.proofs.SetLaws.{high-bit-is, no-high-bit-from-32
 use Rattle.process_set.proofs.has_high_bit.Statement.{statement}
 use Rattle.process_set.proofs.has_high_bit.Tie as tie
 
-returns : tie.Need-returns
-returns c = sym (no-high-bit-from-32 (c .before .args .set) (c .before .args .n) (search needs))
-
-returns-2 : tie.Need-returns-2
-returns-2 c =
-    rw (c .bit .ensures) (sym (high-bit-is (c .before .before .args .set) (c .before .before .args .n) (search needs)))
-
 pub has-high-bit-spec : {M : Type 1} → statement M
-has-high-bit-spec = tie.close (tie.spec returns (λ c κs. search needs) returns-2)
+has-high-bit-spec =
+    tie.close
+    (tie.spec
+    (λ c. sym (no-high-bit-from-32 _ _ (c .if1 .taken)))
+    (λ c κs. search needs)
+    (λ c. rw (c .bit .ensures) (sym (high-bit-is _ _ (search needs)))))

@@ -5,8 +5,5 @@ use Rattle.process_set.proofs.SetLaws.{mask-is-member}
 use Rattle.process_set.proofs.is_member.Statement.{statement}
 use Rattle.process_set.proofs.is_member.Tie as tie
 
-returns : tie.Need-returns
-returns c = rw (c .bit .ensures) (mask-is-member (c .before .args .set) (c .before .args .p))
-
 pub is-member-spec : {M : Type 1} → statement M
-is-member-spec = tie.close (tie.spec (λ c κs. search needs) returns)
+is-member-spec = tie.close (tie.spec (λ c κs. search needs) (λ c. rw (c .bit .ensures) (mask-is-member _ _)))

@@ -1,10 +1,9 @@
 -- `copy_numbers` meets its contract: the loop copies one number after another.
 -- Assumes nothing.
 use native.Mathlib.Omega.{arith}
-use mathlib.Core.Path.{ap, _∙_}
 use Prim.Native.Nat.{_-_, _*_}
-use Rattle.table_writer.proofs.WriteLaws.{Written, numbers-put, two-bytes, written-all, written-more, written-none}
-use Rattle.run_table.specs.Numbers.{putAt, u16At, u16Bytes}
+use Rattle.table_writer.proofs.WriteLaws.{Written, numbers-all, numbers-more, written-none}
+use Rattle.run_table.specs.Numbers.{u16At, u16Bytes}
 use Rattle.table_writer.proofs.copy_numbers.Statement.{statement}
 use Rattle.table_writer.proofs.copy_numbers.Tie as tie
 
@@ -14,29 +13,18 @@ Inv-loop buffer₀ at part n k₀ buffer k = Written 2 (λ k. u16Bytes (u16At pa
 abbrev μ-loop : tie.MeasureT-loop
 μ-loop buffer₀ at part n k₀ buffer k = n - k
 
-loop-holds : tie.Need-loop-holds Inv-loop μ-loop
-loop-holds c = written-none _ _ _ _ _ (omega arith)
+-- ---- the places: a turn of the loop, from where its number was read
+abbrev turn : tie.After-u16-at Inv-loop μ-loop → tie.In-loop Inv-loop μ-loop
+turn c = c .before .before
 
-loop-again : tie.Need-loop-again Inv-loop μ-loop
-loop-again c =
-    let read = c .before .before .before in
-    let turn = read .before .before in
-    written-more _ _ _ _ _ (λ k. two-bytes _) _ _ (turn .before .loop .inv) (turn .loop-test .taken) _ _ (omega arith)
-    (rw (read .u16-at .ensures) at (c .before .before .put-u16 .ensures))
-
-same-length : tie.Need-same-length Inv-loop μ-loop
-same-length c = c .before .loop .inv .same-length
-
-returns : tie.Need-returns Inv-loop μ-loop
-returns c = written-all _ _ _ _ _ (λ k. two-bytes _) _ _ (c .before .loop .inv) (c .loop-test .left) ∙ ap (putAt _ _) (numbers-put _ _)
-
+-- ---- the needs, in the code's course
 pub copy-numbers-spec : {M : Type 1} → statement M
 copy-numbers-spec =
     tie.close
     (tie.spec
     Inv-loop
     μ-loop
-    loop-holds
+    (λ c. written-none _ _ _ _ _ (omega arith))
     (λ c. omega arith)
     (λ c. omega arith)
     (λ c. omega arith)
@@ -44,6 +32,9 @@ copy-numbers-spec =
     (λ c κs. omega arith)
     (λ c. omega arith)
     (λ c. omega arith)
-    loop-again
-    same-length
-    returns)
+    (λ c.
+    let put = c .before .before in
+    let read = put .before in
+    numbers-more _ (turn read .before .loop .inv) (turn read .loop-test .taken) (rw (read .u16-at .ensures) at (put .put-u16 .ensures)))
+    (λ c. c .before .loop .inv .same-length)
+    (λ c. numbers-all _ (c .before .loop .inv) (c .loop-test .left)))

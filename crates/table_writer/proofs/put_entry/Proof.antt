@@ -5,11 +5,19 @@ use Rattle.table_writer.proofs.WriteLaws.{pair-put}
 use Rattle.table_writer.proofs.put_entry.Statement.{statement}
 use Rattle.table_writer.proofs.put_entry.Tie as tie
 
-returns : tie.Need-returns
-returns c =
-    let first = c .before .before .before .before .before .before in
-    pair-put _ _ _ _ _ _ (first .put-u16 .ensures) (c .before .before .put-u162 .ensures) (search needs)
+-- ---- the places: where the first number was put, from where the second was
+abbrev first : tie.After-put-u162 → tie.After-put-u16
+first c = c .before .before .before .before
 
+-- ---- the needs, in the code's course
 pub put-entry-spec : {M : Type 1} → statement M
 put-entry-spec =
-    tie.close (tie.spec (λ c κs. search needs) (λ c. search needs) (λ c κs. search needs) (λ c. search needs) returns)
+    tie.close
+    (tie.spec
+    (λ c κs. search needs)
+    (λ c. search needs)
+    (λ c κs. search needs)
+    (λ c. search needs)
+    (λ c.
+    let second = c .before .before in
+    pair-put _ _ _ _ (search needs) (first second .put-u16 .ensures) (second .put-u162 .ensures)))
