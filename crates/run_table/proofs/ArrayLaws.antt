@@ -44,12 +44,12 @@ array-set l i v b small =
     set-tabulate 32 _ _ i v (omega arith) (sym (getD-set-same l i v 0 b)) (λ p other. sym (getD-set-other l i p v 0 other))
 
 -- ---- a list that a loop fills from the front
-pub filled-none : (f : ℕ → ℕ) (before : List ℕ) → Filled f 0 before before
-filled-none f before = record { same-length = refl; front = λ i l. absurd (not-suc-le-zero l); rest = λ i l. refl }
+pub filled-none : {f : ℕ → ℕ} {before : List ℕ} → Filled f 0 before before
+filled-none = record { same-length = refl; front = λ i l. absurd (not-suc-le-zero l); rest = λ i l. refl }
 
-module _ (f : ℕ → ℕ) (k : ℕ) (before after : List ℕ) (w : Filled f k before after) where
-  pub filled-more : (v : ℕ) (later : List ℕ) → v ≡ f k → later ≡ set after k v → Filled f (k + 1) before later
-  filled-more v later e put = rw put record {
+module _ {f : ℕ → ℕ} {k : ℕ} {before after : List ℕ} (w : Filled f k before after) where
+  pub filled-more : {v : ℕ} {later : List ℕ} → v ≡ f k → later ≡ set after k v → Filled f (k + 1) before later
+  filled-more {v} e put = rw put record {
     same-length = length-set after k v ∙ w .same-length;
     front = λ i l inside. by-place i l inside (ℕ-discrete i k);
     rest = λ i l. getD-set-other after k i v 0 (λ same. omega arith) ∙ w .rest i (omega arith);
@@ -60,8 +60,8 @@ module _ (f : ℕ → ℕ) (k : ℕ) (before after : List ℕ) (w : Filled f k b
           subst⁻¹ (λ (x : ℕ). getD (set after k v) x 0 ≡ f x) same (getD-set-same after k v 0 (omega (arith, w .same-length)) ∙ e)
       by-place i l inside (no other) = getD-set-other after k i v 0 other ∙ w .front i (omega arith) inside
 
-  pub filled-all : (n : ℕ) → k ≤ n → n ≤ k → Filled f n before after
-  filled-all n a b = subst (λ (j : ℕ). Filled f j before after) (le-antisymm a b) w
+  pub filled-all : {n : ℕ} → k ≤ n → n ≤ k → Filled f n before after
+  filled-all a b = subst (λ (j : ℕ). Filled f j before after) (le-antisymm a b) w
 
   -- the whole list, where what the loop left alone is f's already
   pub filled-list : ((i : ℕ) → k ≤ i → i < length before → getD before i 0 ≡ f i) → after ≡ tabulate (length before) f
@@ -79,15 +79,15 @@ pub record Filling (f : ℕ → ℕ) (n p : ℕ) (l : List ℕ) : Type 0 where
   pub filled : Filled f p (replicate 32 0) l
 
 pub filling-none : (f : ℕ → ℕ) (n : ℕ) → Filling f n 0 (replicate 32 0)
-filling-none f n = record { within = zero-le; filled = filled-none f (replicate 32 0) }
+filling-none f n = record { within = zero-le; filled = filled-none }
 
 module _ (f : ℕ → ℕ) (n p : ℕ) (l : List ℕ) (h : Filling f n p l) where
   pub filling-more : (v : ℕ) → p < n → v ≡ f p → Filling f n (p + 1) (set l p v)
-  filling-more v b e = record { within = omega arith; filled = filled-more f p (replicate 32 0) l (h .filled) v (set l p v) e refl }
+  filling-more v b e = record { within = omega arith; filled = filled-more (h .filled) e refl }
 
   pub filling-all : n ≤ p → ((q : ℕ) → n ≤ q → f q ≡ 0) → l ≡ tabulate 32 f
   filling-all b beyond =
-      filled-list f p (replicate 32 0) l (h .filled) (λ q c inside. getD-replicate 32 q 0 0 inside ∙ sym (beyond q (omega (arith, h .within))))
+      filled-list (h .filled) (λ q c inside. getD-replicate 32 q 0 0 inside ∙ sym (beyond q (omega (arith, h .within))))
 
 -- the array of a list, where the loop went over its entries
 pub filling-array : (list : List ℕ) (n p : ℕ) (l : List ℕ) → Filling (λ q. getD list q 0) n p l → n ≤ p → n ≡ length list

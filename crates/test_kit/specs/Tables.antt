@@ -34,8 +34,10 @@ dominoPlace m k backward = cond backward (m - 1 - k) k
 
 -- Its message k.
 abbrev pub dominoMessage : ℕ → Bool → ℕ → List ℕ → List ℕ
-dominoMessage m backward k buffer = withMessage buffer (dominoPlace m k backward) (k % 2) (k / 2) (1 - k % 2) ((k + 1) / 2)
+dominoMessage m backward k buffer =
+    withMessage buffer (dominoPlace m k backward) (k % 2) (k / 2) (1 - k % 2) ((k + 1) / 2)
 
 -- The domino.
 unfoldable pub withDomino : List ℕ → ℕ → Bool → List ℕ
-withDomino buffer m backward = each m (dominoMessage m backward) (withCount (withSizes buffer 2 m (m / 2 + 1)) 1 (m / 2))
+withDomino buffer m backward =
+    each m (dominoMessage m backward) (withCount (withSizes buffer 2 m (m / 2 + 1)) 1 (m / 2))

@@ -18,7 +18,8 @@ ghost use lib.ListN.{getD, length, set, take};
 ghost use Rattle.run_table.specs.Arrays.{Filled};
 ghost use Rattle.run_table.specs.Format.{messagesIn, processesIn, tableLength};
 ghost use Rattle.test_kit.specs.Buffers.{AllAre, checksumOf, withNumber};
-ghost use Rattle.test_kit.specs.Tables.{dominoPlace, each, withCount, withDomino, withEntry, withMessage, withSizes};
+ghost use Rattle.test_kit.specs.Tables.{dominoPlace, each, withCount, withDomino, withEntry};
+ghost use Rattle.test_kit.specs.Tables.{withMessage, withSizes};
 
 // The bytes of each buffer of the test programs: more than the largest table has.
 pub const SPACE: usize = 33000;
@@ -160,7 +161,8 @@ pub fn fill(buffer: &mut [u8], value: u8)
 
 // Writes bytes at the front of a buffer.
 pub fn copy(buffer: &mut [u8], bytes: &[u8])
-    ensures { λ _. ⌜ Filled (λ i. getD (now (bytes .entry)) i 0) (length (now (bytes .entry))) (now (buffer .entry)) (now (buffer .exit)) ⌝ }
+    ensures { λ _. ⌜ Filled (λ i. getD (now (bytes .entry)) i 0) (length (now (bytes .entry)))
+        (now (buffer .entry)) (now (buffer .exit)) ⌝ }
 {
     let mut i = 0;
     while i < bytes.len() {

@@ -69,7 +69,8 @@ fn digits_value(text: &[u8], from: usize, to: usize) -> u64
 // The line that starts at a place of the text.
 pub fn line_at(text: &[u8], at: usize) -> Line
     requires { ⌜ at < length (now text) ⌝ }
-    ensures { λ r. ⌜ (at < r .next) × (r .next ≤ length (now (text .entry)) + 1) × (r .count ≤ 16) × (r .code ≡ u16At (now (text .entry)) at) ⌝ }
+    ensures { λ r. ⌜ (at < r .next) × (r .next ≤ length (now (text .entry)) + 1) × (r .count ≤ 16)
+        × (r .code ≡ u16At (now (text .entry)) at) ⌝ }
 {
     let end = line_end(text, at);
     let mut numbers = [0u64; 16];

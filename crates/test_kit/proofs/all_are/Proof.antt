@@ -12,35 +12,28 @@ Inv-loop buffer from to value i₀ i = Tested buffer from value i
 abbrev μ-loop : tie.MeasureT-loop
 μ-loop buffer from to value i₀ i = to - i
 
-loop-holds : tie.Need-loop-holds Inv-loop μ-loop
-loop-holds c = tested-none _ _ _
+-- ---- the places: where the byte is in the buffer, from where it was read
+abbrev inside : tie.After-shared-slice-known Inv-loop μ-loop → tie.Else1 Inv-loop μ-loop
+inside c = c .before
 
-returns : tie.Need-returns Inv-loop μ-loop
-returns c = tested-all _ _ _ _ (c .before .before .loop .inv) _ (λ k a b. omega (arith, c .if1 .taken))
-
-returns-2 : tie.Need-returns-2 Inv-loop μ-loop
-returns-2 c =
-    let inside = c .before .before in
-    let turn = inside .before in
-    tested-another _ _ _ _ (turn .before .loop .inv) _ (turn .loop-test .taken) (inside .if1 .left) (c .if2 .taken)
-
-loop-again : tie.Need-loop-again Inv-loop μ-loop
-loop-again c = tested-more _ _ _ _ (c .before .before .before .before .loop .inv) (c .if2 .left)
-
-returns-3 : tie.Need-returns-3 Inv-loop μ-loop
-returns-3 c = tested-all _ _ _ _ (c .before .loop .inv) _ (λ k a b. omega (arith, c .loop-test .left))
-
+-- ---- the needs, in the code's course
 pub all-are-spec : {M : Type 1} → statement M
 all-are-spec =
     tie.close
     (tie.spec
     Inv-loop
     μ-loop
-    loop-holds
-    returns
+    (λ c. tested-none)
+    -- the end of the buffer
+    (λ c. tested-all (c .before .before .loop .inv) (λ k a b. omega (arith, c .if1 .taken)))
+    -- another value
     (λ c. omega arith)
-    returns-2
+    (λ c.
+    let inside = inside (c .before) in
+    let turn = inside .before in
+    tested-another (turn .before .loop .inv) (turn .loop-test .taken) (inside .if1 .left) (c .if2 .taken))
+    -- the same
     (λ c. omega arith)
     (λ c. omega arith)
-    loop-again
-    returns-3)
+    (λ c. tested-more (inside (c .before) .before .before .loop .inv) (c .if2 .left))
+    (λ c. tested-all (c .before .loop .inv) (λ k a b. omega (arith, c .loop-test .left))))

@@ -6,8 +6,6 @@ use lib.Seq.{set-out}
 use Rattle.test_kit.proofs.byte.Statement.{statement}
 use Rattle.test_kit.proofs.byte.Tie as tie
 
-returns : tie.Need-returns
-returns c = sym (set-out _ _ _ (c .if1 .taken))
-
 pub byte-spec : {M : Type 1} → statement M
-byte-spec = tie.close (tie.spec returns (λ c. search needs) (λ c. search needs) (λ c. search needs))
+byte-spec =
+    tie.close (tie.spec (λ c. sym (set-out _ _ _ (c .if1 .taken))) (λ c. search needs) (λ c. search needs) (λ c. search needs))

@@ -16,32 +16,24 @@ Inv-loop buffer₀ bytes i₀ buffer i = (i ≤ length bytes) × Filled (λ k. g
 abbrev μ-loop : tie.MeasureT-loop
 μ-loop buffer₀ bytes i₀ buffer i = length bytes - i
 
-loop-holds : tie.Need-loop-holds Inv-loop μ-loop
-loop-holds c = (omega arith, filled-none _ _)
+-- ---- the places: a turn of the loop, from where its byte was put
+abbrev turn : tie.After-byte Inv-loop μ-loop → tie.In-loop Inv-loop μ-loop
+turn c = c .before .before .before
 
-loop-again : tie.Need-loop-again Inv-loop μ-loop
-loop-again c =
-    let put = c .before .before in
-    let at-loop = put .before .before .before .before in
-    (omega arith, filled-more _ _ _ _ (at-loop .loop .inv .1) _ _ refl (put .byte .ensures))
-
-same-length : tie.Need-same-length Inv-loop μ-loop
-same-length c = c .before .loop .inv .1 .same-length
-
-returns : tie.Need-returns Inv-loop μ-loop
-returns c = filled-all _ _ _ _ (c .before .loop .inv .1) _ (c .before .loop .inv .0) (c .loop-test .left)
-
+-- ---- the needs, in the code's course
 pub copy-spec : {M : Type 1} → statement M
 copy-spec =
     tie.close
     (tie.spec
     Inv-loop
     μ-loop
-    loop-holds
+    (λ c. (omega arith, filled-none))
     (λ c. omega arith)
     (λ c κs. search needs)
     (λ c. omega arith)
     (λ c. omega arith)
-    loop-again
-    same-length
-    returns)
+    (λ c.
+    let put = c .before .before in
+    (omega arith, filled-more (turn put .before .loop .inv .1) refl (put .byte .ensures)))
+    (λ c. c .before .loop .inv .1 .same-length)
+    (λ c. filled-all (c .before .loop .inv .1) (c .before .loop .inv .0) (c .loop-test .left)))

@@ -1,40 +1,30 @@
 -- `domino` meets its contract: the loop writes one message after another.
 -- Assumes nothing.
 use borrow.Author.Needs.{needs}
-use mathlib.Core.Path.{_≡_, refl}
-use Prim.Native.Nat.{_-_, _≤_}
 use native.Mathlib.Omega.{arith}
-use lib.ListN.{length}
-use Rattle.test_kit.proofs.BufferLaws.{each-all, each-more}
-use Rattle.test_kit.specs.Tables.{dominoMessage, each, withDomino}
+use Prim.Native.Nat.{_-_}
+use Rattle.test_kit.proofs.BufferLaws.{Changing, changing-all, changing-more, changing-none, domino-put}
+use Rattle.test_kit.specs.Tables.{dominoMessage}
 use Rattle.test_kit.proofs.domino.Statement.{statement}
 use Rattle.test_kit.proofs.domino.Tie as tie
 
 abbrev Inv-loop : tie.InvT-loop
-Inv-loop buffer₀ m backward k₀ buffer k = (k ≤ m) × (length buffer ≡ length buffer₀) × (buffer ≡ each k (dominoMessage m backward) buffer₀)
+Inv-loop buffer₀ m backward k₀ buffer k = Changing (dominoMessage m backward) m buffer₀ buffer k
 
 abbrev μ-loop : tie.MeasureT-loop
 μ-loop buffer₀ m backward k₀ buffer k = m - k
 
-loop-holds : tie.Need-loop-holds Inv-loop μ-loop
-unfolding each
-loop-holds c = (omega arith, refl, refl)
+-- ---- the places: where the sizes were put, from where the count was; the count, from the loop; a turn, from where its message was put
+abbrev sized : tie.After-count Inv-loop μ-loop → tie.After-sizes Inv-loop μ-loop
+sized c = c .before .before .before .before
 
-loop-again : tie.Need-loop-again Inv-loop μ-loop
-loop-again c =
-    let placed = c .before .before .before .before in
-    let put = rw (placed .domino-place .ensures) at (c .before .before .message .ensures) in
-    (omega arith, omega arith, each-more _ _ _ _ (placed .before .before .loop .inv .2) _ put)
+abbrev counted : tie.At-loop Inv-loop μ-loop → tie.After-count Inv-loop μ-loop
+counted c = c .before .before .before
 
-returns : tie.Need-returns Inv-loop μ-loop
-unfolding withDomino
-returns c =
-    let at-loop = c .before in
-    let counted = at-loop .before .before .before in
-    let sized = counted .before .before .before .before in
-    let all = each-all _ _ _ _ (at-loop .loop .inv .2) _ (at-loop .loop .inv .0) (c .loop-test .left) in
-    rw (counted .count .ensures, sized .sizes .ensures) at all
+abbrev placed : tie.After-message Inv-loop μ-loop → tie.After-domino-place Inv-loop μ-loop
+placed c = c .before .before
 
+-- ---- the needs, in the code's course
 pub domino-spec : {M : Type 1} → statement M
 domino-spec =
     tie.close
@@ -44,13 +34,19 @@ domino-spec =
     (λ c. search needs)
     (λ c κs. search needs)
     (λ c κs. search needs)
-    loop-holds
+    (λ c. changing-none)
     (λ c κs. search needs)
     (λ c. search needs)
     (λ c. search needs)
     (λ c κs. search needs)
     (λ c. search needs)
     (λ c. search needs)
-    loop-again
+    (λ c.
+    let put = c .before .before in
+    let placed = placed put in
+    changing-more (placed .before .before .loop .inv) (placed .before .loop-test .taken) (omega arith)
+    (rw (placed .domino-place .ensures) at (put .message .ensures)))
     (λ c. search needs)
-    returns)
+    (λ c.
+    let counted = counted (c .before) in
+    domino-put _ _ _ (sized counted .sizes .ensures) (counted .count .ensures) (changing-all (c .before .loop .inv) (c .loop-test .left))))

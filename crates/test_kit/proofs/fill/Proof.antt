@@ -15,28 +15,17 @@ Inv-loop buffer₀ value i₀ buffer i = (i ≤ length buffer₀) × Filled (λ 
 abbrev μ-loop : tie.MeasureT-loop
 μ-loop buffer₀ value i₀ buffer i = length buffer₀ - i
 
-loop-holds : tie.Need-loop-holds Inv-loop μ-loop
-loop-holds c = (omega arith, filled-none _ _)
-
-loop-again : tie.Need-loop-again Inv-loop μ-loop
-loop-again c = (omega arith, filled-more _ _ _ _ (c .before .loop .inv .1) _ _ refl refl)
-
-same-length : tie.Need-same-length Inv-loop μ-loop
-same-length c = c .before .loop .inv .1 .same-length
-
-returns : tie.Need-returns Inv-loop μ-loop
-returns c = filled-all _ _ _ _ (c .before .loop .inv .1) _ (c .before .loop .inv .0) (omega arith)
-
+-- ---- the needs, in the code's course
 pub fill-spec : {M : Type 1} → statement M
 fill-spec =
     tie.close
     (tie.spec
     Inv-loop
     μ-loop
-    loop-holds
+    (λ c. (omega arith, filled-none))
     (λ c. omega arith)
     (λ c. omega arith)
     (λ c. omega arith)
-    loop-again
-    same-length
-    returns)
+    (λ c. (omega arith, filled-more (c .before .loop .inv .1) refl refl))
+    (λ c. c .before .loop .inv .1 .same-length)
+    (λ c. filled-all (c .before .loop .inv .1) (c .before .loop .inv .0) (omega arith)))

@@ -5,11 +5,8 @@ use Rattle.run_table.specs.Format.{messagesIn, processesIn}
 use Rattle.test_kit.proofs.length_of.Statement.{statement}
 use Rattle.test_kit.proofs.length_of.Tie as tie
 
-returns : tie.Need-returns
-unfolding processesIn messagesIn
-returns c = search needs
-
 pub length-of-spec : {M : Type 1} → statement M
+unfolding processesIn messagesIn
 length-of-spec =
     tie.close
     (tie.spec
@@ -18,4 +15,4 @@ length-of-spec =
     (λ c κs. search needs)
     (λ c. search needs)
     (λ c κs. search needs)
-    returns)
+    (λ c. search needs))

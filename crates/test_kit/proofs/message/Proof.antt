@@ -5,15 +5,17 @@ use Rattle.test_kit.proofs.BufferLaws.{message-put}
 use Rattle.test_kit.proofs.message.Statement.{statement}
 use Rattle.test_kit.proofs.message.Tie as tie
 
-returns : tie.Need-returns
-returns c =
-    let second = c .before .before in
-    let first = second .before .before .before .before .before in
-    let read-m = first .before .before .before in
-    let read-n = read-m .before .before in
-    message-put _ _ _ _ _ _ _ _ _ _ _ _ (read-n .u16-or-zero .ensures) (read-m .u16-or-zero2 .ensures) (first .before .sends-at .ensures)
-    (second .before .receipts-at .ensures) (first .entry .ensures) (second .entry2 .ensures)
+-- ---- the places: where N was read, from where M was; M, from where the send was put; the send, from where the receipt was
+abbrev read-n : tie.After-u16-or-zero2 → tie.After-u16-or-zero
+read-n c = c .before .before
 
+abbrev read-m : tie.After-entry → tie.After-u16-or-zero2
+read-m c = c .before .before .before
+
+abbrev sent : tie.After-receipts-at → tie.After-entry
+sent c = c .before .before .before .before
+
+-- ---- the needs, in the code's course
 pub message-spec : {M : Type 1} → statement M
 message-spec =
     tie.close
@@ -23,11 +25,18 @@ message-spec =
     (λ c κs. search needs)
     (λ c. search needs)
     (λ c. search needs)
+    -- its send
     (λ c κs. search needs)
     (λ c. search needs)
     (λ c κs. search needs)
+    -- its receipt
     (λ c κs. search needs)
     (λ c. search needs)
     (λ c κs. search needs)
     (λ c. search needs)
-    returns)
+    (λ c.
+    let received = c .before .before in
+    let sent = sent (received .before) in
+    let m = read-m sent in
+    message-put record { n-is = read-n m .u16-or-zero .ensures; m-is = m .u16-or-zero2 .ensures } _ _ _ _ _ (sent .before .sends-at .ensures)
+    (received .before .receipts-at .ensures) (sent .entry .ensures) (received .entry2 .ensures)))

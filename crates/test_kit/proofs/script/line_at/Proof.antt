@@ -21,18 +21,22 @@ line-at-spec =
     μ-loop
     (λ c κs. search needs)
     (λ c. search needs)
+    -- the next byte is no digit
     (λ c κs. search needs)
     (λ c. search needs)
     (λ c. search needs)
     (λ c. search needs)
+    -- a number, of the first sixteen
     (λ c κs. search needs)
     (λ c. search needs)
     (λ c. search needs)
     (λ c. search needs)
     (λ c. search needs)
     (λ c. search needs)
+    -- a further one
     (λ c. search needs)
     (λ c. search needs)
+    -- the line
     (λ c κs. search needs)
     (λ c. search needs)
     (λ c. search needs))

@@ -16,26 +16,18 @@ Inv-loop numbers smalls₀ i₀ smalls i = Filled (λ k. getD numbers k 0 % 6553
 abbrev μ-loop : tie.MeasureT-loop
 μ-loop numbers smalls₀ i₀ smalls i = 16 - i
 
-loop-holds : tie.Need-loop-holds Inv-loop μ-loop
-loop-holds c = filled-none _ _
-
-loop-again : tie.Need-loop-again Inv-loop μ-loop
-loop-again c = filled-more _ _ _ _ (c .before .before .loop .inv) _ _ (c .small .ensures) refl
-
-returns : tie.Need-returns Inv-loop μ-loop
-returns c = filled-list _ _ _ _ (c .before .loop .inv) (λ i a b. omega (arith, c .loop-test .left))
-
+-- ---- the needs, in the code's course
 pub smalls-spec : {M : Type 1} → statement M
 smalls-spec =
     tie.close
     (tie.spec
     Inv-loop
     μ-loop
-    loop-holds
+    (λ c. filled-none)
     (λ c κs. search needs)
     (λ c. search needs)
     (λ c. search needs)
     (λ c. search needs)
     (λ c. search needs)
-    loop-again
-    returns)
+    (λ c. filled-more (c .before .before .loop .inv) (c .small .ensures) refl)
+    (λ c. filled-list (c .before .loop .inv) (λ i a b. omega (arith, c .loop-test .left))))
