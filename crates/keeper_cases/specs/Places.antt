@@ -8,7 +8,8 @@ use lib.Dec.{eqb, leb, ltb}
 use lib.ListN.{length, getD}
 use Rattle.run_table.specs.Table.{mostProcesses}
 
--- The guards in front of a room; the bytes of the guarded buffer, and of the largest room in it; the numbers of the guarded scratch.
+-- The guards in front of a room; the bytes of the guarded buffer, and of the largest room in it; the numbers of the
+-- guarded scratch.
 abbrev pub guards : ℕ
 guards = 16
 
@@ -21,12 +22,13 @@ mostRoom = spaceSize - 2 * guards
 abbrev pub scratchSize : ℕ
 scratchSize = 1216
 
--- Where the answer of a call that returned a number ends: there is none under a refusal, or if it were longer than its room.
+-- Where the answer of a call that returned a number ends: there is none under a refusal, or if it were longer than its
+-- room.
 unfoldable pub answerEnd : ℕ → ℕ → ℕ → ℕ
 answerEnd number written room = cond (eqb number 0 && leb written room) (guards + written) guards
 
--- How many numbers of the scratch hold lines, of n processes, 32 at most: n of n numbers after a keep sheet, and after the refusal of
--- its buffer; none after another call.
+-- How many numbers of the scratch hold lines, of n processes, 32 at most: n of n numbers after a keep sheet, and after
+-- the refusal of its buffer; none after another call.
 unfoldable pub lineNumbers : Bool → ℕ → ℕ → ℕ
 lineNumbers sheet number n = cond (not sheet || ltb mostProcesses n) 0 (cond (eqb number 0 || eqb number 16) (n * n) 0)
 

@@ -38,7 +38,8 @@ use test_kit::word;
 ghost use mathlib.Core.Path.{_≡_};
 ghost use Prim.Native.Nat.{_+_, _-_, _≤_};
 ghost use lib.ListN.{drop, length, take};
-ghost use Rattle.keeper_cases.specs.Places.{Guarded, answerEnd, guards, lineNumbers, mostRoom, scratchSize, spaceSize};
+ghost use Rattle.keeper_cases.specs.Places.{Guarded, answerEnd, lineNumbers};
+ghost use Rattle.keeper_cases.specs.Places.{guards, mostRoom, scratchSize, spaceSize};
 
 // What `ask` answers of a line that asks for no call: no refusal has this number.
 const NO_CALL: u32 = 4294967295;

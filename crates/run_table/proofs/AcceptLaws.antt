@@ -1,5 +1,5 @@
 -- An accepted table's facts.
---     accepted, refusal-zero         the refusal is 0 just when the table is accepted
+--     facts, refusal-zero            the refusal is 0 just when the table is accepted
 --     numbers-fit                    a well formed table within the limits fits 16 bits
 --     accepted-encode, reread        such a table, written, is accepted and is read as it was
 --     rewritten                      an accepted table's bytes, read and written again
@@ -12,7 +12,7 @@ use native.Mathlib.Omega.{arith}
 use borrow.Author.Tests.{eq-eqb, eqb-false, eqb-true, le-ltb, leb-false, ltb-false, lt-leb, ne-eqb, not-false}
 use lib.Dec.{eqb, leb, ltb}
 use lib.ListN.{length}
-use Rattle.run_table.proofs.CheckLaws.{caughtBy, length-checked, long-enough, messages-checked, passed, processes-checked}
+use Rattle.run_table.proofs.CheckLaws.{caughtBy, length-checked, messages-checked, not-short, passed, processes-checked}
 use Rattle.run_table.proofs.CheckLaws.{quiet-none, quiet-number, table-refusals}
 use Rattle.run_table.proofs.CodingLaws.{AreBytes, Fits16, decode-encode, encode-decode}
 use Rattle.run_table.proofs.FormatLaws.{decode-messages, decode-processes, encode-length, sizes-in}
@@ -147,7 +147,7 @@ module _ (bytes : List ℕ) where
     refusal-zero =
         let w = a .well-formed in
         let good = w .good-messages in
-        passed _ _ _ (long-enough bytes (omega (arith, whole)))
+        passed _ _ _ (not-short bytes (omega (arith, whole)))
         (passed _ _ _ processes-good
         (passed _ _ _ messages-good
         (passed _ _ _ length-good

@@ -2,7 +2,7 @@
 --     passed, stopped, quiet-none     the first check of a list that catches
 --     quiet-cons, caughtBy, quiet-number    none of a list catches, it is quiet: its first check, and the check of any number
 --     append-stopped, append-passed, caught-first, quiet-front    further checks behind a list
---     long-enough, processes-checked, messages-checked, length-checked    checks 1 to 4, by the sizes that the code read
+--     not-short, processes-checked, messages-checked, length-checked    checks 1 to 4, by the sizes that the code read
 --     refused-short .. refused-parts  the refusal, as the code finds it; checks 5 to 9 on the parts are the document's, on the decoded table
 -- Assumes nothing.
 use mathlib.Core.Bool.{Bool, true, false, cond, not, _&&_, _||_}
@@ -197,9 +197,9 @@ module _ (bytes : List ℕ) where
 
 -- ---- the refusal of bytes, in the code's course
 module _ (bytes : List ℕ) where
-  pub long-enough : 4 ≤ length bytes → tooShort bytes ≡ false
+  pub not-short : 4 ≤ length bytes → tooShort bytes ≡ false
   unfolding tooShort
-  long-enough l = le-ltb (length bytes) 4 l
+  not-short l = le-ltb (length bytes) 4 l
 
   pub refused-short : length bytes < 4 → 1 ≡ tableRefusal bytes
   unfolding tableRefusal tableChecks tooShort
@@ -222,13 +222,13 @@ module _ {bytes : List ℕ} {n m : ℕ} (read : ReadSizes bytes n m) where
   module _ (long : 4 ≤ length bytes) where
     pub refused-processes : outside mostProcesses n ≡ true → 2 ≡ tableRefusal bytes
     unfolding tableRefusal tableChecks
-    refused-processes out = sym (passed _ _ _ (long-enough bytes long) (stopped _ _ (processes-checked ∙ out)))
+    refused-processes out = sym (passed _ _ _ (not-short bytes long) (stopped _ _ (processes-checked ∙ out)))
 
     module _ (some : outside mostProcesses n ≡ false) where
       pub refused-messages : mostMessages < m → 3 ≡ tableRefusal bytes
       unfolding tableRefusal tableChecks
       refused-messages many =
-          sym (passed _ _ _ (long-enough bytes long) (passed _ _ _ (processes-checked ∙ some)
+          sym (passed _ _ _ (not-short bytes long) (passed _ _ _ (processes-checked ∙ some)
           (stopped _ _ (messages-checked ∙ lt-ltb mostMessages m many))))
 
       module _ (few : m ≤ mostMessages) {size : ℕ} (is-size : size ≡ tableLength n m) where
@@ -236,7 +236,7 @@ module _ {bytes : List ℕ} {n m : ℕ} (read : ReadSizes bytes n m) where
         unfolding tableRefusal tableChecks
         refused-length other =
             let wrong = ap not (ne-eqb (length bytes) (tableLength n m) (λ e. other (e ∙ sym is-size))) in
-            sym (passed _ _ _ (long-enough bytes long) (passed _ _ _ (processes-checked ∙ some)
+            sym (passed _ _ _ (not-short bytes long) (passed _ _ _ (processes-checked ∙ some)
             (passed _ _ _ (messages-checked ∙ le-ltb mostMessages m few) (stopped _ _ (length-checked ∙ wrong)))))
 
         -- the parts as the code takes them, from a start to an end
@@ -250,5 +250,5 @@ module _ {bytes : List ℕ} {n m : ℕ} (read : ReadSizes bytes n m) where
             let receipts : length bytes - r ≡ 4 * m = omega arith in
             let right = ap not (eq-eqb (length bytes) (tableLength n m) (whole ∙ is-size)) in
             rw (counts, sends, receipts, is-s, is-r, read .n-is, read .m-is)
-            (sym (parts-refusal bytes (long-enough bytes long) (processes-checked ∙ some) (messages-checked ∙ le-ltb mostMessages m few)
+            (sym (parts-refusal bytes (not-short bytes long) (processes-checked ∙ some) (messages-checked ∙ le-ltb mostMessages m few)
             (length-checked ∙ right)))

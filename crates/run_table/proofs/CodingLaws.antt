@@ -1,7 +1,8 @@
 -- Reading and writing a table undo each other.
---     decode-encode      a table whose numbers fit 16 bits, written and read again
---     encode-decode      bytes whose length is right, read and written again
---     entries-append, entries-tabulate     the numbers of one array
+--     message-path, table-path             messages and tables are equal by their parts
+--     decode-encode      a table whose numbers fit 16 bits (Fits16), written and read again
+--     encode-decode      bytes (AreBytes) whose length is right, read and written again
+--     entries-append, entries-tabulate, even-number, odd-number     the numbers of one array
 --     counts-numbers, sends-numbers, receipts-numbers    the numbers of the parts are those of the decoded table
 -- Assumes nothing.
 use mathlib.Core.List.{List, [], _∷_, _++_, append-nil}

@@ -124,4 +124,4 @@ module _ {checks : List MessageCheck} {m : ℕ} where
   -- a loop that leaves at the first message that a check catches
   module _ {k : ℕ} (w : Looked checks m k (length checks)) where
     pub looked-first : (k < m → firstPlace (checksAt checks k) ≡ length checks → ⊥) → FirstMessage checks m k
-    looked-first caught = record { within = w .within; before = w .found; caught = caught }
+    looked-first caught = record { within = w .within; quiet = w .found; caught = caught }

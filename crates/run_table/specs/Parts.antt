@@ -55,10 +55,10 @@ unfoldable pub firstPlace : List Check → ℕ
 firstPlace [] = 0
 firstPlace (c ∷ rest) = cond (c .caught) 0 (suc (firstPlace rest))
 
--- k is the first of m messages that one of such checks catches, or m.
+-- k is the first of m messages that such a check catches, or m.
 pub record FirstMessage (checks : List MessageCheck) (m k : ℕ) : Type 0 where
   pub within : k ≤ m
-  pub before : length checks ≡ firstPlace (checksBelow checks k)
+  pub quiet : length checks ≡ firstPlace (checksBelow checks k)
   pub caught : k < m → firstPlace (checksAt checks k) ≡ length checks → ⊥
 
 -- Checks 5 to 9, on the parts of a table of n processes and m messages.

@@ -12,9 +12,9 @@ use Rattle.test_kit.specs.Buffers.{AllAre}
 use Rattle.keeper_cases.proofs.is_guarded.Statement.{statement}
 use Rattle.keeper_cases.proofs.is_guarded.Tie as tie
 
-module _ (buffer : List ℕ) (from to : ℕ) (a : Bool) (front : AllAre buffer 0 from 165 a) where
-  both : a ≡ true → (b : Bool) → AllAre buffer to (length buffer) 165 b → Guarded buffer from to b
-  both e b behind = record {
+module _ {buffer : List ℕ} {from to : ℕ} {a : Bool} (front : AllAre buffer 0 from 165 a) where
+  both : a ≡ true → {b : Bool} → AllAre buffer to (length buffer) 165 b → Guarded buffer from to b
+  both e behind = record {
     kept = λ e′ i place l. ⊎-elim (λ h. front .all e i zero-le h l) (λ h. behind .all e′ i h l l) place;
     changed = λ e′.
         let other = behind .another e′ in
@@ -29,11 +29,11 @@ module _ (buffer : List ℕ) (from to : ℕ) (a : Bool) (front : AllAre buffer 0
         (other .0, inl (other .2), other .3, other .4);
   }
 
-returns : tie.Need-returns
-returns c = both _ _ _ _ (c .before .before .all-are .ensures) (c .before .if1 .taken) _ (c .all-are2 .ensures)
-
-returns-2 : tie.Need-returns-2
-returns-2 c = first-changed _ _ _ _ (c .before .all-are .ensures) (c .if1 .left)
-
 pub is-guarded-spec : {M : Type 1} → statement M
-is-guarded-spec = tie.close (tie.spec (λ c κs. search needs) (λ c κs. search needs) returns returns-2)
+is-guarded-spec =
+    tie.close
+    (tie.spec
+    (λ c κs. search needs)
+    (λ c κs. search needs)
+    (λ c. both (c .before .before .all-are .ensures) (c .before .if1 .taken) (c .all-are2 .ensures))
+    (λ c. first-changed (c .before .all-are .ensures) (c .if1 .left)))

@@ -6,23 +6,23 @@ use borrow.Author.Needs.{needs}
 use Rattle.listing.proofs.main.Statement.{statement}
 use Rattle.listing.proofs.main.Tie as tie
 
-array-share-prefix-text : tie.Need-array-share-prefix-text
-array-share-prefix-text c = size-inside _ (c .before .keeper-listing .ensures .0) (c .before .keeper-listing .ensures .1) (lit≤ tt)
-
-slice-aggregate-write-all : tie.Need-slice-aggregate-write-all
-slice-aggregate-write-all c = size-taken _ (c .before .before .keeper-listing .ensures .0) (c .before .before .keeper-listing .ensures .1) (lit≤ tt)
-
 pub main-spec : {M : Type 1} → statement M
 main-spec =
     tie.close
     (tie.spec
+    -- the table
     (λ c. search needs)
     (λ c κs. search needs)
     (λ c. search needs)
     (λ c. search needs)
     (λ c. search needs)
     (λ c κs. search needs)
-    array-share-prefix-text
-    slice-aggregate-write-all
+    -- its listing
+    (λ c.
+    let listed = c .before .keeper-listing .ensures in
+    size-inside _ (listed .0) (listed .1) (lit≤ tt))
+    (λ c.
+    let listed = c .before .before .keeper-listing .ensures in
+    size-taken _ (listed .0) (listed .1) (lit≤ tt))
     (λ c κs. search needs)
     (λ c. search needs))

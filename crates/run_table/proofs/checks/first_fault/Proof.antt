@@ -25,7 +25,7 @@ first-fault-spec =
     Inv-loop
     μ-loop
     (λ c κs. omega arith)
-    (λ c. record { within = c .first-caught .ensures .within; found = c .first-caught .ensures .before })
+    (λ c. record { within = c .first-caught .ensures .within; found = c .first-caught .ensures .quiet })
     (λ c κs. omega arith)
     (λ c. omega arith)
     -- the first place stays, or is the message's
