@@ -1,8 +1,7 @@
 -- The lines that the code finds, as arrays of 32 numbers.
 --     array-line                 the line under an array is the array of the line
---     height-in, height-beyond   how high a process may stand, entry by entry
---     ceiling-needs, ceiling-read    the ceiling of a set in an accepted table, from what the code read
---     lower-needs, line-read         the line under a ceiling, likewise
+--     height-in .. height-read   how high a process may stand, entry by entry
+--     ceiling-read, line-read    the ceiling of a set in an accepted table, and the line under one, from what the code read
 --     set-read, set-front        the line of a set, under its ceiling; the numbers of an answer
 --     all-hold                   the set of all 32 bits gives the recovery line
 -- Assumes nothing.
@@ -26,13 +25,13 @@ use Rattle.process_set.specs.Sets.{allProcesses, member}
 use Rattle.run_table.proofs.FormatLaws.{count-beyond, decode-messages}
 use Rattle.run_table.proofs.ArrayLaws.{array-at, array-front, array-length}
 use Rattle.run_table.proofs.ListLaws.{tabulate-ext}
-use Rattle.run_table.proofs.ReadLaws.{count-is, counts-positive, counts-size, processes-few, receipts-size, receivers-known, senders-known, sends-size}
+use Rattle.run_table.proofs.ReadLaws.{ReadMessages, count-is, processes-few}
 use Rattle.run_table.specs.Arrays.{arrayOf}
 use Rattle.run_table.specs.Checks.{tableRefusal}
-use Rattle.run_table.specs.Format.{countAt, countsPart, decode, messageAt, processAt, receiptsPart, sendsPart}
+use Rattle.run_table.specs.Format.{countAt, countsPart, decode}
 use Rattle.run_table.specs.Lists.{tabulate}
 use Rattle.run_table.specs.Numbers.{u16At}
-use Rattle.run_table.specs.Table.{Message, countOf, messageCount, processCount}
+use Rattle.run_table.specs.Table.{Message, countOf, processCount}
 
 pub array-line : (ms : List Message) (c : List ℕ) → length c ≤ 32 → lineUnder ms (arrayOf c) ≡ arrayOf (lineUnder ms c)
 array-line ms c small =
@@ -50,10 +49,10 @@ module _ (n set : ℕ) (counts : List ℕ) (p : ℕ) where
   height-beyond l = rw (le-ltb p n l)
 
 -- from the numbers that the code read
-pub height-read : (n set : ℕ) (counts : List ℕ) (p count r : ℕ) (holds : Bool) → p < n → count ≡ u16At counts (2 * p) → holds ≡ member set p
-    → r ≡ cond holds (count - 1) count → r ≡ heightAt n set counts p
+pub height-read : (counts : List ℕ) {n p count : ℕ} → p < n → count ≡ u16At counts (2 * p)
+    → (set : ℕ) {holds : Bool} {r : ℕ} → holds ≡ member set p → r ≡ cond holds (count - 1) count → r ≡ heightAt n set counts p
 unfolding countAt
-height-read n set counts p count r holds l read is-held e =
+height-read counts {n} {p} l read set is-held e =
     e ∙ ap₂ (λ (b : Bool) (c : ℕ). cond b (c - 1) c) is-held read ∙ sym (height-in n set counts p l)
 
 -- ---- the line that the code finds in an accepted table
@@ -73,35 +72,10 @@ module _ (bytes : List ℕ) (accepted : tableRefusal bytes ≡ 0) where
           height-beyond N set (countsPart bytes) p (omega arith)
           ∙ sym (all-zero (member set p) (countOf (decode bytes) p) (count-beyond (decode bytes) p (omega arith)))
 
-  -- the ceiling: what the code must show of what it read, and what it has found
-  module _ (n : ℕ) (counts : List ℕ) (read-n : n ≡ N) (read-c : counts ≡ countsPart bytes) where
-    pub ceiling-needs : (n ≤ 32) × ((length counts ≡ 2 * n) × ((p : ℕ) → p < n → 0 < countAt counts p))
-    ceiling-needs = rw (read-n, read-c) (processes-few bytes accepted, (counts-size bytes accepted, counts-positive bytes accepted))
-
-    pub ceiling-read : (set : ℕ) → tabulate 32 (heightAt n set counts) ≡ arrayOf (ceilingOf (decode bytes) (member set))
-    unfolding arrayOf
-    ceiling-read set = rw (read-n, read-c) (tabulate-ext 32 _ _ (λ p _. height-is set p))
-
-  messages-found : messagesOf (messageCount (decode bytes)) (sendsPart bytes) (receiptsPart bytes) ≡ decode bytes .messages
-  unfolding messagesOf decode
-  messages-found = ap (λ (m : ℕ). tabulate m (messageAt (sendsPart bytes) (receiptsPart bytes))) (decode-messages bytes)
-
-  -- the line: the same
-  module _ (m : ℕ) (sends receipts : List ℕ) (read-m : m ≡ messageCount (decode bytes)) (read-s : sends ≡ sendsPart bytes)
-      (read-r : receipts ≡ receiptsPart bytes) where
-    pub lower-needs : (length sends ≡ 4 * m)
-        × ((length receipts ≡ 4 * m) × (((k : ℕ) → k < m → processAt sends k < 32) × ((k : ℕ) → k < m → processAt receipts k < 32)))
-    lower-needs =
-        rw (read-m, read-s, read-r) (
-          sends-size bytes accepted,
-          (
-            receipts-size bytes accepted,
-            ((λ k l. omega (arith, senders-known bytes accepted k l, processes-few bytes accepted)), (λ k l. omega (arith, receivers-known bytes accepted k l, processes-few bytes accepted))),
-          ),
-        )
-
-    pub line-read : (ceiling : List ℕ) → lineUnder (messagesOf m sends receipts) ceiling ≡ lineUnder (decode bytes .messages) ceiling
-    line-read ceiling = rw (read-m, read-s, read-r, messages-found)
+  pub ceiling-read : {n : ℕ} {counts : List ℕ} → n ≡ N → counts ≡ countsPart bytes
+      → (set : ℕ) → tabulate 32 (heightAt n set counts) ≡ arrayOf (ceilingOf (decode bytes) (member set))
+  unfolding arrayOf
+  ceiling-read n-is counts-are set = rw (n-is, counts-are) (tabulate-ext 32 _ _ (λ p _. height-is set p))
 
   -- the line of a set, under its ceiling; the numbers of an answer
   module _ (set : ℕ) where
@@ -116,6 +90,11 @@ module _ (bytes : List ℕ) (accepted : tableRefusal bytes ≡ 0) where
     set-front line e =
         let size = set-length (decode bytes) (member set) in
         array-front (lineOf (decode bytes) (member set)) line N e (sym size) (subst⁻¹ (λ (x : ℕ). x ≤ 32) size (processes-few bytes accepted))
+
+pub line-read : {bytes : List ℕ} {m : ℕ} {sends receipts : List ℕ} → ReadMessages bytes m sends receipts
+    → (ceiling : List ℕ) → lineUnder (messagesOf m sends receipts) ceiling ≡ lineUnder (decode bytes .messages) ceiling
+unfolding messagesOf decode
+line-read {bytes} read ceiling = rw (read .m-is, read .sends-are, read .receipts-are, decode-messages bytes)
 
 pub all-hold : (bytes : List ℕ) → tableRefusal bytes ≡ 0 → lineOf (decode bytes) (member allProcesses) ≡ recoveryLine (decode bytes)
 unfolding recoveryLine lineOf ceilingOf

@@ -1,9 +1,9 @@
 -- The processes from which a rollback propagates, as the loop of `propagation::propagating` finds them.
 --     Seen                            the loop's invariant
---     seen-none, seen-skips, seen-marks, seen-all    how it begins, goes over a message, marks its sender, and ends
---     Parts, counts-length, ..        the parts of an accepted table, as the code read them
---     sender-is, sender-known, count-positive        the numbers that it read of a message
---     sent-before, undelivered, orphaned-here        what its tests say of that message
+--     seen-none, seen-all             how it begins and ends
+--     sender-known                    the sender of the next message
+--     Next                            the loop at its next message, whose send was read, with the count of its sender
+--     count-positive, skips-sent-before, skips-undelivered, seen-marks    what its tests say of that message
 --     line-is-ceiling                 the line of a set is its ceiling, where a rollback of none of its members propagates
 --     holder-ceiling                  the line of one process from which no rollback propagates is its ceiling
 -- Assumes nothing.
@@ -16,7 +16,7 @@ use native.Mathlib.Numerals.{add-one}
 use native.Mathlib.Omega.{arith}
 use borrow.Author.Tests.{eqb-true, eq-eqb, ne-eqb, le-leb, lt-leb, lt-ltb}
 use lib.Dec.{eqb, leb, ltb}
-use lib.ListN.{length, set, replicate}
+use lib.ListN.{set, replicate}
 use Rattle.consistency.proofs.CeilingLaws.{ceiling-at, orphan-in}
 use Rattle.consistency.proofs.LoweringLaws.{line-consistent}
 use Rattle.consistency.specs.Ceilings.{Holders, ceilingOf, lineOf}
@@ -26,108 +26,117 @@ use Rattle.process_set.proofs.SetLaws.{member-one}
 use Rattle.process_set.specs.Sets.{member}
 use Rattle.run_table.proofs.AcceptLaws.{facts}
 use Rattle.run_table.proofs.ListLaws.{anyBelow-found, set-tabulate, tabulate-ext}
-use Rattle.run_table.proofs.ReadLaws.{count-is, counts-size, message-good, receipts-size, received-read, sender-read, sends-size, sent-read}
+use Rattle.run_table.proofs.ReadLaws.{ReadMessages, count-is, counts-known, good, received-is, sender-is, sender-small, sent-is}
 use Rattle.run_table.specs.Checks.{WellFormed, tableRefusal}
-use Rattle.run_table.specs.Format.{countAt, countsPart, decode, receiptsPart, sendsPart}
+use Rattle.run_table.specs.Format.{countAt, countsPart, decode}
 use Rattle.run_table.specs.Lists.{anyBelow, tabulate}
 use Rattle.run_table.specs.Numbers.{u16At}
+use Rattle.run_table.specs.Parts.{Counts}
 use Rattle.run_table.specs.Table.{Table, countOf, messageCount, messageOf, processCount}
 
-module _ (t : Table) where
-  -- process p sent message k, which a rollback of p orphans
-  abbrev orphans : ℕ → ℕ → Bool
-  orphans p k = eqb (messageOf t k .sender) p && orphaned t (messageOf t k)
+-- process p sent message k, which a rollback of p orphans
+abbrev orphans : Table → ℕ → ℕ → Bool
+orphans t p k = eqb (messageOf t k .sender) p && orphaned t (messageOf t k)
 
-  -- The loop has gone over the first k messages, and marked each process that sent one of them that a rollback of it orphans.
-  pub record Seen (found : List Bool) (k : ℕ) : Type 0 where
-    pub within : k ≤ messageCount t
-    pub marks : found ≡ tabulate 32 (λ p. anyBelow k (orphans p))
+-- ---- a loop that marks the senders of such messages
+-- It has gone over the first k messages, and marked each process that sent one of them that a rollback of it orphans.
+pub record Seen (table : List ℕ) (m : ℕ) (counts sends receipts : List ℕ) (found : List Bool) (k : ℕ) : Type 0 where
+  pub read : ReadMessages table m sends receipts
+  pub counts-are : counts ≡ countsPart table
+  pub known : Counts (processCount (decode table)) counts
+  pub within : k ≤ m
+  pub marks : found ≡ tabulate 32 (λ p. anyBelow k (orphans (decode table) p))
 
-  pub seen-none : Seen (replicate 32 false) 0
-  unfolding anyBelow tabulate
-  seen-none = record { within = zero-le; marks = refl }
+pub seen-none : {table : List ℕ} {m : ℕ} {counts sends receipts : List ℕ} → ReadMessages table m sends receipts → counts ≡ countsPart table
+    → Seen table m counts sends receipts (replicate 32 false) 0
+unfolding anyBelow tabulate
+seen-none read are = record { read = read; counts-are = are; known = counts-known _ (read .accepted) refl are; within = zero-le; marks = refl }
 
-  module _ (found : List Bool) (k : ℕ) (s : Seen found k) where
-    module _ (l : k < messageCount t) where
-      same : (p : ℕ) → orphans p k ≡ false → anyBelow k (orphans p) ≡ anyBelow (k + 1) (orphans p)
-      unfolding anyBelow
-      same p e = rw (add-one k, e)
+module _ {table : List ℕ} {m : ℕ} {counts sends receipts : List ℕ} {found : List Bool} {k : ℕ} (w : Seen table m counts sends receipts found k) where
+  abbrev t : Table
+  t = decode table
 
-      pub seen-skips : orphaned t (messageOf t k) ≡ false → Seen found (k + 1)
-      seen-skips e = record {
-        within = omega arith;
-        marks = s .marks ∙ tabulate-ext 32 _ _ (λ p _. same p (rw e (and-false (eqb (messageOf t k .sender) p))));
-      }
+  pub seen-all : m ≤ k → found ≡ tabulate 32 (propagatesFrom t)
+  unfolding propagatesFrom
+  seen-all l = w .marks ∙ ap (λ (j : ℕ). tabulate 32 (λ p. anyBelow j (orphans t p))) (le-antisymm (w .within) l ∙ w .read .m-is)
 
-      pub seen-marks : (sender : ℕ) → sender ≡ messageOf t k .sender → sender < 32 → orphaned t (messageOf t k) ≡ true → Seen (set found sender true) (k + 1)
-      seen-marks sender is b e = record {
-        within = omega arith;
-        marks =
-            ap (λ (f : List Bool). set f sender true) (s .marks)
-            ∙ set-tabulate 32 _ _ sender true b
-            (sym (anyBelow-found (orphans sender) (k + 1) k (omega arith) (rw (eq-eqb (messageOf t k .sender) sender (sym is), e))))
-            (λ p other. same p (rw (ne-eqb (messageOf t k .sender) p (λ q. other (sym q ∙ sym is)))));
-      }
+  pub sender-known : k < m → {j : ℕ} → j ≡ u16At sends (4 * k) → j < processCount t
+  sender-known l e = omega (arith, sender-is (w .read) l e, good (w .read) l .sender-known)
 
-    pub seen-all : messageCount t ≤ k → found ≡ tabulate 32 (propagatesFrom t)
-    unfolding propagatesFrom
-    seen-all l = s .marks ∙ ap (λ (j : ℕ). tabulate 32 (λ p. anyBelow j (orphans p))) (le-antisymm (s .within) l)
+-- The next message, number k: its send was read, and the count of its sender.
+pub record Next (table : List ℕ) (m : ℕ) (counts sends receipts : List ℕ) (found : List Bool) (k j y count : ℕ) : Type 0 where
+  pub seen : Seen table m counts sends receipts found k
+  pub more : k < m
+  pub sender : j ≡ u16At sends (4 * k)
+  pub sent : y ≡ u16At sends (4 * k + 2)
+  pub count-read : count ≡ u16At counts (2 * j)
 
--- ---- what the code read
--- The parts of an accepted table, as the code read them.
-pub record Parts (bytes counts sends receipts : List ℕ) : Type 0 where
-  pub accepted : tableRefusal bytes ≡ 0
-  pub read-c : counts ≡ countsPart bytes
-  pub read-s : sends ≡ sendsPart bytes
-  pub read-r : receipts ≡ receiptsPart bytes
-
-module _ {bytes counts sends receipts : List ℕ} (parts : Parts bytes counts sends receipts) where
-  pub counts-length : length counts ≡ 2 * processCount (decode bytes)
-  counts-length = ap length (parts .read-c) ∙ counts-size bytes (parts .accepted)
-
-  pub sends-length : length sends ≡ 4 * messageCount (decode bytes)
-  sends-length = ap length (parts .read-s) ∙ sends-size bytes (parts .accepted)
-
-  pub receipts-length : length receipts ≡ 4 * messageCount (decode bytes)
-  receipts-length = ap length (parts .read-r) ∙ receipts-size bytes (parts .accepted)
-
--- a message, from the numbers that the code read
-module _ {bytes counts sends receipts : List ℕ} (parts : Parts bytes counts sends receipts)
-    {k : ℕ} (l : k < messageCount (decode bytes)) {sender : ℕ} (read-sender : sender ≡ u16At sends (4 * k)) where
+module _ {table : List ℕ} {m : ℕ} {counts sends receipts : List ℕ} {found : List Bool} {k j y count : ℕ}
+    (x : Next table m counts sends receipts found k j y count) where
   abbrev T : Table
-  T = decode bytes
+  T = decode table
 
-  pub sender-is : sender ≡ messageOf T k .sender
-  sender-is = sender-read bytes (parts .accepted) k l sends sender (parts .read-s) read-sender
+  is-sender : j ≡ messageOf T k .sender
+  is-sender = sender-is (x .seen .read) (x .more) (x .sender)
 
-  pub sender-known : sender < processCount T
-  sender-known = omega (arith, sender-is, message-good bytes (parts .accepted) k l .sender-known)
+  in-table : j < processCount T
+  in-table = sender-known (x .seen) (x .more) (x .sender)
 
-  module _ {count sent : ℕ} (read-count : count ≡ u16At counts (2 * sender)) (read-sent : sent ≡ u16At sends (4 * k + 2)) where
-    count-of : count ≡ countOf T sender
-    unfolding countAt
-    count-of = read-count ∙ ap (λ (part : List ℕ). u16At part (2 * sender)) (parts .read-c) ∙ count-is bytes (parts .accepted) sender sender-known
+  count-of : count ≡ countOf T j
+  unfolding countAt
+  count-of =
+      x .count-read ∙ ap (λ (part : List ℕ). u16At part (2 * j)) (x .seen .counts-are)
+      ∙ count-is table (x .seen .read .accepted) j in-table
 
-    pub count-positive : 0 < count
-    count-positive = omega (arith, count-of, facts bytes (parts .accepted) .well-formed .some-checkpoint sender sender-known)
+  pub count-positive : 0 < count
+  unfolding countAt
+  count-positive = omega (arith, x .count-read, x .seen .known .positive j in-table)
 
-    -- with the receipt number, as it was read or is in the part
-    orphaned-is : (received : ℕ) → received ≡ u16At receipts (4 * k + 2) → orphaned T (messageOf T k) ≡ (leb (count - 1) sent && ltb 0 received)
-    unfolding orphaned
-    orphaned-is received e =
-        let r = received-read bytes (parts .accepted) k l receipts received (parts .read-r) e in
-        let y = sent-read bytes (parts .accepted) k l sends sent (parts .read-s) read-sent in
-        rw (← r, ← y, ← sender-is, ← count-of)
+  -- with the receipt number, as it was read or is in the part
+  orphaned-is : (r : ℕ) → r ≡ u16At receipts (4 * k + 2) → orphaned T (messageOf T k) ≡ (leb (count - 1) y && ltb 0 r)
+  unfolding orphaned
+  orphaned-is r e =
+      let received = received-is (x .seen .read) (x .more) e in
+      let sent = sent-is (x .seen .read) (x .more) (x .sent) in
+      rw (← received, ← sent, ← is-sender, ← count-of)
 
-    pub sent-before : sent < count - 1 → orphaned T (messageOf T k) ≡ false
-    sent-before b = orphaned-is _ refl ∙ rw (lt-leb (count - 1) sent b)
+  -- one message more
+  same : (p : ℕ) → orphans T p k ≡ false → anyBelow k (orphans T p) ≡ anyBelow (k + 1) (orphans T p)
+  unfolding anyBelow
+  same p e = rw (add-one k, e)
 
-    module _ {received : ℕ} (read-received : received ≡ u16At receipts (4 * k + 2)) where
-      pub undelivered : received ≡ 0 → orphaned T (messageOf T k) ≡ false
-      undelivered e = orphaned-is received read-received ∙ rw e (and-false (leb (count - 1) sent))
+  skips : orphaned T (messageOf T k) ≡ false → Seen table m counts sends receipts found (k + 1)
+  skips e = record {
+    read = x .seen .read;
+    counts-are = x .seen .counts-are;
+    known = x .seen .known;
+    within = omega (arith, x .more);
+    marks = x .seen .marks ∙ tabulate-ext 32 _ _ (λ p _. same p (rw e (and-false (eqb (messageOf T k .sender) p))));
+  }
 
-      pub orphaned-here : count - 1 ≤ sent → (received ≡ 0 → ⊥) → orphaned T (messageOf T k) ≡ true
-      orphaned-here b d = orphaned-is received read-received ∙ rw (le-leb (count - 1) sent b, lt-ltb 0 received (omega arith))
+  -- it was sent before the last checkpoint
+  pub skips-sent-before : y < count - 1 → Seen table m counts sends receipts found (k + 1)
+  skips-sent-before b = skips (orphaned-is _ refl ∙ rw (lt-leb (count - 1) y b))
+
+  module _ {r : ℕ} (received : r ≡ u16At receipts (4 * k + 2)) where
+    pub skips-undelivered : r ≡ 0 → Seen table m counts sends receipts found (k + 1)
+    skips-undelivered e = skips (orphaned-is r received ∙ rw e (and-false (leb (count - 1) y)))
+
+    pub seen-marks : count - 1 ≤ y → (r ≡ 0 → ⊥) → Seen table m counts sends receipts (set found j true) (k + 1)
+    seen-marks b d = record {
+      read = x .seen .read;
+      counts-are = x .seen .counts-are;
+      known = x .seen .known;
+      within = omega (arith, x .more);
+      marks =
+          ap (λ (f : List Bool). set f j true) (x .seen .marks)
+          ∙ set-tabulate 32 _ _ j true (sender-small (x .seen .read) (x .more) (x .sender))
+          (sym (anyBelow-found (orphans T j) (k + 1) k (omega arith) (rw (eq-eqb (messageOf T k .sender) j (sym is-sender), orphan))))
+          (λ p other. same p (rw (ne-eqb (messageOf T k .sender) p (λ q. other (sym q ∙ sym is-sender)))));
+    }
+      where
+        orphan : orphaned T (messageOf T k) ≡ true
+        orphan = orphaned-is r received ∙ rw (le-leb (count - 1) y b, lt-ltb 0 r (omega arith))
 
 -- ---- lines that are their ceilings
 module _ (t : Table) (w : WellFormed t) where

@@ -8,8 +8,8 @@ use Rattle.run_table.specs.Format.{countAt, messageAt}
 use Rattle.run_table.specs.Lists.{tabulate}
 use Rattle.run_table.specs.Table.{Message}
 
--- How high a process may stand for a set, from a part of n counts: at its last checkpoint where it holds, and else at its
--- virtual one. It is 0 from n on.
+-- How high a process may stand for a set, from a part of n counts: at its last checkpoint where it holds, and else at
+-- its virtual one. It is 0 from n on.
 unfoldable pub heightAt : ℕ → ℕ → List ℕ → ℕ → ℕ
 heightAt n set counts p = cond (ltb p n) (cond (member set p) (countAt counts p - 1) (countAt counts p)) 0
 

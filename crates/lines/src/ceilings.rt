@@ -3,11 +3,10 @@ use process_set::is_member;
 use run_table::numbers::u16_at;
 ghost use mathlib.Core.Bool.{cond};
 ghost use mathlib.Core.Path.{_≡_};
-ghost use Prim.Native.Nat.{ℕ, _*_, _-_, _<_, _≤_};
-ghost use lib.ListN.{length};
+ghost use Prim.Native.Nat.{_-_, _<_};
 ghost use Rattle.lines.specs.Arrays.{heightAt};
-ghost use Rattle.run_table.specs.Format.{countAt};
 ghost use Rattle.run_table.specs.Lists.{tabulate};
+ghost use Rattle.run_table.specs.Parts.{Counts};
 
 // How high a process of so many checkpoints may stand: at its last one where it holds, and else at
 // its virtual one.
@@ -23,9 +22,7 @@ fn height(count: u16, holds: bool) -> u16
 
 // The ceiling of a set, from a part of n counts of which none is 0.
 pub fn ceiling(counts: &[u8], n: usize, set: u32) -> [u16; 32]
-    requires { ⌜ n ≤ 32 ⌝ }
-    requires { ⌜ length (now counts) ≡ 2 * n ⌝ }
-    requires { ⌜ ((p : ℕ) → p < n → 0 < countAt (now counts) p) ⌝ }
+    requires { ⌜ Counts n (now counts) ⌝ }
     ensures { λ r. ⌜ r ≡ tabulate 32 (heightAt n set (now (counts .entry))) ⌝ }
 {
     let mut line = [0u16; 32];

@@ -73,7 +73,8 @@ pub fn line_of_holder(table: &[u8], k: usize, propagates: bool) -> [u16; 32]
 pub fn put_line(table: &[u8], line: [u16; 32], answer: &mut [u8])
     requires { ⌜ tableRefusal (now table) ≡ 0 ⌝ }
     requires { ⌜ 2 * processCount (decode (now table)) ≤ length (now answer) ⌝ }
-    ensures { λ _. ⌜ now (answer .exit) ≡ putAt (now (answer .entry)) 0 (u16s (take (processCount (decode (now (table .entry)))) line)) ⌝ }
+    ensures { λ _. ⌜ now (answer .exit)
+        ≡ putAt (now (answer .entry)) 0 (u16s (take (processCount (decode (now (table .entry)))) line)) ⌝ }
 {
     let n = parts::process_count(table);
     put_numbers(answer, 0, &line[..n]);
@@ -83,7 +84,8 @@ pub fn put_line(table: &[u8], line: [u16; 32], answer: &mut [u8])
 pub fn put_line_of_set(table: &[u8], set: u32, answer: &mut [u8])
     requires { ⌜ tableRefusal (now table) ≡ 0 ⌝ }
     requires { ⌜ 2 * processCount (decode (now table)) ≤ length (now answer) ⌝ }
-    ensures { λ _. ⌜ now (answer .exit) ≡ putAt (now (answer .entry)) 0 (u16s (lineOf (decode (now (table .entry))) (member set))) ⌝ }
+    ensures { λ _. ⌜ now (answer .exit)
+        ≡ putAt (now (answer .entry)) 0 (u16s (lineOf (decode (now (table .entry))) (member set))) ⌝ }
 {
     put_line(table, line_of_set(table, set), answer);
 }

@@ -2,19 +2,15 @@
 // orphan.
 use run_table::numbers::u16_at;
 ghost use mathlib.Core.Path.{_≡_};
-ghost use Prim.Native.Nat.{ℕ, _*_, _<_};
-ghost use lib.ListN.{length};
 ghost use Rattle.consistency.specs.Lowering.{lineUnder};
 ghost use Rattle.lines.specs.Arrays.{messagesOf};
-ghost use Rattle.run_table.specs.Format.{processAt};
+ghost use Rattle.run_table.specs.Parts.{Messages};
+ghost use Rattle.run_table.specs.Table.{mostProcesses};
 
 // The line under a ceiling, of the m messages of a part of sends and a part of receipts. An orphan of
 // the line puts its receiver back to the checkpoint before the receipt.
 pub fn lower(ceiling: [u16; 32], sends: &[u8], receipts: &[u8], m: usize) -> [u16; 32]
-    requires { ⌜ length (now sends) ≡ 4 * m ⌝ }
-    requires { ⌜ length (now receipts) ≡ 4 * m ⌝ }
-    requires { ⌜ ((k : ℕ) → k < m → processAt (now sends) k < 32) ⌝ }
-    requires { ⌜ ((k : ℕ) → k < m → processAt (now receipts) k < 32) ⌝ }
+    requires { ⌜ Messages mostProcesses m (now sends) (now receipts) ⌝ }
     ensures { λ r. ⌜ r ≡ lineUnder (messagesOf m (now (sends .entry)) (now (receipts .entry))) ceiling ⌝ }
 {
     let mut line = ceiling;

@@ -7,8 +7,12 @@ use Rattle.lines.proofs.LineReads.{set-read}
 use Rattle.lines.proofs.line_of_set.Statement.{statement}
 use Rattle.lines.proofs.line_of_set.Tie as tie
 
-returns : tie.Need-returns
-returns c = c .line-under .ensures ∙ ap (lineUnder _) (c .before .ceiling-of-set .ensures) ∙ set-read _ (c .before .before .before .pre) _
-
 pub line-of-set-spec : {M : Type 1} → statement M
-line-of-set-spec = tie.close (tie.spec (λ c κs. search needs) (λ c κs. search needs) returns)
+line-of-set-spec =
+    tie.close
+    (tie.spec
+    (λ c κs. search needs)
+    (λ c κs. search needs)
+    (λ c.
+    let ceiling = c .before in
+    c .line-under .ensures ∙ ap (lineUnder _) (ceiling .ceiling-of-set .ensures) ∙ set-read _ (ceiling .before .before .pre) _))

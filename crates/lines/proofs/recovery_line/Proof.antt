@@ -8,9 +8,10 @@ use Rattle.run_table.specs.Arrays.{arrayOf}
 use Rattle.lines.proofs.recovery_line.Statement.{statement}
 use Rattle.lines.proofs.recovery_line.Tie as tie
 
-returns : tie.Need-returns
-unfolding allProcesses
-returns c = c .line-of-set .ensures ∙ ap arrayOf (all-hold _ (c .before .before .pre))
-
 pub recovery-line-spec : {M : Type 1} → statement M
-recovery-line-spec = tie.close (tie.spec (λ c κs. search needs) returns)
+unfolding allProcesses
+recovery-line-spec =
+    tie.close
+    (tie.spec
+    (λ c κs. search needs)
+    (λ c. c .line-of-set .ensures ∙ ap arrayOf (all-hold _ (c .before .before .pre))))

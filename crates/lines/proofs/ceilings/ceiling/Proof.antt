@@ -1,51 +1,47 @@
 -- `ceilings::ceiling` meets its contract: the loop fills the array from the front.
 -- Assumes nothing.
 use native.Mathlib.Omega.{arith}
-use mathlib.Core.Path.{subst⁻¹}
-use Prim.Native.Nat.{ℕ, _-_, _<_}
+use Prim.Native.Nat.{_-_}
 use Rattle.lines.proofs.LineReads.{height-beyond, height-read}
 use Rattle.run_table.proofs.ArrayLaws.{Filling, filling-all, filling-more, filling-none}
 use Rattle.lines.specs.Arrays.{heightAt}
 use Rattle.run_table.specs.Format.{countAt}
+use Rattle.run_table.specs.Parts.{Counts}
 use Rattle.lines.proofs.ceilings.ceiling.Statement.{statement}
 use Rattle.lines.proofs.ceilings.ceiling.Tie as tie
 
 abbrev Inv-loop : tie.InvT-loop
-Inv-loop counts n set line₀ p₀ line p = Filling (heightAt n set counts) n p line
+Inv-loop counts n set line₀ p₀ line p = Counts n counts × Filling (heightAt n set counts) n p line
 
 abbrev μ-loop : tie.MeasureT-loop
 μ-loop counts n set line₀ p₀ line p = n - p
 
-loop-holds : tie.Need-loop-holds Inv-loop μ-loop
-loop-holds c = filling-none _ _
+-- ---- the places: a turn of the loop, from where its process was looked up
+abbrev turn : tie.After-is-member Inv-loop μ-loop → tie.In-loop Inv-loop μ-loop
+turn c = c .before .before
 
-height-requires : tie.Need-height-requires Inv-loop μ-loop
-unfolding countAt
-height-requires c κs = subst⁻¹ (λ (x : ℕ). 0 < x) (c .before .u16-at .ensures) (c .before .before .before .before .before .pre .1 .1 _ (c .before .before .loop-test .taken))
-
-loop-again : tie.Need-loop-again Inv-loop μ-loop
-loop-again c =
-    let turn = c .before .before .before in
-    filling-more _ _ _ _ (turn .before .loop .inv) _ (turn .loop-test .taken)
-    (height-read _ _ _ _ _ _ _ (turn .loop-test .taken) (c .before .before .u16-at .ensures) (c .before .is-member .ensures) (c .height .ensures))
-
-returns : tie.Need-returns Inv-loop μ-loop
-returns c = filling-all _ _ _ _ (c .before .loop .inv) (c .loop-test .left) (height-beyond _ _ _)
-
+-- ---- the needs, in the code's course
 pub ceiling-spec : {M : Type 1} → statement M
+unfolding countAt
 ceiling-spec =
     tie.close
     (tie.spec
     Inv-loop
     μ-loop
-    loop-holds
+    (λ c. (c .before .pre, filling-none _ _))
+    -- the count, and whether the process holds
     (λ c. omega arith)
     (λ c κs. omega arith)
     (λ c κs. omega arith)
-    height-requires
+    (λ c κs. omega (arith, c .before .u16-at .ensures, turn c .before .loop .inv .0 .positive _ (turn c .loop-test .taken)))
+    -- its height
     (λ c. omega arith)
     (λ c. omega arith)
     (λ c. omega arith)
     (λ c. omega arith)
-    loop-again
-    returns)
+    (λ c.
+    let looked-up = c .before in
+    let here = turn looked-up in
+    let height = height-read _ (here .loop-test .taken) (looked-up .before .u16-at .ensures) _ (looked-up .is-member .ensures) (c .height .ensures) in
+    (here .before .loop .inv .0, filling-more _ _ _ _ (here .before .loop .inv .1) _ (here .loop-test .taken) height))
+    (λ c. filling-all _ _ _ _ (c .before .loop .inv .1) (c .loop-test .left) (height-beyond _ _ _)))
