@@ -1,13 +1,13 @@
 -- The answers of the steps.
 --     send-bytes, checkpoint-bytes, rollback-bytes    the length of the table that a step leaves
+--     send-room, checkpoint-room                      a buffer with room for it
 --     send-taken, checkpoint-taken, rollback-taken    where no check of the call catches, the step is taken, within the limits
---     sender-known, checkpointer-known, positions-good    and what is written stands on known processes and messages
+--     sender-known, can-checkpoint                    and what is written stands on known processes and messages
 --     table-holds                                     the answer is an accepted table, the step's
 -- Assumes nothing.
-use mathlib.Core.Bool.{false}
-use mathlib.Core.List.{List}
+use mathlib.Core.List.{List, []}
 use mathlib.Core.Path.{_≡_, refl, sym, ap, _∙_, subst, subst⁻¹}
-use Prim.Native.Nat.{ℕ, _+_, _<_}
+use Prim.Native.Nat.{ℕ, _+_, _≤_, _<_}
 use native.Mathlib.Omega.{arith}
 use borrow.Author.Tests.{leb-false}
 use lib.ListN.{length, take, drop}
@@ -15,18 +15,18 @@ use lib.Seq.{take-at}
 use Rattle.futures.proofs.StepLaws.{checkpoint-known, checkpoint-limits, checkpoint-messages, checkpoint-positions, checkpoint-processes}
 use Rattle.futures.proofs.StepLaws.{quiet-send, rollback-limits, rollback-processes, send-limits, send-messages, send-processes}
 use Rattle.futures.proofs.StepLaws.{step-taken, step-well-formed}
-use Rattle.futures.specs.Steps.{Step, afterCheckpoint, afterRollback, afterSend, badPosition, checkpoint, checkpointChecks, rollback, send, sendChecks, step}
-use Rattle.keeper.proofs.AnswerLaws.{Quiet, put-in-front}
-use Rattle.keeper.proofs.RefusalLaws.{table-accepted}
+use Rattle.futures.specs.Steps.{Step, afterCheckpoint, afterRollback, afterSend, checkpoint, checkpointChecks, rollback, send, sendChecks, step}
+use Rattle.keeper.proofs.AnswerLaws.{put-in-front}
+use Rattle.keeper.proofs.RefusalLaws.{NoRefusal, quiet-by}
 use Rattle.keeper.specs.Calls.{HoldsTable, checkpointCallChecks, sendCallChecks}
 use Rattle.run_table.proofs.AcceptLaws.{accepted-encode, facts, reread}
-use Rattle.run_table.proofs.CheckLaws.{caughtBy, passed, quiet-none, quiet-number}
+use Rattle.run_table.proofs.CheckLaws.{caughtBy, passed, quiet-none}
 use Rattle.run_table.proofs.FormatLaws.{encode-length}
 use Rattle.run_table.specs.Checks.{Accepted, Limits, WellFormed, firstCaught, tableChecks, tableRefusal}
 use Rattle.run_table.specs.Format.{decode, encode, tableLength}
-use Rattle.run_table.specs.Lists.{any}
 use Rattle.run_table.specs.Numbers.{putAt}
-use Rattle.run_table.specs.Table.{Table, countOf, messageCount, mostCheckpoints, mostMessages, processCount}
+use Rattle.run_table.specs.Table.{Table, messageCount, mostCheckpoints, mostMessages, processCount}
+use Rattle.steps.specs.Checkpoint.{CanCheckpoint}
 
 -- ---- the length of the answer
 module _ (t : Table) where
@@ -39,6 +39,15 @@ module _ (t : Table) where
   pub rollback-bytes : length (encode (afterRollback t)) ≡ tableLength (processCount t) (messageCount (afterRollback t))
   rollback-bytes = omega (arith, encode-length (afterRollback t), rollback-processes t)
 
+  module _ {size room : ℕ} where
+    pub send-room : ((j i : ℕ) → size ≡ length (encode (afterSend t j i))) → size ≤ room
+        → tableLength (processCount t) (messageCount t + 1) ≤ room
+    send-room sized enough = omega (arith, sized 0 0, send-bytes 0 0)
+
+    pub checkpoint-room : ((i : ℕ) (list : List ℕ) → size ≡ length (encode (afterCheckpoint t i list))) → size ≤ room
+        → tableLength (processCount t) (messageCount t) ≤ room
+    checkpoint-room sized enough = omega (arith, sized 0 [], checkpoint-bytes 0 [])
+
 -- ---- a step that is taken
 -- The table is accepted, the step leaves this table, and it is within the limits.
 pub record Taken (table : List ℕ) (s : Step) (after : Table) : Type 0 where
@@ -46,56 +55,51 @@ pub record Taken (table : List ℕ) (s : Step) (after : Table) : Type 0 where
   pub gives : step (decode table) s ≡ after
   pub limits : Limits after
 
-module _ (table : List ℕ) where
-  abbrev t : Table
-  t = decode table
-
-  module _ (j i : ℕ) (q : Quiet (sendCallChecks table j i)) where
-    by-send : (n : ℕ) → caughtBy n (sendCallChecks table j i) ≡ false
-    by-send = quiet-number (sendCallChecks table j i) (q .refusals) (q .quiet)
-
-    send-quiet : firstCaught (sendChecks t j i) ≡ 0
+-- a send and a checkpoint of which no check catches
+module _ {table : List ℕ} where
+  module _ (j i : ℕ) (q : NoRefusal table (sendCallChecks table j i)) where
+    send-quiet : firstCaught (sendChecks (decode table) j i) ≡ 0
     unfolding sendCallChecks sendChecks tableChecks caughtBy
-    send-quiet = passed _ _ 0 (by-send 10) (passed _ _ 0 (by-send 11) quiet-none)
+    send-quiet = passed _ _ 0 (quiet-by q 10) (passed _ _ 0 (quiet-by q 11) quiet-none)
 
-    pub sender-known : j < processCount t
-    sender-known = quiet-send t j i send-quiet .0
+    pub sender-known : j < processCount (decode table)
+    sender-known = quiet-send (decode table) j i send-quiet .0
 
-    pub send-taken : Taken table (send j i) (afterSend t j i)
+    pub send-taken : Taken table (send j i) (afterSend (decode table) j i)
     unfolding sendCallChecks sendChecks tableChecks caughtBy step
-    send-taken =
-        let accepted = table-accepted table _ (q .quiet) in
-        let room = leb-false mostMessages (messageCount t) (by-send 14) in
-        record { accepted = accepted; gives = step-taken _ _ _ send-quiet; limits = send-limits t j i (facts table accepted .limits) room }
+    send-taken = record {
+      accepted = q .accepted;
+      gives = step-taken _ _ _ send-quiet;
+      limits = send-limits (decode table) j i (facts table (q .accepted) .limits) (leb-false mostMessages _ (quiet-by q 14));
+    }
 
-  module _ (i : ℕ) (list : List ℕ) (q : Quiet (checkpointCallChecks table i list)) where
-    by-checkpoint : (n : ℕ) → caughtBy n (checkpointCallChecks table i list) ≡ false
-    by-checkpoint = quiet-number (checkpointCallChecks table i list) (q .refusals) (q .quiet)
-
-    checkpoint-quiet : firstCaught (checkpointChecks t i list) ≡ 0
+  module _ (i : ℕ) (list : List ℕ) (q : NoRefusal table (checkpointCallChecks table i list)) where
+    checkpoint-quiet : firstCaught (checkpointChecks (decode table) i list) ≡ 0
     unfolding checkpointCallChecks checkpointChecks tableChecks caughtBy
-    checkpoint-quiet = passed _ _ 0 (by-checkpoint 10) (passed _ _ 0 (by-checkpoint 13) quiet-none)
+    checkpoint-quiet = passed _ _ 0 (quiet-by q 10) (passed _ _ 0 (quiet-by q 13) quiet-none)
 
-    pub checkpointer-known : i < processCount t
-    checkpointer-known = checkpoint-known t i list checkpoint-quiet
+    pub can-checkpoint : CanCheckpoint table i list
+    can-checkpoint = record {
+      accepted = q .accepted;
+      known = checkpoint-known (decode table) i list checkpoint-quiet;
+      waiting = checkpoint-positions (decode table) i list checkpoint-quiet;
+    }
 
-    pub positions-good : any (badPosition t i) list ≡ false
-    positions-good = checkpoint-positions t i list checkpoint-quiet
-
-    pub checkpoint-taken : Taken table (checkpoint i list) (afterCheckpoint t i list)
+    pub checkpoint-taken : Taken table (checkpoint i list) (afterCheckpoint (decode table) i list)
     unfolding checkpointCallChecks checkpointChecks tableChecks caughtBy step
-    checkpoint-taken =
-        let accepted = table-accepted table _ (q .quiet) in
-        let room = leb-false mostCheckpoints (countOf t i) (by-checkpoint 14) in
-        record { accepted = accepted; gives = step-taken _ _ _ checkpoint-quiet; limits = checkpoint-limits t i list (facts table accepted .limits) room }
+    checkpoint-taken = record {
+      accepted = q .accepted;
+      gives = step-taken _ _ _ checkpoint-quiet;
+      limits = checkpoint-limits (decode table) i list (facts table (q .accepted) .limits) (leb-false mostCheckpoints _ (quiet-by q 14));
+    }
 
-  pub rollback-taken : tableRefusal table ≡ 0 → Taken table rollback (afterRollback t)
-  unfolding step
-  rollback-taken accepted = record {
-    accepted = accepted;
-    gives = refl;
-    limits = rollback-limits t (facts table accepted .well-formed) (facts table accepted .limits);
-  }
+pub rollback-taken : (table : List ℕ) → tableRefusal table ≡ 0 → Taken table rollback (afterRollback (decode table))
+unfolding step
+rollback-taken table accepted = record {
+  accepted = accepted;
+  gives = refl;
+  limits = rollback-limits (decode table) (facts table accepted .well-formed) (facts table accepted .limits);
+}
 
 -- ---- the answer as a table
 pub table-holds : {table : List ℕ} {s : Step} {after : Table} → Taken table s after → (buffer : List ℕ) {buffer′ : List ℕ} {size : ℕ}

@@ -7,7 +7,7 @@
 -- Assumes nothing.
 use mathlib.Core.Bool.{Bool, cond}
 use mathlib.Core.List.{List}
-use mathlib.Core.Path.{_≡_, sym, ap, ap₂, _∙_, subst⁻¹}
+use mathlib.Core.Path.{_≡_, sym, ap, ap₂, _∙_}
 use Prim.Native.Nat.{ℕ, _*_, _-_, _≤_, _<_}
 use native.Mathlib.Decide.{decLt}
 use native.Mathlib.Omega.{arith}
@@ -37,7 +37,7 @@ pub array-line : (ms : List Message) (c : List ℕ) → length c ≤ 32 → line
 array-line ms c small =
     sym (line-is ms (arrayOf c) (arrayOf (lineUnder ms c)) (array-length (lineUnder ms c) ∙ sym (array-length c))
     (latest-same ms (asLine c) (asLine (arrayOf c)) (asLine (lineUnder ms c)) (asLine (arrayOf (lineUnder ms c))) (λ p. sym (array-at c small p))
-    (λ p. sym (array-at (lineUnder ms c) (subst⁻¹ (λ (x : ℕ). x ≤ 32) (line-length ms c) small) p)) (line-latest ms c)))
+    (λ p. sym (array-at (lineUnder ms c) (omega (arith, line-length ms c)) p)) (line-latest ms c)))
 
 module _ (n set : ℕ) (counts : List ℕ) (p : ℕ) where
   pub height-in : p < n → heightAt n set counts p ≡ cond (member set p) (countAt counts p - 1) (countAt counts p)
@@ -79,17 +79,14 @@ module _ (bytes : List ℕ) (accepted : tableRefusal bytes ≡ 0) where
 
   -- the line of a set, under its ceiling; the numbers of an answer
   module _ (set : ℕ) where
-    few : length (ceilingOf (decode bytes) (member set)) ≤ 32
-    few = subst⁻¹ (λ (x : ℕ). x ≤ 32) (ceiling-length (decode bytes) (member set)) (processes-few bytes accepted)
-
     pub set-read : lineUnder (decode bytes .messages) (arrayOf (ceilingOf (decode bytes) (member set))) ≡ arrayOf (lineOf (decode bytes) (member set))
     unfolding lineOf
-    set-read = array-line (decode bytes .messages) (ceilingOf (decode bytes) (member set)) few
+    set-read = array-line (decode bytes .messages) _ (omega (arith, ceiling-length (decode bytes) (member set), processes-few bytes accepted))
 
     pub set-front : (line : List ℕ) → line ≡ arrayOf (lineOf (decode bytes) (member set)) → take N line ≡ lineOf (decode bytes) (member set)
     set-front line e =
         let size = set-length (decode bytes) (member set) in
-        array-front (lineOf (decode bytes) (member set)) line N e (sym size) (subst⁻¹ (λ (x : ℕ). x ≤ 32) size (processes-few bytes accepted))
+        array-front (lineOf (decode bytes) (member set)) line N e (sym size) (omega (arith, size, processes-few bytes accepted))
 
 pub line-read : {bytes : List ℕ} {m : ℕ} {sends receipts : List ℕ} → ReadMessages bytes m sends receipts
     → (ceiling : List ℕ) → lineUnder (messagesOf m sends receipts) ceiling ≡ lineUnder (decode bytes .messages) ceiling

@@ -6,8 +6,8 @@ use lib.Dec.{eqb, leb, ltb}
 use Rattle.run_table.specs.Lists.{anyBelow}
 use Rattle.run_table.specs.Table.{Message, Table, countOf, messageCount, messageOf}
 
--- A rollback of its sender to the sender's last checkpoint orphans a message: it was sent after that checkpoint, and
--- received.
+-- A rollback of its sender to the sender's last checkpoint orphans a message: it was sent after that checkpoint,
+-- and received.
 unfoldable pub orphaned : Table → Message → Bool
 orphaned t m = leb (countOf t (m .sender) - 1) (m .sent) && ltb 0 (m .received)
 

@@ -1,6 +1,6 @@
 -- The bytes of the table after a checkpoint.
---     sends-kept, receipts-new                    its sends and receipts, as the code writes them
---     checkpoint-put                              the three writes
+--     sends-kept, receipts-new    its sends and receipts, as the code writes them
+--     checkpoint-put              the three writes
 -- Assumes nothing.
 use mathlib.Core.Bool.{Bool, true, false, cond}
 use mathlib.Core.List.{List, [], _∷_, _++_}
@@ -10,83 +10,70 @@ use native.Mathlib.Nat.{le-refl}
 use native.Mathlib.Numerals.{add-one}
 use native.Mathlib.Omega.{arith}
 use lib.Dec.{eqb}
-use lib.ListN.{length, getD, set, take}
-use Rattle.futures.proofs.StepLaws.{checkpoint-messages, checkpoint-processes, receivedAt-listed, receivedAt-receiver, receivedAt-sender, receivedAt-sent, receivedAt-unlisted}
+use lib.ListN.{getD, set, take}
+use Rattle.futures.proofs.StepLaws.{checkpoint-messages, checkpoint-processes, receivedAt-listed, receivedAt-receiver, receivedAt-sender}
+use Rattle.futures.proofs.StepLaws.{receivedAt-sent, receivedAt-unlisted}
 use Rattle.futures.specs.Steps.{afterCheckpoint, receivedAt}
 use Rattle.run_table.proofs.CodingLaws.{entries-append, entries-tabulate, even-number, odd-number}
 use Rattle.run_table.proofs.ListLaws.{tabulate-more}
-use Rattle.run_table.proofs.ReadLaws.{received-read, receiver-read, sender-read, sent-read}
-use Rattle.table_writer.proofs.WriteLaws.{table-put}
-use Rattle.run_table.specs.Checks.{tableRefusal}
-use Rattle.run_table.specs.Format.{checkpointAt, decode, encode, entriesOf, processAt, receiptsAt, receiptsOf, receiptsPart, sendsAt, sendsOf, sendsPart, tableLength}
+use Rattle.run_table.proofs.ReadLaws.{ReadMessages, received-is, receiver-is, sender-is, sent-is}
+use Rattle.run_table.specs.Format.{checkpointAt, decode, encode, entriesOf, processAt, receiptsOf, sendsOf}
 use Rattle.run_table.specs.Lists.{any, tabulate}
-use Rattle.run_table.specs.Numbers.{putAt, u16At, u16s}
-use Rattle.run_table.specs.Table.{Message, Table, countOf, messageCount, processCount}
-use Rattle.steps.proofs.SendLaws.{Read, count-read, front-set}
-use Rattle.steps.specs.Receipts.{newReceipt, receiptNumbers}
+use Rattle.run_table.specs.Numbers.{putAt, u16At}
+use Rattle.run_table.specs.Table.{Message, Table, countOf}
+use Rattle.steps.proofs.SendLaws.{Read, Writes, copied, count-read, front-set, table-written}
+use Rattle.steps.specs.Checkpoint.{CanCheckpoint, newReceipt, receiptNumbers}
 
-module _ (bytes : List ℕ) (accepted : tableRefusal bytes ≡ 0) (i : ℕ) (list : List ℕ) where
+module _ {table : List ℕ} {m : ℕ} {sends receipts : List ℕ} (read : ReadMessages table m sends receipts)
+    {i : ℕ} {list : List ℕ} (can : CanCheckpoint table i list) where
   abbrev t : Table
-  t = decode bytes
+  t = decode table
 
-  abbrev after : Table
-  after = afterCheckpoint t i list
+  abbrev received : ℕ → Message
+  received = receivedAt t i list
 
-  -- the sends
-  sender-kept : (k : ℕ) → k < messageCount t → receivedAt t i list k .sender ≡ u16At (sendsPart bytes) (4 * k)
-  sender-kept k l = receivedAt-sender t i list k ∙ sym (sender-read bytes accepted k l (sendsPart bytes) _ refl refl)
-
-  sent-kept : (k : ℕ) → k < messageCount t → receivedAt t i list k .sent ≡ u16At (sendsPart bytes) (4 * k + 2)
-  sent-kept k l = receivedAt-sent t i list k ∙ sym (sent-read bytes accepted k l (sendsPart bytes) _ refl refl)
-
-  sends-kept : (m : ℕ) → m ≡ messageCount t → tabulate (2 * m) (λ e. u16At (sendsPart bytes) (2 * e)) ≡ sendsOf (after .messages)
+  messages-after : afterCheckpoint t i list .messages ≡ tabulate m received
   unfolding afterCheckpoint
-  sends-kept m e =
-      sym (entries-tabulate (λ x. x .sender) (λ x. x .sent) (messageCount t) (receivedAt t i list) (λ j. u16At (sendsPart bytes) (2 * j))
-      (λ k l. sender-kept k l ∙ even-number (sendsPart bytes) k) (λ k l. sent-kept k l ∙ odd-number (sendsPart bytes) k)
-      ∙ ap (λ (x : ℕ). tabulate (2 * x) (λ j. u16At (sendsPart bytes) (2 * j))) (sym e))
+  messages-after = rw (read .m-is)
+
+  sends-kept : copied m sends ≡ sendsOf (afterCheckpoint t i list .messages)
+  sends-kept =
+      sym (ap sendsOf messages-after ∙ entries-tabulate (λ x. x .sender) (λ x. x .sent) m received (λ e. u16At sends (2 * e))
+      (λ k l. receivedAt-sender t i list k ∙ sym (sender-is read l refl) ∙ even-number sends k)
+      (λ k l. receivedAt-sent t i list k ∙ sym (sent-is read l refl) ∙ odd-number sends k))
 
   -- the receipts
-  receiver-kept : (k : ℕ) → k < messageCount t → processAt (receiptsPart bytes) k ≡ receivedAt t i list k .receiver
+  receiver-kept : (k : ℕ) → k < m → processAt receipts k ≡ received k .receiver
   unfolding processAt
-  receiver-kept k l = receiver-read bytes accepted k l (receiptsPart bytes) _ refl refl ∙ sym (receivedAt-receiver t i list k)
+  receiver-kept k l = receiver-is read l refl ∙ sym (receivedAt-receiver t i list k)
 
-  received-new : (k : ℕ) → k < messageCount t → newReceipt (receiptsPart bytes) list (countOf t i) k ≡ receivedAt t i list k .received
+  received-new : (k : ℕ) → k < m → newReceipt receipts list (countOf t i) k ≡ received k .received
   unfolding newReceipt checkpointAt
   received-new k l = go (any (eqb k) list) refl
     where
-      go : (b : Bool) → any (eqb k) list ≡ b → cond b (countOf t i) (checkpointAt (receiptsPart bytes) k) ≡ receivedAt t i list k .received
-      go true e = sym (ap (λ (m : Message). m .received) (receivedAt-listed t i list k e))
-      go false e = received-read bytes accepted k l (receiptsPart bytes) _ refl refl ∙ sym (ap (λ (m : Message). m .received) (receivedAt-unlisted t i list k e))
+      go : (b : Bool) → any (eqb k) list ≡ b → cond b (countOf t i) (checkpointAt receipts k) ≡ received k .received
+      go true e = sym (ap (λ (x : Message). x .received) (receivedAt-listed t i list k e))
+      go false e = received-is read l refl ∙ sym (ap (λ (x : Message). x .received) (receivedAt-unlisted t i list k e))
 
-  receipts-upto : (k : ℕ) → k ≤ messageCount t → receiptNumbers k (receiptsPart bytes) list (countOf t i) ≡ receiptsOf (tabulate k (receivedAt t i list))
+  receipts-upto : (k : ℕ) → k ≤ m → receiptNumbers k receipts list (countOf t i) ≡ receiptsOf (tabulate k received)
   unfolding receiptNumbers tabulate entriesOf
   receipts-upto zero l = refl
   receipts-upto (suc k) l =
-      ap₂ (λ (a : List ℕ) (x : ℕ). a ++ (x ∷ newReceipt (receiptsPart bytes) list (countOf t i) k ∷ [])) (receipts-upto k (omega arith)) (receiver-kept k l)
-      ∙ ap (λ (y : ℕ). receiptsOf (tabulate k (receivedAt t i list)) ++ (receivedAt t i list k .receiver ∷ y ∷ [])) (received-new k l)
-      ∙ sym (entries-append (λ x. x .receiver) (λ x. x .received) (tabulate k (receivedAt t i list)) (receivedAt t i list k ∷ []))
-      ∙ ap receiptsOf (sym (tabulate-more k (receivedAt t i list)) ∙ ap (λ (j : ℕ). tabulate j (receivedAt t i list)) (add-one k))
+      ap₂ (λ (a : List ℕ) (x : ℕ). a ++ (x ∷ newReceipt receipts list (countOf t i) k ∷ [])) (receipts-upto k (omega arith)) (receiver-kept k l)
+      ∙ ap (λ (y : ℕ). receiptsOf (tabulate k received) ++ (received k .receiver ∷ y ∷ [])) (received-new k l)
+      ∙ sym (entries-append (λ x. x .receiver) (λ x. x .received) (tabulate k received) (received k ∷ []))
+      ∙ ap receiptsOf (sym (tabulate-more k received) ∙ ap (λ (j : ℕ). tabulate j received) (add-one k))
 
-  receipts-new : (m : ℕ) → m ≡ messageCount t → receiptNumbers m (receiptsPart bytes) list (countOf t i) ≡ receiptsOf (after .messages)
+  receipts-new : receiptNumbers m receipts list (countOf t i) ≡ receiptsOf (afterCheckpoint t i list .messages)
+  receipts-new = receipts-upto m (le-refl m) ∙ ap receiptsOf (sym messages-after)
+
+  pub checkpoint-put : {n : ℕ} {counts : List ℕ} → Read table n m counts → {number : ℕ} → number ≡ getD counts i 0
+      → {a z : ℕ} {before headed sent after : List ℕ}
+      → Writes n m (take n (set counts i (number + 1))) (copied m sends) (receiptNumbers m receipts list number) a z before headed sent after
+      → after ≡ putAt before 0 (encode (afterCheckpoint t i list))
   unfolding afterCheckpoint
-  receipts-new m e = ap (λ (x : ℕ). receiptNumbers x (receiptsPart bytes) list (countOf t i)) e ∙ receipts-upto (messageCount t) (le-refl (messageCount t))
-
--- the three writes: the head, the sends, the receipts
-module _ {bytes : List ℕ} {n m : ℕ} {array : List ℕ} (r : Read bytes n m array) (i : ℕ) (known : i < processCount (decode bytes)) (list : List ℕ) where
-  pub checkpoint-put : (number a z : ℕ) (sends receipts b₀ b₁ b₂ b₃ : List ℕ) → sends ≡ sendsPart bytes → receipts ≡ receiptsPart bytes
-      → number ≡ getD array i 0 → a ≡ sendsAt n → z ≡ receiptsAt n m → tableLength n m ≤ length b₀
-      → (let counts = take n (set array i (number + 1)) in b₁ ≡ putAt b₀ 0 (u16s (length counts ∷ m ∷ counts)))
-      → b₂ ≡ putAt b₁ a (u16s (tabulate (2 * m) (λ k. u16At sends (2 * k))))
-      → b₃ ≡ putAt b₂ z (u16s (receiptNumbers m receipts list number)) → b₃ ≡ putAt b₀ 0 (encode (afterCheckpoint (decode bytes) i list))
-  unfolding processCount afterCheckpoint
-  checkpoint-put number a z sends receipts b₀ b₁ b₂ b₃ is-s is-r is-number at-s at-r room w₁ w₂ w₃ =
-      let t = decode bytes in
-      let size : n ≡ processCount (afterCheckpoint t i list) = r .read-n ∙ sym (checkpoint-processes t i list) in
-      table-put (afterCheckpoint t i list) n m (take n (set array i (number + 1))) _ _ size (r .read-m ∙ sym (checkpoint-messages t i list)) grown
-      (ap (λ (p : List ℕ). tabulate (2 * m) (λ k. u16At p (2 * k))) is-s ∙ sends-kept bytes (r .accepted) i list m (r .read-m))
-      (ap₂ (λ (p : List ℕ) (x : ℕ). receiptNumbers m p list x) is-r (is-number ∙ count-read r i) ∙ receipts-new bytes (r .accepted) i list m (r .read-m)) b₀ b₁ b₂ b₃ room
-      (w₁ ∙ ap (λ (x : ℕ). putAt b₀ 0 (u16s (x ∷ m ∷ take n (set array i (number + 1))))) (ap length grown ∙ sym size)) (rw at-s at w₂) (rw at-r at w₃)
-    where
-      grown : take n (set array i (number + 1)) ≡ afterCheckpoint (decode bytes) i list .counts
-      grown = front-set r i (number + 1) known ∙ ap (λ (c : ℕ). set (decode bytes .counts) i (c + 1)) (is-number ∙ count-read r i)
+  checkpoint-put r {number} number-is w =
+      let count = number-is ∙ count-read r i in
+      table-written w (afterCheckpoint t i list) (r .n-is ∙ sym (checkpoint-processes t i list)) (r .m-is ∙ sym (checkpoint-messages t i list))
+      (front-set r i (number + 1) (can .known) ∙ ap (λ (c : ℕ). set (t .counts) i (c + 1)) count) sends-kept
+      (ap (λ (x : ℕ). receiptNumbers m receipts list x) count ∙ receipts-new)

@@ -1,17 +1,19 @@
 -- The list of a checkpoint, as loops go over it, and the numbers that the checkpoint changes.
---     falls-at, rises-all              a list that does not rise, or does, by its neighbours
---     Positions, positions-none, positions-more, positions-all    a loop over the positions
---     bad-beyond, bad-receiver, bad-received, good-here   one position's test, from the numbers read
---     positions-below                  the positions of a list in which none is bad
+--     Rising, rising-none, rises-all            a loop that looks for neighbours that do not rise
+--     falls-here, rises-here                    what its test says
+--     Positions, positions-none, positions-all  a loop that looks for a bad position
+--     bad-beyond, bad-receiver, bad-received, good-here   what its tests say of one
 --     Received, received-none, received-more, received-all     a loop that writes the listed receipts
+--     positions-below                           the positions of a checkpoint that can be taken
 -- Assumes nothing.
 use mathlib.Core.Bool.{Bool, true, false, cond, _||_, or-true}
 use mathlib.Core.List.{List, [], _∷_, _++_, append-assoc}
-use mathlib.Core.Path.{_≡_, refl, sym, ap, ap₂, _∙_, subst}
+use mathlib.Core.Path.{_≡_, refl, sym, ap, ap₂, _∙_}
 use Prim.Native.Nat.{ℕ, zero, suc, _+_, _-_, _*_, _≤_, _<_, zero-le, suc-le-suc}
 use native.Mathlib.Decide.{ℕ-discrete}
 use native.Mathlib.Numerals.{add-one}
 use native.Mathlib.Omega.{arith}
+use borrow.Author.Count.{below-more, below-none}
 use borrow.Author.Tests.{eq-eqb, lt-leb, ne-eqb}
 use lib.Dec.{eqb}
 use lib.ListN.{length, getD, set, take, length-append}
@@ -21,89 +23,105 @@ use Rattle.futures.specs.Steps.{badPosition, notRising, notRisingAfter}
 use Rattle.run_table.proofs.CodingLaws.{even-number, odd-number}
 use Rattle.run_table.proofs.ListLaws.{any-last, any-none, any-some, none-of, or-none, tabulate-more}
 use Rattle.table_writer.proofs.PlaceLaws.{number-within}
-use Rattle.run_table.proofs.ReadLaws.{received-read, receiver-read}
+use Rattle.run_table.proofs.ReadLaws.{ReadMessages, messages-read, received-is, receiver-is}
 use Rattle.run_table.specs.Checks.{tableRefusal}
-use Rattle.run_table.specs.Format.{checkpointAt, decode, processAt, receiptsPart}
+use Rattle.run_table.specs.Format.{checkpointAt, decode, processAt, receiptsPart, sendsPart}
 use Rattle.run_table.specs.Lists.{any, tabulate}
 use Rattle.run_table.specs.Numbers.{putAt, u16At, u16Bytes, u16s}
 use Rattle.run_table.specs.Table.{Table, messageCount}
-use Rattle.steps.specs.Receipts.{newReceipt, receiptNumbers}
+use Rattle.steps.proofs.SendLaws.{copied}
+use Rattle.steps.specs.Checkpoint.{CanCheckpoint, newReceipt, receiptNumbers}
 
--- ---- a rising list
-pub falls-at : (list : List ℕ) (a : ℕ) → 0 < a → a < length list → getD list a 0 ≤ getD list (a - 1) 0 → notRising list ≡ true
-falls-at list a pos l h = go (notRising list) refl
-  where
-    go : (b : Bool) → notRising list ≡ b → b ≡ true
-    go true e = refl
-    go false e = absurd (omega (arith, rising list e (a - 1) a (omega arith) l))
+-- a test that is not false
+else-true : (b : Bool) → (b ≡ false → ⊥) → b ≡ true
+else-true true h = refl
+else-true false h = absurd (h refl)
+
+-- ---- a loop that looks for neighbours that do not rise
+-- It has found none before entry a.
+pub record Rising (list : List ℕ) (a : ℕ) : Type 0 where
+  pub started : 0 < a
+  pub rises : (b : ℕ) → b < a → 0 < b → getD list (b - 1) 0 < getD list b 0
+
+pub rising-none : (list : List ℕ) → Rising list 1
+rising-none list = record { started = omega arith; rises = λ b l pos. absurd (omega arith) }
 
 follows-none : (x : ℕ) (rest : List ℕ) → ((a : ℕ) → a < length rest → getD (x ∷ rest) a 0 < getD rest a 0) → notRisingAfter x rest ≡ false
 unfolding notRisingAfter
 follows-none x [] h = refl
 follows-none x (y ∷ rest) h = rw (lt-leb y x (h zero (suc-le-suc zero-le))) (follows-none y rest (λ a l. h (suc a) (suc-le-suc l)))
 
-pub rises-all : (list : List ℕ) (n : ℕ) → length list ≤ n → ((a : ℕ) → 0 < a → a < n → a < length list → getD list (a - 1) 0 < getD list a 0) → notRising list ≡ false
+-- a list of which each entry rises above the one before it
+neighbours-rise : (list : List ℕ) → ((a : ℕ) → 0 < a → a < length list → getD list (a - 1) 0 < getD list a 0) → notRising list ≡ false
 unfolding notRising
-rises-all [] n s h = refl
-rises-all (x ∷ rest) n s h = follows-none x rest (λ a l. neighbours a l)
-  where
-    neighbours : (a : ℕ) → a < length rest → getD (x ∷ rest) a 0 < getD rest a 0
-    neighbours a l =
-        let place : suc a - 1 ≡ a = omega arith in
-        subst (λ (b : ℕ). getD (x ∷ rest) b 0 < getD rest a 0) place (h (suc a) (omega arith) (omega arith) (suc-le-suc l))
+neighbours-rise [] h = refl
+neighbours-rise (x ∷ rest) h =
+    follows-none x rest
+    (λ a l.
+    let place : suc a - 1 ≡ a = omega arith in
+    rw place at (h (suc a) (omega arith) (suc-le-suc l)))
 
--- ---- a loop over the positions
--- The positions before entry a are good.
-pub record Positions (t : Table) (i : ℕ) (list : List ℕ) (a : ℕ) : Type 0 where
+module _ {list : List ℕ} {a : ℕ} (w : Rising list a) where
+  pub rises-all : length list ≤ a → false ≡ notRising list
+  rises-all l = sym (neighbours-rise list (λ b pos k. w .rises b (omega arith) pos))
+
+  module _ (l : a < length list) where
+    pub falls-here : getD list a 0 ≤ getD list (a - 1) 0 → true ≡ notRising list
+    falls-here h = sym (else-true (notRising list) (λ e. omega (arith, rising list e (a - 1) a (omega (arith, w .started)) l)))
+
+    pub rises-here : getD list (a - 1) 0 < getD list a 0 → Rising list (a + 1)
+    rises-here h = record { started = omega arith; rises = below-more _ a (w .rises) (λ _. h) }
+
+-- ---- a loop that looks for a bad position
+-- It has found none before entry a; it has no use for the sends.
+pub record Positions (table : List ℕ) (i : ℕ) (list : List ℕ) (m : ℕ) (receipts : List ℕ) (a : ℕ) : Type 0 where
+  pub read : ReadMessages table m (sendsPart table) receipts
   pub within : a ≤ length list
-  pub good : (b : ℕ) → b < a → badPosition t i (getD list b 0) ≡ false
+  pub good : (b : ℕ) → b < a → badPosition (decode table) i (getD list b 0) ≡ false
 
-module _ (t : Table) (i : ℕ) (list : List ℕ) where
-  pub positions-none : Positions t i list 0
-  positions-none = record { within = zero-le; good = λ b l. absurd (omega arith) }
+module _ {table : List ℕ} {i : ℕ} {list : List ℕ} {m : ℕ} {receipts : List ℕ} where
+  pub positions-none : tableRefusal table ≡ 0 → m ≡ messageCount (decode table) → receipts ≡ receiptsPart table
+      → Positions table i list m receipts 0
+  positions-none accepted m-is receipts-are = record { read = messages-read accepted m-is refl receipts-are; within = zero-le; good = below-none _ }
 
-  pub positions-more : (a : ℕ) → Positions t i list a → a < length list → badPosition t i (getD list a 0) ≡ false → Positions t i list (a + 1)
-  positions-more a p l h = record { within = omega arith; good = λ b k. by-place b k (ℕ-discrete b a) }
-    where
-      by-place : (b : ℕ) → b < a + 1 → Dec (b ≡ a) → badPosition t i (getD list b 0) ≡ false
-      by-place b k (yes e) = ap (λ (x : ℕ). badPosition t i (getD list x 0)) e ∙ h
-      by-place b k (no e) = p .good b (omega arith)
+  module _ {a : ℕ} (w : Positions table i list m receipts a) where
+    abbrev t : Table
+    t = decode table
 
-  pub positions-all : (a : ℕ) → Positions t i list a → length list ≤ a → false ≡ any (badPosition t i) list
-  positions-all a p l = sym (any-none (badPosition t i) list 0 (λ b k. p .good b (omega arith)))
+    pub positions-all : length list ≤ a → false ≡ any (badPosition t i) list
+    positions-all l = sym (any-none (badPosition t i) list 0 (λ b k. w .good b (omega arith)))
 
-  pub position-bad : (a : ℕ) → a < length list → badPosition t i (getD list a 0) ≡ true → true ≡ any (badPosition t i) list
-  position-bad a l h = sym (any-some (badPosition t i) list 0 a l h)
+    -- the position at entry a
+    module _ (l : a < length list) where
+      abbrev k : ℕ
+      k = getD list a 0
 
--- one position's test
-is-bad : (t : Table) (i k : ℕ) → (Waiting t i k → ⊥) → badPosition t i k ≡ true
-is-bad t i k not-waiting = go (badPosition t i k) refl
-  where
-    go : (b : Bool) → badPosition t i k ≡ b → b ≡ true
-    go true e = refl
-    go false e = absurd (not-waiting (good-position t i k e))
+      bad : (Waiting t i k → ⊥) → true ≡ any (badPosition t i) list
+      bad not-waiting = sym (any-some (badPosition t i) list 0 a l (else-true (badPosition t i k) (λ e. not-waiting (good-position t i k e))))
 
-module _ (bytes : List ℕ) (accepted : tableRefusal bytes ≡ 0) (i k : ℕ) where
-  abbrev t : Table
-  t = decode bytes
+      pub bad-beyond : m ≤ k → true ≡ any (badPosition t i) list
+      bad-beyond h = bad (λ w′. omega (arith, w′ .a-message, w .read .m-is))
 
-  pub bad-beyond : messageCount t ≤ k → badPosition t i k ≡ true
-  bad-beyond l = is-bad t i k (λ w. omega (arith, w .a-message))
+      module _ (there : k < m) where
+        pub bad-receiver : {r : ℕ} → r ≡ u16At receipts (4 * k) → (r ≡ i → ⊥) → true ≡ any (badPosition t i) list
+        bad-receiver e other = bad (λ w′. other (receiver-is (w .read) there e ∙ w′ .to-process))
 
-  module _ (l : k < messageCount t) (receipts : List ℕ) (is-r : receipts ≡ receiptsPart bytes) where
-    pub bad-receiver : (r : ℕ) → r ≡ u16At receipts (4 * k) → (r ≡ i → ⊥) → badPosition t i k ≡ true
-    bad-receiver r read other = is-bad t i k (λ w. other (receiver-read bytes accepted k l receipts r is-r read ∙ w .to-process))
+        pub bad-received : {s : ℕ} → s ≡ u16At receipts (4 * k + 2) → (s ≡ 0 → ⊥) → true ≡ any (badPosition t i) list
+        bad-received e delivered = bad (λ w′. delivered (received-is (w .read) there e ∙ w′ .undelivered))
 
-    pub bad-received : (r : ℕ) → r ≡ u16At receipts (4 * k + 2) → (r ≡ 0 → ⊥) → badPosition t i k ≡ true
-    bad-received r read delivered = is-bad t i k (λ w. delivered (received-read bytes accepted k l receipts r is-r read ∙ w .undelivered))
-
-    pub good-here : (r s : ℕ) → r ≡ u16At receipts (4 * k) → s ≡ u16At receipts (4 * k + 2) → r ≡ i → s ≡ 0 → badPosition t i k ≡ false
-    good-here r s read read′ same zero-is =
-        waiting-position t i k (record {
-          a-message = l;
-          to-process = sym (receiver-read bytes accepted k l receipts r is-r read) ∙ same;
-          undelivered = sym (received-read bytes accepted k l receipts s is-r read′) ∙ zero-is;
-        })
+        pub good-here : {r s : ℕ} → r ≡ u16At receipts (4 * k) → s ≡ u16At receipts (4 * k + 2) → r ≡ i → s ≡ 0
+            → Positions table i list m receipts (a + 1)
+        good-here e e′ same zero-is = record {
+          read = w .read;
+          within = omega arith;
+          good =
+              below-more _ a (w .good)
+              (waiting-position t i k (record {
+                a-message = omega (arith, there, w .read .m-is);
+                to-process = sym (receiver-is (w .read) there e) ∙ same;
+                undelivered = sym (received-is (w .read) there e′) ∙ zero-is;
+              }));
+        }
 
 -- ---- a loop over the listed positions, which writes their receipts
 module _ (receipts : List ℕ) (number : ℕ) where
@@ -113,10 +131,11 @@ module _ (receipts : List ℕ) (number : ℕ) where
   numbers-length : (m : ℕ) (list : List ℕ) → length (numbers m list) ≡ 2 * m
   unfolding receiptNumbers
   numbers-length zero list = refl
-  numbers-length (suc m) list = omega (arith, length-append (numbers m list) (processAt receipts m ∷ newReceipt receipts list number m ∷ []), numbers-length m list)
+  numbers-length (suc m) list =
+      omega (arith, length-append (numbers m list) (processAt receipts m ∷ newReceipt receipts list number m ∷ []), numbers-length m list)
 
   -- the numbers as they are copied, before any is listed
-  numbers-copied : (m : ℕ) → tabulate (2 * m) (λ e. u16At receipts (2 * e)) ≡ numbers m []
+  numbers-copied : (m : ℕ) → copied m receipts ≡ numbers m []
   unfolding receiptNumbers tabulate newReceipt any processAt checkpointAt
   numbers-copied zero = refl
   numbers-copied (suc m) =
@@ -137,7 +156,9 @@ module _ (receipts : List ℕ) (number : ℕ) where
 
     other-same : (j : ℕ) → (j ≡ k → ⊥) → newReceipt receipts longer number j ≡ newReceipt receipts list number j
     unfolding newReceipt
-    other-same j e = ap (λ (b : Bool). cond b number (checkpointAt receipts j)) (any-last (eqb j) list k ∙ ap (λ (b : Bool). any (eqb j) list || b) (ne-eqb j k e) ∙ or-none (any (eqb j) list))
+    other-same j e =
+        ap (λ (b : Bool). cond b number (checkpointAt receipts j))
+        (any-last (eqb j) list k ∙ ap (λ (b : Bool). any (eqb j) list || b) (ne-eqb j k e) ∙ or-none (any (eqb j) list))
 
     -- one position more in the list
     numbers-below : (m : ℕ) → m ≤ k → numbers m longer ≡ numbers m list
@@ -151,58 +172,78 @@ module _ (receipts : List ℕ) (number : ℕ) where
     numbers-set zero l = absurd (omega arith)
     numbers-set (suc m) l = by-place (ℕ-discrete k m) (λ h. numbers-set m h)
       where
+        -- the numbers before entry m, and those of the entry with another receipt number
+        front : List ℕ
+        front = numbers m list
+
         pair : ℕ → List ℕ
         pair y = processAt receipts m ∷ y ∷ []
 
-        by-place : Dec (k ≡ m) → (k < m → set (numbers m list) (2 * k + 1) number ≡ numbers m longer)
-            → set (numbers m list ++ pair (newReceipt receipts list number m)) (2 * k + 1) number ≡ numbers m longer ++ pair (newReceipt receipts longer number m)
+        by-place : Dec (k ≡ m) → (k < m → set front (2 * k + 1) number ≡ numbers m longer)
+            → set (front ++ pair (newReceipt receipts list number m)) (2 * k + 1) number ≡ numbers m longer ++ pair (newReceipt receipts longer number m)
         by-place (yes e) before =
-            let split : numbers m list ++ pair (newReceipt receipts list number m) ≡ (numbers m list ++ (processAt receipts m ∷ [])) ++ (newReceipt receipts list number m ∷ []) =
-            sym (append-assoc (numbers m list) (processAt receipts m ∷ []) (newReceipt receipts list number m ∷ [])) in
-            let seam : length (numbers m list ++ (processAt receipts m ∷ [])) ≡ 2 * k + 1 =
-            omega (arith, length-append (numbers m list) (processAt receipts m ∷ []), numbers-length m list) in
+            let old = newReceipt receipts list number m in
+            let split = sym (append-assoc front (processAt receipts m ∷ []) (old ∷ [])) in
+            let seam : length (front ++ (processAt receipts m ∷ [])) ≡ 2 * k + 1 =
+            omega (arith, length-append front (processAt receipts m ∷ []), numbers-length m list) in
             ap₂ (λ (a : List ℕ) (j : ℕ). set a j number) split (sym seam)
-            ∙ set-append-seam (numbers m list ++ (processAt receipts m ∷ [])) (newReceipt receipts list number m) [] number
-            ∙ append-assoc (numbers m list) (processAt receipts m ∷ []) (number ∷ [])
-            ∙ ap₂ (λ (a : List ℕ) (y : ℕ). a ++ pair y) (sym (numbers-below m (omega arith))) (sym (ap (newReceipt receipts longer number) (sym e) ∙ here-new))
+            ∙ set-append-seam (front ++ (processAt receipts m ∷ [])) old [] number ∙ append-assoc front (processAt receipts m ∷ []) (number ∷ [])
+            ∙ ap₂ (λ (a : List ℕ) (y : ℕ). a ++ pair y) (sym (numbers-below m (omega arith)))
+            (sym (ap (newReceipt receipts longer number) (sym e) ∙ here-new))
         by-place (no e) before =
-            set-append-left (numbers m list) (pair (newReceipt receipts list number m)) (2 * k + 1) number (omega (arith, numbers-length m list))
+            set-append-left front (pair (newReceipt receipts list number m)) (2 * k + 1) number (omega (arith, numbers-length m list))
             ∙ ap₂ (λ (a : List ℕ) (y : ℕ). a ++ pair y) (before (omega arith)) (sym (other-same m (λ s. e (sym s))))
 
-  -- Where the receipts stood from a place on, the first a listed ones have their new number.
-  pub record Received (m : ℕ) (list : List ℕ) (at : ℕ) (copied after : List ℕ) (a : ℕ) : Type 0 where
-    pub within : a ≤ length list
-    pub room : at + 4 * m ≤ length copied
-    pub same-length : length after ≡ length copied
-    pub contents : (before : List ℕ) → at + 4 * m ≤ length before → copied ≡ putAt before at (u16s (numbers m [])) → after ≡ putAt before at (u16s (numbers m (take a list)))
+-- The receipts were put from a place on, and the first a listed ones have their new number.
+pub record Received (at : ℕ) (receipts : List ℕ) (m : ℕ) (list : List ℕ) (number : ℕ) (put after : List ℕ) (a : ℕ) : Type 0 where
+  pub listed : (b : ℕ) → b < length list → getD list b 0 < m
+  pub within : a ≤ length list
+  pub room : at + 4 * m ≤ length put
+  pub same-length : length after ≡ length put
+  pub contents : (before : List ℕ) → at + 4 * m ≤ length before → put ≡ putAt before at (u16s (receiptNumbers m receipts [] number))
+      → after ≡ putAt before at (u16s (receiptNumbers m receipts (take a list) number))
 
-  module _ (m : ℕ) (list : List ℕ) (at : ℕ) (copied : List ℕ) where
-    pub received-none : at + 4 * m ≤ length copied → Received m list at copied copied 0
-    received-none room = record { within = zero-le; room = room; same-length = refl; contents = λ before fits e. e }
+module _ {at : ℕ} {receipts : List ℕ} {m : ℕ} {list : List ℕ} {number : ℕ} {put : List ℕ} where
+  pub received-none : ((b : ℕ) → b < length list → getD list b 0 < m) → at + 4 * m ≤ length put → Received at receipts m list number put put 0
+  received-none listed room = record { listed = listed; within = zero-le; room = room; same-length = refl; contents = λ before fits e. e }
 
-    module _ (after : List ℕ) (a : ℕ) (w : Received m list at copied after a) where
-      pub received-more : a < length list → (k : ℕ) → k ≡ getD list a 0 → k < m → (later : List ℕ) → length later ≡ length after
-          → later ≡ putAt after (at + 4 * k + 2) (u16Bytes number) → Received m list at copied later (a + 1)
-      received-more l k is-k below later same put =
-          let place : at + 4 * k + 2 ≡ at + 2 * (2 * k + 1) = omega arith in
-          let longer : take (a + 1) list ≡ take a list ++ (k ∷ []) =
-          ap (λ (j : ℕ). take j list) (add-one a) ∙ take-suc list a 0 l ∙ ap (λ (x : ℕ). take a list ++ (x ∷ [])) (sym is-k) in
-          record {
-            within = omega arith;
-            room = w .room;
-            same-length = same ∙ w .same-length;
-            contents =
-                λ before fits e.
-                put ∙ ap₂ (λ (b : List ℕ) (j : ℕ). putAt b j (u16Bytes number)) (w .contents before fits e) place
-                ∙ number-within before (numbers m (take a list)) at (2 * k + 1) number (omega (arith, numbers-length m (take a list))) (omega (arith, numbers-length m (take a list)))
-                ∙ ap (λ (l : List ℕ). putAt before at (u16s l)) (numbers-set (take a list) k m below ∙ ap (numbers m) (sym longer));
-          }
+  module _ {after : List ℕ} {a : ℕ} (w : Received at receipts m list number put after a) where
+    -- the number was put at its place in entry a's message
+    pub received-more : a < length list → {later : List ℕ} → length later ≡ length after
+        → later ≡ putAt after (at + 4 * getD list a 0 + 2) (u16Bytes number) → Received at receipts m list number put later (a + 1)
+    received-more l same is = record {
+      listed = w .listed;
+      within = omega arith;
+      room = w .room;
+      same-length = same ∙ w .same-length;
+      contents =
+          λ before fits e.
+          is ∙ ap₂ (λ (b : List ℕ) (j : ℕ). putAt b j (u16Bytes number)) (w .contents before fits e) place
+          ∙ number-within before (numbers receipts number m (take a list)) at (2 * k + 1) number (omega (arith, w .listed a l, size)) (omega (arith, size))
+          ∙ ap (λ (l : List ℕ). putAt before at (u16s l))
+          (numbers-set receipts number (take a list) k m (w .listed a l) ∙ ap (numbers receipts number m) (sym longer));
+    }
+      where
+        k : ℕ
+        k = getD list a 0
 
-      pub received-all : length list ≤ a → (before : List ℕ) → at + 4 * m ≤ length before → copied ≡ putAt before at (u16s (tabulate (2 * m) (λ e. u16At receipts (2 * e))))
-          → after ≡ putAt before at (u16s (numbers m list))
-      received-all l before fits e =
-          w .contents before fits (e ∙ ap (λ (x : List ℕ). putAt before at (u16s x)) (numbers-copied m)) ∙ ap (λ (x : List ℕ). putAt before at (u16s (numbers m x))) (take-all a list l)
+        size : length (numbers receipts number m (take a list)) ≡ 2 * m
+        size = numbers-length receipts number m (take a list)
 
--- the positions of a list in which none is bad
-pub positions-below : (t : Table) (i : ℕ) (list : List ℕ) → any (badPosition t i) list ≡ false → (m : ℕ) → m ≡ messageCount t → (a : ℕ) → a < length list → getD list a 0 < m
-positions-below t i list accepted m e a l = omega (arith, good-position t i (getD list a 0) (none-of (badPosition t i) list 0 accepted a l) .a-message)
+        place : at + 4 * k + 2 ≡ at + 2 * (2 * k + 1)
+        place = omega arith
+
+        longer : take (a + 1) list ≡ take a list ++ (k ∷ [])
+        longer = ap (λ (j : ℕ). take j list) (add-one a) ∙ take-suc list a 0 l
+
+    pub received-all : length list ≤ a → (before : List ℕ) → at + 4 * m ≤ length before → put ≡ putAt before at (u16s (copied m receipts))
+        → after ≡ putAt before at (u16s (receiptNumbers m receipts list number))
+    received-all l before fits e =
+        w .contents before fits (e ∙ ap (λ (x : List ℕ). putAt before at (u16s x)) (numbers-copied receipts number m))
+        ∙ ap (λ (x : List ℕ). putAt before at (u16s (receiptNumbers m receipts x number))) (take-all a list l)
+
+-- the positions of a checkpoint that can be taken
+pub positions-below : {table : List ℕ} {i : ℕ} {list : List ℕ} → CanCheckpoint table i list → {m : ℕ} → m ≡ messageCount (decode table)
+    → (a : ℕ) → a < length list → getD list a 0 < m
+positions-below {table} {i} {list} can m-is a l =
+    omega (arith, good-position (decode table) i (getD list a 0) (none-of (badPosition (decode table) i) list 0 (can .waiting) a l) .a-message)

@@ -1,3 +1,3 @@
--- What the code of a checkpoint writes, part by part.
---     Receipts    the receipts after a checkpoint
-pub mod Receipts
+-- What the code of a checkpoint is given and writes.
+--     Checkpoint    a checkpoint that can be taken, and the receipts after it
+pub mod Checkpoint

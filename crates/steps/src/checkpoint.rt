@@ -6,7 +6,6 @@ use run_table::numbers::u16_at;
 use run_table::parts;
 use table_writer::copy_numbers;
 use table_writer::put_head;
-ghost use mathlib.Core.Bool.{false};
 ghost use mathlib.Core.Path.{_≡_};
 ghost use Prim.Native.Nat.{ℕ, _+_, _*_, _<_, _≤_};
 ghost use lib.ListN.{getD, length};
@@ -16,7 +15,7 @@ ghost use Rattle.run_table.specs.Format.{decode, encode, tableLength};
 ghost use Rattle.run_table.specs.Lists.{any};
 ghost use Rattle.run_table.specs.Numbers.{putAt, u16s};
 ghost use Rattle.run_table.specs.Table.{messageCount, processCount};
-ghost use Rattle.steps.specs.Receipts.{receiptNumbers};
+ghost use Rattle.steps.specs.Checkpoint.{CanCheckpoint, receiptNumbers};
 
 // Whether a position of the list is not above the one before it.
 pub fn not_rising(list: &[u16]) -> bool
@@ -62,7 +61,8 @@ fn put_receipts(buffer: &mut [u8], at: usize, receipts: &[u8], m: usize, list: &
     requires { ⌜ length (now receipts) ≡ 4 * m ⌝ }
     requires { ⌜ ((a : ℕ) → a < length (now list) → getD (now list) a 0 < m) ⌝ }
     requires { ⌜ at + 4 * m ≤ length (now buffer) ⌝ }
-    ensures { λ _. ⌜ now (buffer .exit) ≡ putAt (now (buffer .entry)) at (u16s (receiptNumbers m (now (receipts .entry)) (now (list .entry)) number)) ⌝ }
+    ensures { λ _. ⌜ now (buffer .exit) ≡ putAt (now (buffer .entry)) at
+        (u16s (receiptNumbers m (now (receipts .entry)) (now (list .entry)) number)) ⌝ }
 {
     copy_numbers(buffer, at, receipts, 2 * m);
     let mut a = 0;
@@ -76,11 +76,11 @@ fn put_receipts(buffer: &mut [u8], at: usize, receipts: &[u8], m: usize, list: &
 // Writes the table after a checkpoint of a known process, with a list of messages that wait for it, to
 // the front of a buffer that has room for it.
 pub fn put_checkpoint(table: &[u8], process: u16, list: &[u16], answer: &mut [u8])
-    requires { ⌜ tableRefusal (now table) ≡ 0 ⌝ }
-    requires { ⌜ process < processCount (decode (now table)) ⌝ }
-    requires { ⌜ any (badPosition (decode (now table)) process) (now list) ≡ false ⌝ }
-    requires { ⌜ tableLength (processCount (decode (now table))) (messageCount (decode (now table))) ≤ length (now answer) ⌝ }
-    ensures { λ _. ⌜ now (answer .exit) ≡ putAt (now (answer .entry)) 0 (encode (afterCheckpoint (decode (now (table .entry))) process (now (list .entry)))) ⌝ }
+    requires { ⌜ CanCheckpoint (now table) process (now list) ⌝ }
+    requires { ⌜ tableLength (processCount (decode (now table))) (messageCount (decode (now table)))
+        ≤ length (now answer) ⌝ }
+    ensures { λ _. ⌜ now (answer .exit) ≡ putAt (now (answer .entry)) 0
+        (encode (afterCheckpoint (decode (now (table .entry))) process (now (list .entry)))) ⌝ }
 {
     let n = parts::process_count(table);
     let m = parts::message_count(table);

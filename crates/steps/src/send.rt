@@ -21,7 +21,8 @@ fn put_longer(buffer: &mut [u8], at: usize, part: &[u8], m: usize, process: u16,
     requires { ⌜ length (now part) ≡ 4 * m ⌝ }
     requires { ⌜ at + 4 * (m + 1) ≤ length (now buffer) ⌝ }
     ensures { λ _. ⌜ now (buffer .exit)
-        ≡ putAt (now (buffer .entry)) at (u16s (tabulate (2 * m) (λ k. u16At (now (part .entry)) (2 * k)) ++ (process ∷ checkpoint ∷ []))) ⌝ }
+        ≡ putAt (now (buffer .entry)) at
+        (u16s (tabulate (2 * m) (λ k. u16At (now (part .entry)) (2 * k)) ++ (process ∷ checkpoint ∷ []))) ⌝ }
 {
     copy_numbers(buffer, at, part, 2 * m);
     put_entry(buffer, at + 4 * m, process, checkpoint);
@@ -31,8 +32,10 @@ fn put_longer(buffer: &mut [u8], at: usize, part: &[u8], m: usize, process: u16,
 pub fn put_send(table: &[u8], from: u16, to: u16, answer: &mut [u8])
     requires { ⌜ tableRefusal (now table) ≡ 0 ⌝ }
     requires { ⌜ from < processCount (decode (now table)) ⌝ }
-    requires { ⌜ tableLength (processCount (decode (now table))) (messageCount (decode (now table)) + 1) ≤ length (now answer) ⌝ }
-    ensures { λ _. ⌜ now (answer .exit) ≡ putAt (now (answer .entry)) 0 (encode (afterSend (decode (now (table .entry))) from to)) ⌝ }
+    requires { ⌜ tableLength (processCount (decode (now table))) (messageCount (decode (now table)) + 1)
+        ≤ length (now answer) ⌝ }
+    ensures { λ _. ⌜ now (answer .exit)
+        ≡ putAt (now (answer .entry)) 0 (encode (afterSend (decode (now (table .entry))) from to)) ⌝ }
 {
     let n = parts::process_count(table);
     let m = parts::message_count(table);

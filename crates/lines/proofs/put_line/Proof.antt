@@ -20,7 +20,7 @@ sized c = c .before .before .before
 
 -- ---- what is known there: N is small, and the part that is put has N numbers
 few : (c : tie.After-process-count) → c .process-count .result ≤ mostProcesses
-few c = omega (arith, processes-few _ (entry c .pre .0), c .process-count .ensures)
+few c = omega (arith, processes-few _ (entry c .pre .0))
 
 front : (c : tie.After-process-count) → length (take (c .process-count .result) (entry c .args .t2)) ≡ c .process-count .result
 front c = length-take-le _ _ (omega (arith, few c))
@@ -33,9 +33,7 @@ put-line-spec =
     (λ c κs. search needs)
     (λ c. omega (arith, few (c .before)))
     (λ c. sym (front (c .before .before)))
-    (λ c κs.
-    let here = c .before .before in
-    omega (arith, front here, here .process-count .ensures, entry here .pre .1))
+    (λ c κs. omega (arith, front (c .before .before)))
     (λ c. search needs)
     (λ c.
     let put = c .before .before in

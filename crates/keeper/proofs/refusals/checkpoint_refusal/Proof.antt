@@ -16,27 +16,34 @@ use Rattle.run_table.specs.Table.{processCount}
 use Rattle.keeper.proofs.refusals.checkpoint_refusal.Statement.{statement}
 use Rattle.keeper.proofs.refusals.checkpoint_refusal.Tie as tie
 
--- the table is accepted
-accepted : (c : tie.Else1) → tableRefusal (now (c .before .before .before .before .args .table)) ≡ 0
+-- ---- the places: the entry; where the table's checks caught nothing; where the process is known; where the positions are good
+abbrev entry : tie.Else1 → tie.Start
+entry c = c .before .before .before .before
+
+abbrev judged : tie.Else2 → tie.Else1
+judged c = c .before .before
+
+abbrev known : tie.Else3 → tie.Else2
+known c = c .before .before
+
+abbrev waiting : tie.Else4 → tie.Else3
+waiting c = c .before .before
+
+-- ---- what is known there: the table is accepted; 10 catches nothing; neither does 13
+accepted : (c : tie.Else1) → tableRefusal (now (entry c .args .table)) ≡ 0
 accepted c = sym (c .before .check .ensures) ∙ c .if1 .left
 
--- the process is known
-known : (c : tie.Else2)
-    → (let args = c .before .before .before .before .before .before .args in
-    leb (processCount (decode (now (args .table)))) (args .process) ≡ false)
-known c = read-lt (c .before .process-count .ensures) (c .if2 .left)
+past-ten : (c : tie.Else2) → leb (processCount (decode (now (entry (judged c) .args .table)))) (entry (judged c) .args .process) ≡ false
+past-ten c = read-lt (c .before .process-count .ensures) (c .if2 .left)
 
--- the list is good
-abbrev process : tie.Else4 → tie.Else2
-process c = c .before .before .before .before
-
-listed : (c : tie.Else4)
-    → (let args = process c .before .before .before .before .before .before .args in
+past-thirteen : (c : tie.Else4)
+    → (let args = entry (judged (known (waiting c))) .args in
     (any (badPosition (decode (now (args .table))) (args .process)) (now (args .list)) || notRising (now (args .list))) ≡ false)
-listed c =
-    let good = c .before .before in
+past-thirteen c =
+    let good = waiting c in
     neither _ _ (sym (good .before .bad-position .ensures) ∙ good .if3 .left) (sym (c .before .not-rising .ensures) ∙ c .if4 .left)
 
+-- ---- the needs, in the code's course
 pub checkpoint-refusal-spec : {M : Type 1} → statement M
 unfolding checkpointCallChecks checkpointChecks
 checkpoint-refusal-spec =
@@ -51,25 +58,26 @@ checkpoint-refusal-spec =
     (λ c κs. search needs)
     -- 13, by a position
     (λ c.
-    let first = c .before .before in
-    own-caught _ _ (accepted (first .before .before))
-    (passed _ _ _ (known first) (stopped _ _ (first-of _ _ (sym (c .before .bad-position .ensures) ∙ c .if3 .taken)))))
+    let here = c .before .before in
+    own-caught _ _ (accepted (judged here))
+    (passed _ _ _ (past-ten here) (stopped _ _ (first-of _ _ (sym (c .before .bad-position .ensures) ∙ c .if3 .taken)))))
     (λ c κs. search needs)
     -- 13, by the order
     (λ c.
     let good = c .before .before in
-    let first = good .before .before in
-    own-caught _ _ (accepted (first .before .before))
-    (passed _ _ _ (known first)
+    own-caught _ _ (accepted (judged (known good)))
+    (passed _ _ _ (past-ten (known good))
     (stopped _ _ (second-of _ _ (sym (good .before .bad-position .ensures) ∙ good .if3 .left) (sym (c .before .not-rising .ensures) ∙ c .if4 .taken)))))
     (λ c κs. search needs)
     -- 14
     (λ c.
-    let list = c .before .before in
-    own-caught _ _ (accepted (process list .before .before))
-    (passed _ _ _ (known (process list)) (passed _ _ _ (listed list) (stopped _ _ (le-read (c .before .count .ensures) (c .if5 .taken))))))
+    let rises = c .before .before in
+    let here = known (waiting rises) in
+    own-caught _ _ (accepted (judged here))
+    (passed _ _ _ (past-ten here) (passed _ _ _ (past-thirteen rises) (stopped _ _ (le-read (c .before .count .ensures) (c .if5 .taken))))))
     -- none
     (λ c.
-    let list = c .before .before in
-    own-caught _ _ (accepted (process list .before .before))
-    (passed _ _ _ (known (process list)) (passed _ _ _ (listed list) (passed _ _ _ (lt-read (c .before .count .ensures) (c .if5 .left)) quiet-none)))))
+    let rises = c .before .before in
+    let here = known (waiting rises) in
+    own-caught _ _ (accepted (judged here))
+    (passed _ _ _ (past-ten here) (passed _ _ _ (past-thirteen rises) (passed _ _ _ (lt-read (c .before .count .ensures) (c .if5 .left)) quiet-none)))))

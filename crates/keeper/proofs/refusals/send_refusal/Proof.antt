@@ -16,19 +16,26 @@ use Rattle.run_table.specs.Table.{processCount}
 use Rattle.keeper.proofs.refusals.send_refusal.Statement.{statement}
 use Rattle.keeper.proofs.refusals.send_refusal.Tie as tie
 
--- the table is accepted
-accepted : (c : tie.Else1) → tableRefusal (now (c .before .before .before .args .table)) ≡ 0
+-- ---- the places: the entry; where the table's checks caught nothing, from where both processes are known
+abbrev entry : tie.Else1 → tie.Start
+entry c = c .before .before .before
+
+abbrev judged : tie.Else3 → tie.Else1
+judged c = c .before .before .before
+
+-- ---- what is known there: the table is accepted; 10 catches nothing
+accepted : (c : tie.Else1) → tableRefusal (now (entry c .args .table)) ≡ 0
 accepted c = sym (c .before .check .ensures) ∙ c .if1 .left
 
--- both processes are known
-known : (c : tie.Else3)
-    → (let args = c .before .before .before .before .before .before .args in
+past-ten : (c : tie.Else3)
+    → (let args = entry (judged c) .args in
     let n = processCount (decode (now (args .table))) in
     (leb n (args .from) || leb n (args .to)) ≡ false)
-known c =
-    let read = c .before .before .process-count .ensures in
-    neither _ _ (read-lt read (c .before .if2 .left)) (read-lt read (c .if3 .left))
+past-ten c =
+    let n = c .before .before .process-count .ensures in
+    neither _ _ (read-lt n (c .before .if2 .left)) (read-lt n (c .if3 .left))
 
+-- ---- the needs, in the code's course
 pub send-refusal-spec : {M : Type 1} → statement M
 unfolding sendCallChecks sendChecks
 send-refusal-spec =
@@ -42,20 +49,19 @@ send-refusal-spec =
     (λ c. own-caught _ _ (accepted (c .before .before)) (stopped _ _ (first-of _ _ (read-le (c .before .process-count .ensures) (c .if2 .taken)))))
     (λ c.
     let n = c .before .before .process-count .ensures in
-    own-caught _ _ (accepted (c .before .before .before))
-    (stopped _ _ (second-of _ _ (read-lt n (c .before .if2 .left)) (read-le n (c .if3 .taken)))))
+    own-caught _ _ (accepted (c .before .before .before)) (stopped _ _ (second-of _ _ (read-lt n (c .before .if2 .left)) (read-le n (c .if3 .taken)))))
     -- 11
-    (λ c. own-caught _ _ (accepted (c .before .before .before .before)) (passed _ _ _ (known (c .before)) (stopped _ _ (eq-eqb _ _ (c .if4 .taken)))))
+    (λ c. own-caught _ _ (accepted (judged (c .before))) (passed _ _ _ (past-ten (c .before)) (stopped _ _ (eq-eqb _ _ (c .if4 .taken)))))
     (λ c κs. search needs)
     -- 14
     (λ c.
     let two = c .before .before in
-    own-caught _ _ (accepted (two .before .before .before .before))
-    (passed _ _ _ (known (two .before))
-    (passed _ _ _ (ne-eqb _ _ (two .if4 .left)) (stopped _ _ (le-read (c .before .message-count .ensures) (c .if5 .taken))))))
+    let full = le-read (c .before .message-count .ensures) (c .if5 .taken) in
+    own-caught _ _ (accepted (judged (two .before)))
+    (passed _ _ _ (past-ten (two .before)) (passed _ _ _ (ne-eqb _ _ (two .if4 .left)) (stopped _ _ full))))
     -- none
     (λ c.
     let two = c .before .before in
-    own-caught _ _ (accepted (two .before .before .before .before))
-    (passed _ _ _ (known (two .before))
-    (passed _ _ _ (ne-eqb _ _ (two .if4 .left)) (passed _ _ _ (lt-read (c .before .message-count .ensures) (c .if5 .left)) quiet-none)))))
+    let under = lt-read (c .before .message-count .ensures) (c .if5 .left) in
+    own-caught _ _ (accepted (judged (two .before)))
+    (passed _ _ _ (past-ten (two .before)) (passed _ _ _ (ne-eqb _ _ (two .if4 .left)) (passed _ _ _ under quiet-none)))))

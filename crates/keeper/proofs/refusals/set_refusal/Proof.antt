@@ -13,16 +13,23 @@ use Rattle.run_table.specs.Table.{processCount}
 use Rattle.keeper.proofs.refusals.set_refusal.Statement.{statement}
 use Rattle.keeper.proofs.refusals.set_refusal.Tie as tie
 
--- the table is accepted
-accepted : (c : tie.Else1) → tableRefusal (now (c .before .before .before .args .table)) ≡ 0
+-- ---- the places: the entry; where the table's checks caught nothing
+abbrev entry : tie.Else1 → tie.Start
+entry c = c .before .before .before
+
+abbrev judged : tie.After-has-high-bit → tie.Else1
+judged c = c .before .before
+
+-- ---- what is known there: the table is accepted; 12, as it was answered
+accepted : (c : tie.Else1) → tableRefusal (now (entry c .args .table)) ≡ 0
 accepted c = sym (c .before .check .ensures) ∙ c .if1 .left
 
--- 12, as it was answered
 twelve : (c : tie.After-has-high-bit)
-    → (let args = c .before .before .before .before .before .args in
+    → (let args = entry (judged c) .args in
     highBit (args .set) (processCount (decode (now (args .table)))) ≡ c .has-high-bit .result)
 twelve c = sym (c .has-high-bit .ensures ∙ ap (highBit _) (c .before .process-count .ensures))
 
+-- ---- the needs, in the code's course
 pub set-refusal-spec : {M : Type 1} → statement M
 unfolding lineOfSetChecks
 set-refusal-spec =
@@ -34,6 +41,6 @@ set-refusal-spec =
     (λ c κs. search needs)
     (λ c κs. search needs)
     -- 12
-    (λ c. own-caught _ _ (accepted (c .before .before .before)) (stopped _ _ (twelve (c .before) ∙ c .if2 .taken)))
+    (λ c. own-caught _ _ (accepted (judged (c .before))) (stopped _ _ (twelve (c .before) ∙ c .if2 .taken)))
     -- none
-    (λ c. own-caught _ _ (accepted (c .before .before .before)) (passed _ _ _ (twelve (c .before) ∙ c .if2 .left) quiet-none)))
+    (λ c. own-caught _ _ (accepted (judged (c .before))) (passed _ _ _ (twelve (c .before) ∙ c .if2 .left) quiet-none)))

@@ -12,5 +12,5 @@ line-size-spec =
     tie.close
     (tie.spec
     (λ c κs. search needs)
-    (λ c. omega (arith, c .process-count .ensures, processes-few _ (c .before .before .pre)))
-    (λ c line is. omega (arith, c .process-count .ensures, length-u16s line)))
+    (λ c. omega (arith, processes-few _ (c .before .before .pre)))
+    (λ c line is. omega (arith, length-u16s line)))

@@ -10,15 +10,17 @@ use Rattle.run_table.specs.Format.{decode}
 use Rattle.keeper.proofs.sizes.rollback_size.Statement.{statement}
 use Rattle.keeper.proofs.sizes.rollback_size.Tie as tie
 
+-- ---- the places: the entry, from where N was read
+abbrev entry : tie.After-process-count → tie.Start
+entry c = c .before .before
+
+-- ---- the needs, in the code's course
 pub rollback-size-spec : {M : Type 1} → statement M
 rollback-size-spec =
     tie.close
     (tie.spec
     (λ c κs. search needs)
     (λ c κs.
-    let start = c .before .before in
-    let few = rollback-fewer (decode (now (start .args .table))) in
-    (omega (arith, c .process-count .ensures, processes-few _ (start .pre .0)), omega (arith, start .pre .1, few, messages-few _ (start .pre .0))))
-    (λ c.
-    let start = c .before .before .before in
-    omega (arith, c .table-length .ensures, c .before .process-count .ensures, start .pre .1, rollback-bytes (decode (now (start .args .table))))))
+    let asked = entry c .pre in
+    omega (arith, processes-few _ (asked .0), messages-few _ (asked .0), rollback-fewer (decode (now (entry c .args .table)))))
+    (λ c. omega (arith, rollback-bytes (decode (now (entry (c .before) .args .table))))))

@@ -9,19 +9,17 @@ use Rattle.run_table.specs.Format.{decode}
 use Rattle.keeper.proofs.sizes.send_size.Statement.{statement}
 use Rattle.keeper.proofs.sizes.send_size.Tie as tie
 
+-- ---- the places: the entry, from where M was read
+abbrev entry : tie.After-message-count → tie.Start
+entry c = c .before .before .before
+
+-- ---- the needs, in the code's course
 pub send-size-spec : {M : Type 1} → statement M
 send-size-spec =
     tie.close
     (tie.spec
     (λ c κs. search needs)
     (λ c κs. search needs)
-    (λ c.
-    let asked = c .before .before .before .pre in
-    omega (arith, c .message-count .ensures, messages-few _ asked))
-    (λ c κs.
-    let asked = c .before .before .before .pre in
-    (omega (arith, c .before .process-count .ensures, processes-few _ asked), omega (arith, c .message-count .ensures, messages-few _ asked)))
-    (λ c from to.
-    let read = c .before in
-    let t = decode (now (read .before .before .before .args .table)) in
-    omega (arith, c .table-length .ensures, read .before .process-count .ensures, read .message-count .ensures, send-bytes t from to)))
+    (λ c. omega (arith, messages-few _ (entry c .pre)))
+    (λ c κs. omega (arith, processes-few _ (entry c .pre), messages-few _ (entry c .pre)))
+    (λ c from to. omega (arith, send-bytes (decode (now (entry (c .before) .args .table))) from to)))

@@ -33,7 +33,7 @@ ceiling-spec =
     (λ c. omega arith)
     (λ c κs. omega arith)
     (λ c κs. omega arith)
-    (λ c κs. omega (arith, c .before .u16-at .ensures, turn c .before .loop .inv .0 .positive _ (turn c .loop-test .taken)))
+    (λ c κs. omega (arith, turn c .before .loop .inv .0 .positive _ (turn c .loop-test .taken)))
     -- its height
     (λ c. omega arith)
     (λ c. omega arith)

@@ -3,99 +3,52 @@
 use borrow.Author.Needs.{needs}
 use native.Mathlib.Omega.{arith}
 use mathlib.Core.List.{List}
-use mathlib.Core.Path.{_≡_, refl, _∙_}
-use Prim.Native.Nat.{ℕ, _+_}
+use mathlib.Core.Path.{_≡_, refl, ap, _∙_}
+use Prim.Native.Nat.{ℕ, _+_, _≤_}
 use denote.Ref.{now}
-use lib.ListN.{getD, length, set, length-set}
+use lib.ListN.{getD, length, set, take, length-set}
+use Rattle.run_table.proofs.ReadLaws.{messages-read}
+use Rattle.run_table.specs.Format.{tableLength}
 use Rattle.steps.proofs.CheckpointLaws.{checkpoint-put}
-use Rattle.steps.proofs.SendLaws.{Read, array-long, count-small, front-size, m-few, n-few, receipts-long, sends-long}
 use Rattle.steps.proofs.PositionLaws.{positions-below}
+use Rattle.steps.proofs.SendLaws.{Read, count-small, front-size, table-read}
 use Rattle.steps.proofs.checkpoint.put_checkpoint.Statement.{statement}
 use Rattle.steps.proofs.checkpoint.put_checkpoint.Tie as tie
 
--- the places, from the last back to the entry
-abbrev sends-read : tie.After-receipts → tie.After-sends
-sends-read c = c .before .before .before .before .before .before
+-- ---- the places: where N was read; the entry; where the table was read; where the head was put; where the sends were
+abbrev sized : tie.After-count-array → tie.After-process-count
+sized c = c .before .before
 
-abbrev head-put : tie.After-sends → tie.After-put-head
-head-put c = c .before .before .before .before .before
+abbrev entry : tie.After-count-array → tie.Start
+entry c = sized c .before .before .before .before
 
-abbrev counted : tie.After-put-head → tie.After-count-array
-counted c = c .before .before .before
+abbrev read : tie.After-put-head → tie.After-count-array
+read c = c .before .before .before
 
-abbrev start : tie.After-count-array → tie.Start
-start c = c .before .before .before .before .before .before
+abbrev head : tie.After-sends-at → tie.After-put-head
+head c = c .before .before .before .before
 
--- what was read of the table
-known : (c : tie.After-count-array) → Read (now (start c .args .table)) (c .before .before .process-count .result) (c .before .message-count .result) (c .count-array .result)
-known c = record {
-  accepted = start c .pre .0;
-  read-n = c .before .before .process-count .ensures;
-  read-m = c .before .message-count .ensures;
-  read-counts = c .count-array .ensures;
-}
+abbrev sent : tie.After-receipts-at → tie.After-copy-numbers
+sent c = c .before .before .before .before
 
--- the counts with the one that grows
-abbrev grown : tie.After-count-array → List ℕ
-grown c = set (c .count-array .result) (start c .args .process) (getD (c .count-array .result) (start c .args .process) 0 + 1)
+-- ---- what is known there: the sizes and the counts; the counts with the one that grows, the first N of these; the room
+module _ (c : tie.After-count-array) where
+  known : Read (now (entry c .args .table)) (sized c .process-count .result) (c .before .message-count .result) (c .count-array .result)
+  known = table-read (entry c .pre .0 .accepted) (sized c .process-count .ensures) (c .before .message-count .ensures) (c .count-array .ensures)
 
-grown-long : (c : tie.After-count-array) → length (grown c) ≡ 32
-grown-long c = length-set (c .count-array .result) (start c .args .process) _ ∙ array-long (known c)
+  abbrev grown : List ℕ
+  grown = set (c .count-array .result) (entry c .args .process) (getD (c .count-array .result) (entry c .args .process) 0 + 1)
 
-array-read-number : tie.Need-array-read-number
-array-read-number c = omega (arith, start c .pre .1 .0, known c .read-n, n-few (known c))
+  grown-size : length grown ≡ 32
+  grown-size = length-set (c .count-array .result) (entry c .args .process) _ ∙ known .counts-size
 
-add-counts : tie.Need-add-counts
-add-counts c = omega (arith, count-small (known c) _ (start c .pre .1 .0))
+  front : sized c .process-count .result ≡ length (take (sized c .process-count .result) grown)
+  front = front-size known _ grown-size
 
-array-write-counts : tie.Need-array-write-counts
-array-write-counts c = omega (arith, start c .pre .1 .0, known c .read-n, n-few (known c))
+  room : tableLength (sized c .process-count .result) (c .before .message-count .result) ≤ length (now (entry c .args .answer))
+  room = omega (arith, known .n-is, known .m-is)
 
-array-share-prefix-counts : tie.Need-array-share-prefix-counts
-array-share-prefix-counts c = omega (arith, n-few (known (c .before)), grown-long (c .before))
-
-slice-aggregate-put-head : tie.Need-slice-aggregate-put-head
-slice-aggregate-put-head c = front-size (known (c .before .before)) _ (grown-long (c .before .before))
-
-put-head-requires : tie.Need-put-head-requires
-put-head-requires c κs =
-    let read = c .before .before in
-    omega (arith, start read .pre .1 .1 .1, n-few (known read), m-few (known read), front-size (known read) (grown read) (grown-long read), known read .read-n, known read .read-m)
-
-sends-at-requires : tie.Need-sends-at-requires
-sends-at-requires c κs = omega (arith, n-few (known (counted (c .before .before .before))))
-
-copy-numbers-requires : tie.Need-copy-numbers-requires
-copy-numbers-requires c κs =
-    let read = counted (head-put c) in
-    omega (arith, sends-long (known read) _ (c .sends .ensures), start read .pre .1 .1 .1, known read .read-n, known read .read-m, c .before .sends-at .ensures, head-put c .put-head .kept)
-
-receipts-at-requires : tie.Need-receipts-at-requires
-receipts-at-requires c κs =
-    let read = counted (head-put (c .before .before .before .before)) in
-    omega (arith, n-few (known read), m-few (known read))
-
-put-receipts-requires : tie.Need-put-receipts-requires
-put-receipts-requires c κs =
-    let put = sends-read c in
-    let read = counted (head-put put) in (
-      receipts-long (known read) _ (c .receipts .ensures),
-      (
-        positions-below _ _ _ (start read .pre .1 .1 .0) _ (known read .read-m),
-        omega (arith, start read .pre .1 .1 .1, known read .read-n, known read .read-m, c .before .receipts-at .ensures, head-put put .put-head .kept, c .before .before .before .before .before .copy-numbers .kept),
-      ),
-    )
-
-returns : tie.Need-returns
-returns c =
-    let last = c .before .before in
-    let put = sends-read (last .before) in
-    let read = counted (head-put put) in
-    checkpoint-put (known read) _ (start read .pre .1 .0) _ _ (put .before .sends-at .result) (last .before .before .receipts-at .result) _ _ _ _ _ _
-    (put .sends .ensures) (last .before .receipts .ensures) refl (put .before .sends-at .ensures) (last .before .before .receipts-at .ensures)
-    (omega (arith, start read .pre .1 .1 .1, known read .read-n, known read .read-m)) (head-put put .put-head .ensures)
-    (last .before .before .before .before .before .before .copy-numbers .ensures) (last .put-receipts .ensures)
-
+-- ---- the needs, in the code's course
 pub put-checkpoint-spec : {M : Type 1} → statement M
 put-checkpoint-spec =
     tie.close
@@ -103,20 +56,49 @@ put-checkpoint-spec =
     (λ c κs. search needs)
     (λ c κs. search needs)
     (λ c κs. search needs)
+    -- the count that grows
     (λ c. search needs)
-    array-read-number
-    add-counts
+    (λ c. omega (arith, known c .n-is, known c .n-few))
+    (λ c. omega (arith, count-small (known c) (entry c .pre .0 .known)))
     (λ c. search needs)
-    array-write-counts
-    array-share-prefix-counts
-    slice-aggregate-put-head
-    put-head-requires
-    sends-at-requires
+    (λ c. omega (arith, known c .n-is, known c .n-few))
+    -- the head
+    (λ c. omega (arith, known (c .before) .n-few, grown-size (c .before)))
+    (λ c. front (c .before .before))
+    (λ c κs.
+    let here = c .before .before in
+    omega (arith, room here, front here, known here .n-few, known here .m-few))
+    -- the sends
+    (λ c κs. omega (arith, known (read (c .before .before .before)) .n-few))
     (λ c κs. search needs)
     (λ c. search needs)
-    copy-numbers-requires
-    receipts-at-requires
+    (λ c κs.
+    let here = read (head (c .before)) in
+    omega (arith, ap length (c .sends .ensures), known here .sends-size, room here))
+    -- the receipts
+    (λ c κs.
+    let put = c .before .before .before in
+    let here = read (head (put .before .before)) in
+    omega (arith, known here .n-few, known here .m-few))
     (λ c κs. search needs)
-    put-receipts-requires
+    (λ c κs.
+    let here = read (head (sent (c .before) .before .before)) in (
+      omega (arith, ap length (c .receipts .ensures), known here .receipts-size),
+      (positions-below (entry here .pre .0) (known here .m-is), omega (arith, room here)),
+    ))
     (λ c. search needs)
-    returns)
+    -- all are written
+    (λ c.
+    let last = c .before .before in
+    let put = sent (last .before .before) in
+    let placed = put .before .before in
+    let here = read (head placed) in
+    let messages = messages-read (known here .accepted) (known here .m-is) (put .before .sends .ensures) (last .before .receipts .ensures) in
+    checkpoint-put messages (entry here .pre .0) (known here) refl (record {
+      room = room here;
+      head = head placed .put-head .ensures;
+      sends-at = placed .sends-at .ensures;
+      sends-put = put .copy-numbers .ensures;
+      receipts-at = last .before .before .receipts-at .ensures;
+      receipts-put = last .put-receipts .ensures;
+    })))

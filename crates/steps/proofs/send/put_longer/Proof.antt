@@ -5,12 +5,11 @@ use Rattle.steps.proofs.SendLaws.{longer-put}
 use Rattle.steps.proofs.send.put_longer.Statement.{statement}
 use Rattle.steps.proofs.send.put_longer.Tie as tie
 
-returns : tie.Need-returns
-returns c =
-    let added = c .before .before in
-    let copied = added .before .before .before .before in
-    longer-put _ _ _ _ _ _ _ _ (copied .copy-numbers .ensures) (added .put-entry .ensures) (search needs)
+-- ---- the places: where the array was copied
+abbrev copied : tie.After-put-entry → tie.After-copy-numbers
+copied c = c .before .before .before .before
 
+-- ---- the needs, in the code's course
 pub put-longer-spec : {M : Type 1} → statement M
 put-longer-spec =
     tie.close
@@ -21,4 +20,6 @@ put-longer-spec =
     (λ c. search needs)
     (λ c κs. search needs)
     (λ c. search needs)
-    returns)
+    (λ c.
+    let added = c .before .before in
+    longer-put (record { room = search needs; array = copied added .copy-numbers .ensures; entry = added .put-entry .ensures })))

@@ -2,81 +2,44 @@
 -- Assumes nothing.
 use borrow.Author.Needs.{needs}
 use native.Mathlib.Omega.{arith}
-use mathlib.Core.Path.{refl}
+use mathlib.Core.Path.{_≡_, refl, ap}
+use Prim.Native.Nat.{_+_, _≤_}
 use denote.Ref.{now}
-use Rattle.steps.proofs.SendLaws.{Read, array-long, count-positive, front-size, m-few, n-few, receipts-long, send-put, sends-long}
+use lib.ListN.{length, take}
+use Rattle.run_table.proofs.ReadLaws.{messages-read}
+use Rattle.run_table.specs.Format.{tableLength}
+use Rattle.steps.proofs.SendLaws.{Read, count-positive, front-size, send-put, table-read}
 use Rattle.steps.proofs.send.put_send.Statement.{statement}
 use Rattle.steps.proofs.send.put_send.Tie as tie
 
--- the places, from the last back to the entry
-abbrev sends-read : tie.After-receipts → tie.After-sends
-sends-read c = c .before .before .before .before .before .before
+-- ---- the places: where N was read; the entry; where the table was read; where the head was put; where the sends were
+abbrev sized : tie.After-count-array → tie.After-process-count
+sized c = c .before .before
 
-abbrev head-put : tie.After-sends → tie.After-put-head
-head-put c = c .before .before .before .before .before
+abbrev entry : tie.After-count-array → tie.Start
+entry c = sized c .before .before .before
 
-abbrev counted : tie.After-put-head → tie.After-count-array
-counted c = c .before .before .before
+abbrev read : tie.After-put-head → tie.After-count-array
+read c = c .before .before .before
 
-abbrev start : tie.After-count-array → tie.Start
-start c = c .before .before .before .before .before
+abbrev head : tie.After-sends-at → tie.After-put-head
+head c = c .before .before .before .before
 
--- what was read of the table
-known : (c : tie.After-count-array) → Read (now (start c .args .table)) (c .before .before .process-count .result) (c .before .message-count .result) (c .count-array .result)
-known c = record {
-  accepted = start c .pre .0;
-  read-n = c .before .before .process-count .ensures;
-  read-m = c .before .message-count .ensures;
-  read-counts = c .count-array .ensures;
-}
+abbrev sent : tie.After-receipts-at → tie.After-put-longer
+sent c = c .before .before .before .before
 
-array-read-sent : tie.Need-array-read-sent
-array-read-sent c = omega (arith, start c .pre .1 .0, known c .read-n, n-few (known c))
+-- ---- what is known there: the sizes and the counts, the first N of these, and the room
+module _ (c : tie.After-count-array) where
+  known : Read (now (entry c .args .table)) (sized c .process-count .result) (c .before .message-count .result) (c .count-array .result)
+  known = table-read (entry c .pre .0) (sized c .process-count .ensures) (c .before .message-count .ensures) (c .count-array .ensures)
 
-sub-sent : tie.Need-sub-sent
-sub-sent c = omega (arith, count-positive (known c) _ (start c .pre .1 .0))
+  front : sized c .process-count .result ≡ length (take (sized c .process-count .result) (c .count-array .result))
+  front = front-size known _ (known .counts-size)
 
-array-share-prefix-counts : tie.Need-array-share-prefix-counts
-array-share-prefix-counts c = omega (arith, n-few (known (c .before)), array-long (known (c .before)))
+  room : tableLength (sized c .process-count .result) (c .before .message-count .result + 1) ≤ length (now (entry c .args .answer))
+  room = omega (arith, known .n-is, known .m-is)
 
-slice-aggregate-put-head : tie.Need-slice-aggregate-put-head
-slice-aggregate-put-head c = front-size (known (c .before .before)) _ (array-long (known (c .before .before)))
-
-put-head-requires : tie.Need-put-head-requires
-put-head-requires c κs =
-    let read = c .before .before in
-    omega (arith, start read .pre .1 .1, n-few (known read), m-few (known read), front-size (known read) (read .count-array .result) (array-long (known read)), known read .read-n, known read .read-m)
-
-sends-at-requires : tie.Need-sends-at-requires
-sends-at-requires c κs = omega (arith, n-few (known (counted (c .before .before .before))))
-
-put-longer-requires : tie.Need-put-longer-requires
-put-longer-requires c κs =
-    let read = counted (head-put c) in
-    (sends-long (known read) _ (c .sends .ensures), omega (arith, start read .pre .1 .1, known read .read-n, known read .read-m, c .before .sends-at .ensures, head-put c .put-head .kept))
-
-receipts-at-requires : tie.Need-receipts-at-requires
-receipts-at-requires c κs =
-    let read = counted (head-put (c .before .before .before .before)) in
-    omega (arith, n-few (known read), m-few (known read))
-
-put-longer-requires-2 : tie.Need-put-longer-requires-2
-put-longer-requires-2 c κs =
-    let put = sends-read c in
-    let read = counted (head-put put) in (
-      receipts-long (known read) _ (c .receipts .ensures),
-      omega (arith, start read .pre .1 .1, known read .read-n, known read .read-m, c .before .receipts-at .ensures, head-put put .put-head .kept, c .before .before .before .before .before .put-longer .kept),
-    )
-
-returns : tie.Need-returns
-returns c =
-    let last = c .before .before in
-    let put = sends-read (last .before) in
-    let read = counted (head-put put) in
-    send-put (known read) _ _ _ (put .before .sends-at .result) (last .before .before .receipts-at .result) _ _ _ _ _ _ (put .sends .ensures) (last .before .receipts .ensures)
-    refl (put .before .sends-at .ensures) (last .before .before .receipts-at .ensures) (omega (arith, start read .pre .1 .1, known read .read-n, known read .read-m))
-    (head-put put .put-head .ensures) (last .before .before .before .before .before .before .put-longer .ensures) (last .put-longer2 .ensures)
-
+-- ---- the needs, in the code's course
 pub put-send-spec : {M : Type 1} → statement M
 put-send-spec =
     tie.close
@@ -84,19 +47,46 @@ put-send-spec =
     (λ c κs. search needs)
     (λ c κs. search needs)
     (λ c κs. search needs)
+    -- the checkpoint that it is sent after
     (λ c. search needs)
-    array-read-sent
-    sub-sent
-    array-share-prefix-counts
-    slice-aggregate-put-head
+    (λ c. omega (arith, known c .n-is, known c .n-few))
+    (λ c. omega (arith, count-positive (known c) (entry c .pre .1 .0)))
+    -- the head
+    (λ c. omega (arith, known (c .before) .n-few, known (c .before) .counts-size))
+    (λ c. front (c .before .before))
     (λ c. search needs)
-    put-head-requires
-    sends-at-requires
+    (λ c κs.
+    let here = c .before .before in
+    omega (arith, room here, front here, known here .n-few, known here .m-few))
+    -- the sends
+    (λ c κs. omega (arith, known (read (c .before .before .before)) .n-few))
     (λ c κs. search needs)
-    put-longer-requires
+    (λ c κs.
+    let here = read (head (c .before)) in
+    omega (arith, ap length (c .sends .ensures), known here .sends-size, room here))
+    -- the receipts
     (λ c. search needs)
-    receipts-at-requires
+    (λ c κs.
+    let put = c .before .before .before in
+    let here = read (head (put .before .before)) in
+    omega (arith, known here .n-few, known here .m-few))
     (λ c κs. search needs)
-    put-longer-requires-2
+    (λ c κs.
+    let here = read (head (sent (c .before) .before .before)) in
+    omega (arith, ap length (c .receipts .ensures), known here .receipts-size, room here))
     (λ c. search needs)
-    returns)
+    -- all are written
+    (λ c.
+    let last = c .before .before in
+    let put = sent (last .before .before) in
+    let placed = put .before .before in
+    let here = read (head placed) in
+    let messages = messages-read (known here .accepted) (known here .m-is) (put .before .sends .ensures) (last .before .receipts .ensures) in
+    send-put messages (known here) _ _ refl (record {
+      room = room here;
+      head = head placed .put-head .ensures;
+      sends-at = placed .sends-at .ensures;
+      sends-put = put .put-longer .ensures;
+      receipts-at = last .before .before .receipts-at .ensures;
+      receipts-put = last .put-longer2 .ensures;
+    })))
