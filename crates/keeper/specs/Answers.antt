@@ -16,9 +16,11 @@ unfoldable pub unless : ℕ → List ℕ → Answer
 unless zero bytes = answered bytes
 unless (suc n) bytes = refused (suc n)
 
--- The answer of a call: its checks, in checking order, and at last 16, that the answer buffer is shorter than the answer.
+-- The answer of a call: its checks, in checking order, and at last 16, that the answer buffer is shorter
+-- than the answer.
 unfoldable pub answer : List Check → List ℕ → ℕ → Answer
-answer checks bytes room = unless (firstCaught (checks ++ (record { caught = ltb room (length bytes); number = 16 } ∷ []))) bytes
+answer checks bytes room =
+    unless (firstCaught (checks ++ (record { caught = ltb room (length bytes); number = 16 } ∷ []))) bytes
 
 -- The number returned: 0, or the refusal's.
 unfoldable pub numberOf : Answer → ℕ
@@ -35,7 +37,8 @@ unfoldable pub lengthAfter : Answer → ℕ → ℕ
 lengthAfter (refused n) before = before
 lengthAfter (answered bytes) before = length bytes
 
--- A call yields an answer: the number it returns, and the final contents of the answer buffer and of the length's place.
+-- A call yields an answer: the number it returns, and the final contents of the answer buffer and of the
+-- length's place.
 pub record Yields (a : Answer) (number : ℕ) (buffer buffer′ : List ℕ) (written written′ : ℕ) : Type 0 where
   pub number-is : number ≡ numberOf a
   pub buffer-is : buffer′ ≡ bufferAfter a buffer

@@ -1,4 +1,5 @@
--- The answer of each call, from the table's bytes, its other arguments and the length of the answer buffer. Assumes nothing.
+-- The answer of each call, from the table's bytes, its other arguments and the length of the answer buffer.
+-- Assumes nothing.
 use mathlib.Core.List.{List, [], _∷_, _++_}
 use mathlib.Core.Logic.{_↔_}
 use mathlib.Core.Path.{_≡_}
@@ -29,22 +30,26 @@ recoveryLineAnswer table room = answer (tableChecks table) (u16s (recoveryLine (
 
 -- The checks of the line of a set: the table's; 12, that the set has a bit at N or above.
 unfoldable pub lineOfSetChecks : List ℕ → ℕ → List Check
-lineOfSetChecks table set = onTable table (record { caught = highBit set (processCount (decode table)); number = 12 } ∷ [])
+lineOfSetChecks table set =
+    onTable table (record { caught = highBit set (processCount (decode table)); number = 12 } ∷ [])
 
 -- The line of a set: these, and 16.
 unfoldable pub lineOfSetAnswer : List ℕ → ℕ → ℕ → Answer
 lineOfSetAnswer table set room = answer (lineOfSetChecks table set) (u16s (lineOf (decode table) (member set))) room
 
--- The line that an answer's first N numbers give is the latest consistent one, of the table's messages, under this ceiling.
+-- The line that an answer's first N numbers give is the latest consistent one, of the table's messages,
+-- under this ceiling.
 unfoldable pub HoldsLatest : List ℕ → List ℕ → List ℕ → Type 0
 HoldsLatest table ceiling buffer =
-    Latest (decode table .messages) (asLine ceiling) (asLine (tabulate (processCount (decode table)) (λ p. u16At buffer (2 * p))))
+    Latest (decode table .messages) (asLine ceiling)
+    (asLine (tabulate (processCount (decode table)) (λ p. u16At buffer (2 * p))))
 
 -- ---- the steps
 -- The checks of a send: the table's; 10 and 11; 14, that M is 4,096 already.
 unfoldable pub sendCallChecks : List ℕ → ℕ → ℕ → List Check
 sendCallChecks table from to =
-    onTable table (sendChecks (decode table) from to ++ (record { caught = leb mostMessages (messageCount (decode table)); number = 14 } ∷ []))
+    onTable table (sendChecks (decode table) from to
+    ++ (record { caught = leb mostMessages (messageCount (decode table)); number = 14 } ∷ []))
 
 -- The table after a send: these, and 16.
 unfoldable pub sendAnswer : List ℕ → ℕ → ℕ → ℕ → Answer
@@ -53,11 +58,13 @@ sendAnswer table from to room = answer (sendCallChecks table from to) (encode (a
 -- The checks of a checkpoint: the table's; 10 and 13; 14, that the count of the process is 4,096 already.
 unfoldable pub checkpointCallChecks : List ℕ → ℕ → List ℕ → List Check
 checkpointCallChecks table process list =
-    onTable table (checkpointChecks (decode table) process list ++ (record { caught = leb mostCheckpoints (countOf (decode table) process); number = 14 } ∷ []))
+    onTable table (checkpointChecks (decode table) process list
+    ++ (record { caught = leb mostCheckpoints (countOf (decode table) process); number = 14 } ∷ []))
 
 -- The table after a checkpoint: these, and 16.
 unfoldable pub checkpointAnswer : List ℕ → ℕ → List ℕ → ℕ → Answer
-checkpointAnswer table process list room = answer (checkpointCallChecks table process list) (encode (afterCheckpoint (decode table) process list)) room
+checkpointAnswer table process list room =
+    answer (checkpointCallChecks table process list) (encode (afterCheckpoint (decode table) process list)) room
 
 -- The table after a rollback: the table's checks, 16.
 unfoldable pub rollbackAnswer : List ℕ → ℕ → Answer
@@ -72,7 +79,8 @@ pub record HoldsTable (t : Table) (buffer : List ℕ) (size : ℕ) : Type 0 wher
 -- The checks of the keep sheet: the table's; 15, that the scratch is shorter than N × N numbers.
 unfoldable pub keepSheetChecks : List ℕ → ℕ → List Check
 keepSheetChecks table numbers =
-    onTable table (record { caught = ltb numbers (processCount (decode table) * processCount (decode table)); number = 15 } ∷ [])
+    onTable table
+    (record { caught = ltb numbers (processCount (decode table) * processCount (decode table)); number = 15 } ∷ [])
 
 -- The keep sheet: these, and 16.
 unfoldable pub keepSheetAnswer : List ℕ → ℕ → ℕ → Answer
@@ -83,9 +91,11 @@ unfoldable pub linesUnless : ℕ → List ℕ → List ℕ → List ℕ
 linesUnless zero lines scratch = lines ++ drop (length lines) scratch
 linesUnless (suc n) lines scratch = scratch
 
--- The scratch afterwards, by what these checks, those before 16, refuse: it has the lines of single holders, or is unchanged.
+-- The scratch afterwards, by what these checks, those before 16, refuse: it has the lines of single holders,
+-- or is unchanged.
 unfoldable pub scratchAfter : List ℕ → List ℕ → List ℕ
-scratchAfter table scratch = linesUnless (firstCaught (keepSheetChecks table (length scratch))) (holderLines (decode table)) scratch
+scratchAfter table scratch =
+    linesUnless (firstCaught (keepSheetChecks table (length scratch))) (holderLines (decode table)) scratch
 
 -- A sheet in a buffer lists checkpoint c of process i: entry n of its two arrays, for some n below K, is i and c.
 unfoldable pub ListsCheckpoint : List ℕ → ℕ → ℕ → Type 0
@@ -95,7 +105,8 @@ ListsCheckpoint buffer i c =
 
 -- It lists the message at a position: so is entry n of its positions, for some n below Q.
 unfoldable pub ListsMessage : List ℕ → ℕ → Type 0
-ListsMessage buffer position = (n : ℕ) × (n < u16At buffer 2) × (u16At buffer (4 + 4 * u16At buffer 0 + 2 * n) ≡ position)
+ListsMessage buffer position =
+    (n : ℕ) × (n < u16At buffer 2) × (u16At buffer (4 + 4 * u16At buffer 0 + 2 * n) ≡ position)
 
 -- Demand 3, of the bytes in a buffer: they list exactly what some future of the table needs.
 pub record HoldsSheet (t : Table) (buffer : List ℕ) : Type 0 where

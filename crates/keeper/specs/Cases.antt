@@ -10,7 +10,9 @@ use Rattle.run_table.specs.Numbers.{u16s}
 
 -- ---- the tables, by their numbers: N, M; the counts; the sends; the receipts
 unfoldable pub tableA : List ℕ
-tableA = u16s (2 ∷ 5 ∷ 3 ∷ 3 ∷ 0 ∷ 0 ∷ 1 ∷ 0 ∷ 1 ∷ 1 ∷ 0 ∷ 2 ∷ 1 ∷ 2 ∷ 1 ∷ 2 ∷ 0 ∷ 1 ∷ 0 ∷ 2 ∷ 1 ∷ 2 ∷ 0 ∷ 0 ∷ [])
+tableA =
+    u16s (2 ∷ 5 ∷ 3 ∷ 3 ∷ 0 ∷ 0 ∷ 1 ∷ 0 ∷ 1 ∷ 1 ∷ 0 ∷ 2 ∷ 1 ∷ 2
+    ∷ 1 ∷ 2 ∷ 0 ∷ 1 ∷ 0 ∷ 2 ∷ 1 ∷ 2 ∷ 0 ∷ 0 ∷ [])
 
 unfoldable pub tableB : List ℕ
 tableB = u16s (1 ∷ 0 ∷ 1 ∷ [])
@@ -23,10 +25,14 @@ tableD = u16s (2 ∷ 2 ∷ 2 ∷ 2 ∷ 0 ∷ 1 ∷ 1 ∷ 0 ∷ 1 ∷ 1 ∷ 0 ∷
 
 -- A, with (1, 2) to (0, 3), and with (1, 3) to (0, 0), as its last message.
 unfoldable pub lateReceipt : List ℕ
-lateReceipt = u16s (2 ∷ 5 ∷ 3 ∷ 3 ∷ 0 ∷ 0 ∷ 1 ∷ 0 ∷ 1 ∷ 1 ∷ 0 ∷ 2 ∷ 1 ∷ 2 ∷ 1 ∷ 2 ∷ 0 ∷ 1 ∷ 0 ∷ 2 ∷ 1 ∷ 2 ∷ 0 ∷ 3 ∷ [])
+lateReceipt =
+    u16s (2 ∷ 5 ∷ 3 ∷ 3 ∷ 0 ∷ 0 ∷ 1 ∷ 0 ∷ 1 ∷ 1 ∷ 0 ∷ 2 ∷ 1 ∷ 2
+    ∷ 1 ∷ 2 ∷ 0 ∷ 1 ∷ 0 ∷ 2 ∷ 1 ∷ 2 ∷ 0 ∷ 3 ∷ [])
 
 unfoldable pub lateSend : List ℕ
-lateSend = u16s (2 ∷ 5 ∷ 3 ∷ 3 ∷ 0 ∷ 0 ∷ 1 ∷ 0 ∷ 1 ∷ 1 ∷ 0 ∷ 2 ∷ 1 ∷ 3 ∷ 1 ∷ 2 ∷ 0 ∷ 1 ∷ 0 ∷ 2 ∷ 1 ∷ 2 ∷ 0 ∷ 0 ∷ [])
+lateSend =
+    u16s (2 ∷ 5 ∷ 3 ∷ 3 ∷ 0 ∷ 0 ∷ 1 ∷ 0 ∷ 1 ∷ 1 ∷ 0 ∷ 2 ∷ 1 ∷ 3
+    ∷ 1 ∷ 2 ∷ 0 ∷ 1 ∷ 0 ∷ 2 ∷ 1 ∷ 2 ∷ 0 ∷ 0 ∷ [])
 
 -- ---- a case: a call on a table, and the answer that the document gives
 pub data Call : Type 0 where
@@ -73,9 +79,17 @@ markedCases =
     record { table = tableA; call = hold 1; expected = answered (u16s (1 ∷ 1 ∷ [])) }
     ∷ record { table = tableA; call = hold 2; expected = answered (u16s (3 ∷ 2 ∷ [])) }
     -- A2: its sheet
-    ∷ record { table = tableA; call = keepSheet; expected = answered (3 ∷ 0 ∷ 2 ∷ 0 ∷ 0 ∷ 0 ∷ 1 ∷ 0 ∷ 1 ∷ 0 ∷ 1 ∷ 0 ∷ 1 ∷ 0 ∷ 2 ∷ 0 ∷ 0 ∷ 0 ∷ 4 ∷ 0 ∷ []) }
+    ∷ record {
+      table = tableA;
+      call = keepSheet;
+      expected = answered (3 ∷ 0 ∷ 2 ∷ 0 ∷ 0 ∷ 0 ∷ 1 ∷ 0 ∷ 1 ∷ 0 ∷ 1 ∷ 0 ∷ 1 ∷ 0 ∷ 2 ∷ 0 ∷ 0 ∷ 0 ∷ 4 ∷ 0 ∷ []);
+    }
     -- A3: A after a fall back
-    ∷ record { table = tableA; call = fallBack; expected = answered (u16s (2 ∷ 2 ∷ 2 ∷ 2 ∷ 0 ∷ 0 ∷ 1 ∷ 0 ∷ 1 ∷ 0 ∷ 0 ∷ 1 ∷ [])) }
+    ∷ record {
+      table = tableA;
+      call = fallBack;
+      expected = answered (u16s (2 ∷ 2 ∷ 2 ∷ 2 ∷ 0 ∷ 0 ∷ 1 ∷ 0 ∷ 1 ∷ 0 ∷ 0 ∷ 1 ∷ []));
+    }
     -- B: its line, and its checkpoint 0
     ∷ record { table = tableB; call = recoveryLine; expected = answered (u16s (0 ∷ [])) }
     ∷ record { table = tableB; call = keepSheet; expected = answered (u16s (1 ∷ 0 ∷ 0 ∷ 0 ∷ [])) }

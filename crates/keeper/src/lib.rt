@@ -34,7 +34,8 @@ ghost use Rattle.consistency.specs.Ceilings.{ceilingOf};
 ghost use Rattle.futures.specs.Steps.{checkpoint, rollback, send, step};
 ghost use Rattle.keeper.specs.Answers.{Yields};
 ghost use Rattle.keeper.specs.Calls.{HoldsLatest, HoldsSheet, HoldsTable, scratchAfter};
-ghost use Rattle.keeper.specs.Calls.{checkpointAnswer, keepSheetAnswer, lineOfSetAnswer, recoveryLineAnswer, rollbackAnswer, sendAnswer};
+ghost use Rattle.keeper.specs.Calls.{checkpointAnswer, keepSheetAnswer, lineOfSetAnswer, recoveryLineAnswer};
+ghost use Rattle.keeper.specs.Calls.{rollbackAnswer, sendAnswer};
 ghost use Rattle.process_set.specs.Sets.{member};
 ghost use Rattle.run_table.specs.Checks.{tableRefusal};
 ghost use Rattle.run_table.specs.Format.{decode};
@@ -52,8 +53,8 @@ pub extern "C" fn keeper_check_table(table: &[u8]) -> u32
 pub extern "C" fn keeper_recovery_line(table: &[u8], answer: &mut [u8], written: &mut usize) -> u32
     ensures outcome { λ r. ⌜ Yields (recoveryLineAnswer (now (table .entry)) (length (now (answer .entry)))) r
         (now (answer .entry)) (now (answer .exit)) (now (written .entry)) (now (written .exit)) ⌝ }
-    ensures latest { λ (r : ℕ). ⌜ (r ≡ 0 → HoldsLatest (now (table .entry)) (ceilingOf (decode (now (table .entry))) (λ p. true))
-        (now (answer .exit))) ⌝ }
+    ensures latest { λ (r : ℕ). ⌜ (r ≡ 0 → HoldsLatest (now (table .entry))
+        (ceilingOf (decode (now (table .entry))) (λ p. true)) (now (answer .exit))) ⌝ }
 {
     let refusal = check(table);
     if refusal != 0 {
@@ -78,8 +79,8 @@ pub extern "C" fn keeper_line_of_set(
 ) -> u32
     ensures outcome { λ r. ⌜ Yields (lineOfSetAnswer (now (table .entry)) set (length (now (answer .entry)))) r
         (now (answer .entry)) (now (answer .exit)) (now (written .entry)) (now (written .exit)) ⌝ }
-    ensures latest { λ (r : ℕ). ⌜ (r ≡ 0 → HoldsLatest (now (table .entry)) (ceilingOf (decode (now (table .entry))) (member set))
-        (now (answer .exit))) ⌝ }
+    ensures latest { λ (r : ℕ). ⌜ (r ≡ 0 → HoldsLatest (now (table .entry))
+        (ceilingOf (decode (now (table .entry))) (member set)) (now (answer .exit))) ⌝ }
 {
     let refusal = set_refusal(table, set);
     if refusal != 0 {
@@ -131,9 +132,11 @@ pub extern "C" fn keeper_save(
     answer: &mut [u8],
     written: &mut usize,
 ) -> u32
-    ensures outcome { λ r. ⌜ Yields (checkpointAnswer (now (table .entry)) process (now (list .entry)) (length (now (answer .entry)))) r
+    ensures outcome { λ r. ⌜ Yields
+        (checkpointAnswer (now (table .entry)) process (now (list .entry)) (length (now (answer .entry)))) r
         (now (answer .entry)) (now (answer .exit)) (now (written .entry)) (now (written .exit)) ⌝ }
-    ensures table { λ (r : ℕ). ⌜ (r ≡ 0 → HoldsTable (step (decode (now (table .entry))) (checkpoint process (now (list .entry))))
+    ensures table { λ (r : ℕ). ⌜ (r ≡ 0 → HoldsTable
+        (step (decode (now (table .entry))) (checkpoint process (now (list .entry))))
         (now (answer .exit)) (now (written .exit))) ⌝ }
 {
     let refusal = checkpoint_refusal(table, process, list);
@@ -182,7 +185,8 @@ pub extern "C" fn keeper_keep_sheet(
     answer: &mut [u8],
     written: &mut usize,
 ) -> u32
-    ensures outcome { λ r. ⌜ Yields (keepSheetAnswer (now (table .entry)) (length (now (scratch .entry))) (length (now (answer .entry)))) r
+    ensures outcome { λ r. ⌜ Yields
+        (keepSheetAnswer (now (table .entry)) (length (now (scratch .entry))) (length (now (answer .entry)))) r
         (now (answer .entry)) (now (answer .exit)) (now (written .entry)) (now (written .exit)) ⌝ }
     ensures lines { λ _. ⌜ now (scratch .exit) ≡ scratchAfter (now (table .entry)) (now (scratch .entry)) ⌝ }
     ensures demand { λ (r : ℕ). ⌜ (r ≡ 0 → HoldsSheet (decode (now (table .entry))) (now (answer .exit))) ⌝ }

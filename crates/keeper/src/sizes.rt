@@ -16,7 +16,8 @@ ghost use Rattle.run_table.specs.Table.{Table, messageCount, processCount};
 // A line of N numbers.
 pub fn line_size(table: &[u8]) -> usize
     requires { ⌜ tableRefusal (now table) ≡ 0 ⌝ }
-    ensures { λ (r : ℕ). ⌜ ((line : List ℕ) → length line ≡ processCount (decode (now (table .entry))) → r ≡ length (u16s line)) ⌝ }
+    ensures { λ (r : ℕ). ⌜ ((line : List ℕ) → length line ≡ processCount (decode (now (table .entry)))
+        → r ≡ length (u16s line)) ⌝ }
 {
     2 * process_count(table)
 }
@@ -32,7 +33,8 @@ pub fn send_size(table: &[u8]) -> usize
 // The table after a checkpoint, whichever it is: as long as it was.
 pub fn checkpoint_size(table: &[u8]) -> usize
     requires { ⌜ tableRefusal (now table) ≡ 0 ⌝ }
-    ensures { λ (r : ℕ). ⌜ ((process : ℕ) (list : List ℕ) → r ≡ length (encode (afterCheckpoint (decode (now (table .entry))) process list))) ⌝ }
+    ensures { λ (r : ℕ). ⌜ ((process : ℕ) (list : List ℕ)
+        → r ≡ length (encode (afterCheckpoint (decode (now (table .entry))) process list))) ⌝ }
 {
     table.len()
 }
@@ -50,7 +52,8 @@ pub fn rollback_size(table: &[u8], m: usize) -> usize
 pub fn sheet_size(kept: usize, logged: usize) -> usize
     requires { ⌜ kept < 65536 ⌝ }
     requires { ⌜ logged < 65536 ⌝ }
-    ensures { λ (r : ℕ). ⌜ ((t : Table) → kept ≡ length (keptCheckpoints t) → logged ≡ length (keptMessages t) → r ≡ length (sheet t)) ⌝ }
+    ensures { λ (r : ℕ). ⌜ ((t : Table) → kept ≡ length (keptCheckpoints t) → logged ≡ length (keptMessages t)
+        → r ≡ length (sheet t)) ⌝ }
 {
     4 + 4 * kept + 2 * logged
 }
