@@ -31,9 +31,9 @@ pub record Under (m : ℕ) (sends receipts ceiling line : List ℕ) : Type 0 whe
   pub given : Messages mostProcesses m sends receipts
   pub same-line : lineUnder (messagesOf m sends receipts) line ≡ lineUnder (messagesOf m sends receipts) ceiling
 
--- The pass stands before message k: it has gone over the messages from k on. The line under its line
--- is as at the start. Until it lowers, the line is as at the start and no message that it went over is an orphan; once it
--- has lowered, the sum is smaller.
+-- The pass stands before message k: it has gone over the messages from k on. The line under its line is as at the start.
+-- Until it lowers, its line is as at the start and no message that it went over is an orphan; once it has lowered, the sum
+-- is smaller.
 pub record Passing (m : ℕ) (sends receipts start line : List ℕ) (lowered : Bool) (k : ℕ) : Type 0 where
   pub given : Messages mostProcesses m sends receipts
   pub within : k ≤ m

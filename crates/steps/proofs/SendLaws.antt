@@ -4,6 +4,7 @@
 --     count-read .. count-small   the count of a process
 --     Writes, table-written       three writes that put a table
 --     Longer, longer-put          an entry behind an array
+--     copied                      the numbers of a part, as they are copied
 --     send-put                    the table after a send
 -- Assumes nothing.
 use mathlib.Core.List.{List, [], _∷_, _++_}
