@@ -23,7 +23,8 @@ module _ (table : List ℕ) where
 
   pub long-scratch : (numbers : ℕ) → tableRefusal table ≡ 0 → square ≤ numbers → Quiet (keepSheetChecks table numbers)
   unfolding keepSheetChecks tableChecks areRefusals
-  long-scratch numbers accepted long = record { refusals = refl; quiet = sym (own-caught table _ accepted (passed _ _ 0 (le-ltb numbers square long) quiet-none)) }
+  long-scratch numbers accepted long =
+      record { refusals = refl; quiet = sym (own-caught table _ accepted (passed _ _ 0 (le-ltb numbers square long) quiet-none)) }
 
   pub short-scratch : (numbers : ℕ) → tableRefusal table ≡ 0 → numbers < square → _≡_ {A = ℕ} 15 (firstCaught (keepSheetChecks table numbers))
   unfolding keepSheetChecks
@@ -34,10 +35,10 @@ module _ (table : List ℕ) where
   scratch-long numbers q = ltb-false numbers square (quiet-number (keepSheetChecks table numbers) (q .refusals) (q .quiet) 15)
 
   module _ (scratch : List ℕ) where
-    pub scratch-kept : (r : ℕ) → r ≡ firstCaught (keepSheetChecks table (length scratch)) → (r ≡ 0 → ⊥) → scratch ≡ scratchAfter table scratch
+    pub scratch-kept : {r : ℕ} → r ≡ firstCaught (keepSheetChecks table (length scratch)) → (r ≡ 0 → ⊥) → scratch ≡ scratchAfter table scratch
     unfolding scratchAfter linesUnless
-    scratch-kept zero e nonzero = absurd (nonzero refl)
-    scratch-kept (suc n) e nonzero = ap (λ (r : ℕ). linesUnless r (holderLines (decode table)) scratch) e
+    scratch-kept {r = zero} e nonzero = absurd (nonzero refl)
+    scratch-kept {r = suc n} e nonzero = ap (λ (r : ℕ). linesUnless r (holderLines (decode table)) scratch) e
 
     pub scratch-filled : Quiet (keepSheetChecks table (length scratch)) → (after : List ℕ) → after ≡ putAt scratch 0 (holderLines (decode table))
         → after ≡ scratchAfter table scratch

@@ -55,7 +55,8 @@ module _ (table : List ℕ) (accepted : tableRefusal table ≡ 0) (before after 
   read : (p v : ℕ) → p < length ns → getD ns p 0 ≡ v → v < 65536 → u16At after (2 * p) ≡ v
   unfolding sheet
   read p v l e fits =
-      ap (λ (b : List ℕ). u16At b (2 * p)) (put ∙ put-in-front before (sheet t)) ∙ u16At-u16s ns (drop (length (sheet t)) before) p l (omega (arith, e)) ∙ e
+      ap (λ (b : List ℕ). u16At b (2 * p)) (put ∙ put-in-front before (sheet t))
+      ∙ u16At-u16s ns (drop (length (sheet t)) before) p l (omega (arith, e)) ∙ e
 
   pub read-kept : u16At after 0 ≡ length ks
   read-kept = read 0 (length ks) (omega (arith, size)) refl (omega (arith, kept-few table accepted .0))
@@ -83,8 +84,8 @@ module _ (table : List ℕ) (accepted : tableRefusal table ≡ 0) (before after 
     read-checkpoint =
         ap (u16At after) (omega (arith, read-kept, sizes .0))
         ∙ read (suc (suc (length ps + n))) (getD ks n d .number) (omega (arith, size, sizes .0))
-        (getD-append-add ps (ss ++ qs) n 0 ∙ List·getD-append ss qs 0 n (omega (arith, sizes .1)) ∙ any-default ss n 0 (d .number) (omega (arith, sizes .1))
-        ∙ List·getD-map (λ (k : Checkpoint). k .number) ks n d)
+        (getD-append-add ps (ss ++ qs) n 0 ∙ List·getD-append ss qs 0 n (omega (arith, sizes .1))
+        ∙ any-default ss n 0 (d .number) (omega (arith, sizes .1)) ∙ List·getD-map (λ (k : Checkpoint). k .number) ks n d)
         (omega (arith, small (getD ks n d) (listed-at ks n d l) .1))
 
   module _ (n : ℕ) (d : ℕ) (l : n < length qs) where

@@ -141,7 +141,7 @@ module _ (table : List ℕ) (accepted : tableRefusal table ≡ 0) where
         let n₀ : ℕ = processCount t₂ in
         let inside : n₀ ≤ length (drop (n₀ * k) scratch) = omega (arith, lines-fit, line-in n₀ k l, length-drop (n₀ * k) scratch) in
         take-tabulate n₀ (drop (n₀ * k) scratch) inside
-        ∙ tabulate-ext n₀ _ _ (λ i b. getD-drop (n₀ * k) scratch i 0 ∙ entry-is table accepted scratch (h .lines-are) k i l b)
+        ∙ tabulate-ext n₀ _ _ (λ i b. getD-drop (n₀ * k) scratch i 0 ∙ entry-is record { accepted = accepted; lines = h .lines-are } k i l b)
         ∙ ap (λ (m : ℕ). tabulate m (λ i. getD (holderLine t₂ k) i 0)) (sym (holder-length t₂ k)) ∙ tabulate-getD (holderLine t₂ k) 0
 
     holds-read : (n : ℕ) → n ≡ processCount t₂ → holdRows scratch n ≡ rows (λ k. holdRow k (holderLine t₂ k)) (processCount t₂)

@@ -24,7 +24,7 @@ checkpoint-read sheet k e process number p s = ap₂ (λ (a b : ℕ). checkpoint
 
 -- line k of n ends within n lines
 pub line-in : (n k : ℕ) → k < n → n * k + n ≤ n * n
-line-in n k l = omega (arith, cell-below n k (n - 1) l (omega arith))
+line-in n k l = omega (arith, cell-below {i = n - 1} l (omega arith))
 
 pub line-part : (scratch : List ℕ) (n k : ℕ) → take (n * k + n - n * k) (drop (n * k) scratch) ≡ lineAt scratch n k
 unfolding lineAt

@@ -5,6 +5,7 @@
 --     message-is, message-good, senders-known, receivers-known   its messages, as the parts have them
 --     sender-read .. received-read             the numbers of a message, as the code read them
 --     counts-known, counts-taken, sends-taken, receipts-taken    the parts, by the sizes that the code read
+--     message-there                            message k of the parts, as a function may take it
 --     ReadCounts, counts-read, count-read      the counts, as the code has read them
 --     ReadMessages, messages-read, messages-known    the messages, as the code has read them
 --     good, sender-is .. received-is           one of them
@@ -21,7 +22,7 @@ use Rattle.run_table.specs.Checks.{GoodMessage, tableRefusal}
 use Rattle.run_table.specs.Format.{checkpointAt, countAt, countsAt, countsPart, decode, messageAt, messagesIn}
 use Rattle.run_table.specs.Format.{processAt, processesIn, receiptsAt, receiptsPart, sendsAt, sendsPart, tableLength}
 use Rattle.run_table.specs.Numbers.{u16At}
-use Rattle.run_table.specs.Parts.{Counts, Messages}
+use Rattle.run_table.specs.Parts.{Counts, MessageThere, Messages}
 use Rattle.run_table.specs.Table.{Message, Table, countOf, messageCount, messageOf, processCount}
 use Rattle.run_table.specs.Table.{mostCheckpoints, mostMessages, mostProcesses}
 
@@ -129,6 +130,14 @@ module _ (bytes : List ℕ) (accepted : tableRefusal bytes ≡ 0) {n : ℕ} (n-i
         let size : length bytes - start ≡ 4 * messagesIn bytes = omega (arith, whole bytes accepted, decode-messages bytes) in
         let place : start ≡ receiptsAt (processesIn bytes) (messagesIn bytes) = omega (arith, decode-processes bytes, decode-messages bytes) in
         ap₂ (λ (x y : ℕ). take x (drop y bytes)) size place
+
+pub message-there : {n m k : ℕ} {sends receipts : List ℕ} → Messages n m sends receipts → k < m → MessageThere n k sends receipts
+message-there {k = k} known l = record {
+  in-sends = omega (arith, known .sends-size);
+  in-receipts = omega (arith, known .receipts-size);
+  sender-known = known .senders-known k l;
+  receiver-known = known .receivers-known k l;
+}
 
 -- ---- the counts as the code has read them
 -- How many there are in an accepted table, and their part. That n is small and the size follow from the rest; where they stand in a

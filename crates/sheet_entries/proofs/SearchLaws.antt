@@ -1,11 +1,12 @@
--- What loops over n lines find, wherever the lines come from.
+-- What loops over n lines find.
 --     Searching, search-..       the first checkpoint from a start on that some line has at a process
---     least-.., lowest-..        the lowest line
+--     Lowering, lowering-..      the lowest line
 --     Uncrossed, ..              the lines that a message crosses
 --     .. -kept                   whether a message is kept
+--     Asking, ..                 what a loop over messages was given, and what it may ask of message k
 --     Standing, select-..        numbers that pass a test, from one to the next
---     Tallied, tallied-..        numbers that pass a test, counted
---     Totalled, .., kept-..      the kept checkpoints of each process, counted
+--     Tallied, tallied-..        numbers that pass a test, counted; Counting, ..: from one to the next; Picking: the kept messages
+--     Totalling, totalling-..    the kept checkpoints of each process, counted
 -- Assumes nothing.
 use mathlib.Core.Bool.{Bool, true, false, and-false}
 use mathlib.Core.List.{List, [], _∷_, _++_}
@@ -17,17 +18,20 @@ use native.Mathlib.Omega.{arith}
 use borrow.Author.Count.{below-more}
 use borrow.Author.Tests.{eq-eqb, eqb-false, eqb-true, ne-eqb, lt-ltb, le-ltb}
 use lib.Dec.{eqb, ltb}
-use lib.ListN.{length, getD, length-append, length-map}
+use lib.ListN.{length, getD, set, replicate, length-append, length-map}
 use Rattle.consistency.specs.Lines.{Line}
-use Rattle.futures.specs.Sheet.{crosses}
-use Rattle.sheet_entries.specs.Kept.{First, checkpointsAt, crossesLine, isKept, keptOf, leastBelow, lowestAt, lowestLine, shows}
-use Rattle.run_table.proofs.ArrayLaws.{array-at}
+use Rattle.futures.specs.Sheet.{Checkpoint, crosses}
+use Rattle.run_table.proofs.ArrayLaws.{Filling, array-at, filling-array, filling-more, filling-none}
 use Rattle.run_table.proofs.ListLaws.{anyBelow-found, anyBelow-more, anyBelow-none, found-below, getD-tabulate, length-tabulate, none-below}
 use Rattle.run_table.proofs.ListLaws.{rows-more, select-gap, select-more, select-skip, select-small}
-use Rattle.run_table.specs.Format.{countAt, processAt}
+use Rattle.run_table.proofs.ReadLaws.{message-there}
+use Rattle.run_table.specs.Format.{checkpointAt, countAt, messageAt, processAt}
 use Rattle.run_table.specs.Lists.{anyBelow, rows, select, tabulate}
 use Rattle.run_table.specs.Numbers.{u16At}
-use Rattle.run_table.specs.Table.{Message}
+use Rattle.run_table.specs.Parts.{Messages}
+use Rattle.run_table.specs.Table.{Message, mostProcesses}
+use Rattle.sheet_entries.specs.Kept.{First, checkpointsAt, checkpointsOf, crossesLine, isKept, keptOf, leastBelow, lowestAt, lowestLine, shows}
+use Rattle.sheet_entries.specs.Scratch.{HoldsLines, MessageBeside, linesIn}
 
 -- ---- the first checkpoint from a start on, below a limit, that some line has at process i
 pub record Searching (n : ℕ) (line : ℕ → Line) (i from limit least k : ℕ) : Type 0 where
@@ -43,26 +47,30 @@ module _ {n : ℕ} {line : ℕ → Line} {i from limit : ℕ} where
       record { within = zero-le; from-on = l; below = le-refl limit; least-yet = λ j b. absurd (omega arith); found = λ b. absurd (omega arith) }
 
   module _ {least k : ℕ} (s : Searching n line i from limit least k) where
-    pub search-passes : k < n → (from ≤ line k i → least ≤ line k i) → Searching n line i from limit least (k + 1)
-    search-passes l later =
-        record { within = omega arith; from-on = s .from-on; below = s .below; least-yet = below-more _ k (s .least-yet) later; found = s .found }
+    -- the number v that line k has there
+    module _ (l : k < n) {v : ℕ} (read : v ≡ line k i) where
+      pub search-passes : (from ≤ v → least ≤ v) → Searching n line i from limit least (k + 1)
+      search-passes later =
+          let yet = below-more (λ j. from ≤ line j i → least ≤ line j i) k (s .least-yet) (rw read at later) in
+          record { within = omega arith; from-on = s .from-on; below = s .below; least-yet = yet; found = s .found }
 
-    pub search-finds : k < n → (v : ℕ) → v ≡ line k i → from ≤ v → v < least → Searching n line i from limit v (k + 1)
-    unfolding shows
-    search-finds l v read b c = record {
-      within = omega arith;
-      from-on = b;
-      below = omega (arith, s .below);
-      least-yet = below-more (λ j. from ≤ line j i → v ≤ line j i) k (λ j d f. omega (arith, s .least-yet j d f)) (λ _. omega arith);
-      found = λ _. anyBelow-found (λ j. eqb (line j i) v) n k l (eq-eqb (line k i) v (sym read));
-    }
+      pub search-finds : from ≤ v → v < least → Searching n line i from limit v (k + 1)
+      unfolding shows
+      search-finds b c = record {
+        within = omega arith;
+        from-on = b;
+        below = omega (arith, s .below);
+        least-yet = below-more (λ j. from ≤ line j i → v ≤ line j i) k (λ j d f. omega (arith, s .least-yet j d f)) (λ _. omega arith);
+        found = λ _. anyBelow-found (λ j. eqb (line j i) v) n k l (eq-eqb (line k i) v (sym read));
+      }
 
     pub search-ends : n ≤ k → First (shows n line i) from limit least
     unfolding shows
     search-ends l = record {
       from-on = s .from-on;
       within = s .below;
-      none-before = λ c b b′. anyBelow-none _ n (λ j d. ne-eqb (line j i) c (λ same. omega (arith, s .least-yet j (omega (arith, s .within)) (omega arith))));
+      none-before = λ c b b′.
+          anyBelow-none _ n (λ j d. ne-eqb (line j i) c (λ same. omega (arith, s .least-yet j (omega (arith, s .within)) (omega arith))));
       passes = s .found;
     }
 
@@ -97,33 +105,35 @@ module _ (f : ℕ → ℕ) where
           let there = found-below (λ k. eqb (f k) r) n (h .passes (omega (arith, bounds .1))) in
           omega (arith, least-at-most n (there .0) (there .1), eqb-true (f (there .0)) r (there .2))
 
+-- ---- a loop that finds the lowest line of n in a scratch, process by process
+pub record Lowering (scratch : List ℕ) (n : ℕ) (lowest : List ℕ) (i : ℕ) : Type 0 where
+  pub holds : HoldsLines n scratch
+  pub filling : Filling (λ j. getD (tabulate n (lowestAt n (linesIn scratch n))) j 0) n i lowest
+
+module _ {scratch : List ℕ} {n : ℕ} where
+  pub lowering-none : HoldsLines n scratch → Lowering scratch n (replicate 32 0) 0
+  lowering-none holds = record { holds = holds; filling = filling-none _ n }
+
+  module _ {lowest : List ℕ} {i : ℕ} (h : Lowering scratch n lowest i) where
+    pub lowering-more : i < n → {v : ℕ} → First (shows n (linesIn scratch n) i) 0 65535 v → Lowering scratch n (set lowest i v) (i + 1)
+    unfolding shows lowestAt
+    lowering-more l {v} first = record {
+      holds = h .holds;
+      filling =
+          filling-more _ n i lowest (h .filling) v l
+          (least-first (λ k. linesIn scratch n k i) n v first ∙ sym (getD-tabulate n (lowestAt n (linesIn scratch n)) i 0 l));
+    }
+
+    pub lowering-all : n ≤ i → lowest ≡ lowestLine n (linesIn scratch n)
+    unfolding lowestLine
+    lowering-all l = filling-array _ n i lowest (h .filling) l (sym (length-tabulate n _))
+
+-- ---- the lines that a message crosses
 -- a message that is received at or before a line does not cross it
 uncrossed-at : (l : Line) (m : Message) → m .received ≤ l (m .receiver) → crosses l m ≡ false
 unfolding crosses
 uncrossed-at l m b = rw (le-ltb (l (m .receiver)) (m .received) b) (and-false (ltb (m .sent) (l (m .sender))))
 
--- ---- the lowest line
-module _ (n : ℕ) (line : ℕ → Line) where
-  pub lowest-first : (i r : ℕ) → First (shows n line i) 0 65535 r → r ≡ lowestAt n line i
-  unfolding shows lowestAt
-  lowest-first i r h = least-first (λ k. line k i) n r h
-
-  -- its number at the receiver of message k, as it was read
-  pub lowest-read : n ≤ 32 → (lowest : List ℕ) → lowest ≡ lowestLine n line → (receipts : List ℕ) (k receiver : ℕ) → receiver ≡ u16At receipts (4 * k)
-      → processAt receipts k < n → getD lowest receiver 0 ≡ lowestAt n line (processAt receipts k)
-  unfolding lowestLine processAt
-  lowest-read few lowest is receipts k receiver read known =
-      let numbers = tabulate n (lowestAt n line) in
-      ap₂ (λ (l : List ℕ) (i : ℕ). getD l i 0) is read ∙ array-at numbers (omega (arith, length-tabulate n (lowestAt n line))) _
-      ∙ getD-tabulate n (lowestAt n line) _ 0 known
-
-  -- a message that is received at or before the lowest line crosses no line
-  uncrossed-old : (m : Message) → m .received ≤ lowestAt n line (m .receiver) → crossesLine n line m ≡ false
-  unfolding crossesLine lowestAt
-  uncrossed-old m b =
-      anyBelow-none _ n (λ k l. uncrossed-at (line k) m (omega (arith, least-at-most (λ j. line j (m .receiver)) n k l)))
-
--- ---- the lines that a message crosses
 -- It crosses none of the first k.
 pub record Uncrossed (n : ℕ) (line : ℕ → Line) (m : Message) (k : ℕ) : Type 0 where
   pub within : k ≤ n
@@ -135,57 +145,99 @@ module _ {n : ℕ} {line : ℕ → Line} {m : Message} where
   uncrossed-none = record { within = zero-le; none = refl }
 
   module _ {k : ℕ} (h : Uncrossed n line m k) where
-    more : k < n → crosses (line k) m ≡ false → Uncrossed n line m (k + 1)
-    more l e = record { within = omega arith; none = anyBelow-more _ k (h .none) e }
+    -- by the numbers that line k has at the receiver and at the sender
+    module _ (l : k < n) {x : ℕ} (of-receiver : x ≡ line k (m .receiver)) where
+      more : crosses (line k) m ≡ false → Uncrossed n line m (k + 1)
+      more e = record { within = omega arith; none = anyBelow-more _ k (h .none) e }
 
-    pub sent-after : k < n → line k (m .sender) ≤ m .sent → Uncrossed n line m (k + 1)
-    unfolding crosses
-    sent-after l b = more l (rw (le-ltb (m .sent) (line k (m .sender)) b))
+      pub received-before : m .received ≤ x → Uncrossed n line m (k + 1)
+      received-before b = more (uncrossed-at (line k) m (omega arith))
 
-    pub received-before : k < n → m .received ≤ line k (m .receiver) → Uncrossed n line m (k + 1)
-    received-before l b = more l (uncrossed-at (line k) m b)
+      module _ {y : ℕ} (of-sender : y ≡ line k (m .sender)) where
+        pub sent-after : y ≤ m .sent → Uncrossed n line m (k + 1)
+        unfolding crosses
+        sent-after b = more (rw (le-ltb (m .sent) (line k (m .sender)) (omega arith)))
 
-    pub crossed : k < n → m .sent < line k (m .sender) → line k (m .receiver) < m .received → true ≡ crossesLine n line m
-    unfolding crossesLine crosses
-    crossed l b b′ = sym (anyBelow-found _ n k l (rw (lt-ltb (m .sent) (line k (m .sender)) b, lt-ltb (line k (m .receiver)) (m .received) b′)))
+        pub crossed : m .sent < y → x < m .received → true ≡ crossesLine n line m
+        unfolding crossesLine crosses
+        crossed b b′ =
+            sym (anyBelow-found _ n k l
+            (rw (lt-ltb (m .sent) (line k (m .sender)) (omega arith), lt-ltb (line k (m .receiver)) (m .received) (omega arith))))
 
     pub uncrossed-all : n ≤ k → false ≡ crossesLine n line m
     unfolding crossesLine
     uncrossed-all l = subst (λ (j : ℕ). false ≡ anyBelow j (λ j. crosses (line j) m)) (le-antisymm (h .within) l) (sym (h .none))
 
--- ---- whether a message is kept
-module _ (n : ℕ) (line : ℕ → Line) (m : Message) where
-  pub undelivered-kept : m .received ≡ 0 → true ≡ isKept n line m
-  unfolding isKept
-  undelivered-kept e = rw e
+-- ---- whether message k is kept, by the numbers that were read of its entries
+module _ {scratch : List ℕ} {n lowest : ℕ} {sends receipts : List ℕ} {k : ℕ} (beside : MessageBeside scratch n lowest sends receipts k)
+    {x : ℕ} (read-x : x ≡ u16At receipts (4 * k + 2)) where
+  abbrev line : ℕ → Line
+  line = linesIn scratch n
 
-  pub old-kept : (m .received ≡ 0 → ⊥) → m .received ≤ lowestAt n line (m .receiver) → false ≡ isKept n line m
-  unfolding isKept
-  old-kept some b = sym (rw (ne-eqb (m .received) 0 some) (uncrossed-old n line m b))
+  abbrev this : Message
+  this = messageAt sends receipts k
 
-  -- from the four numbers that the code read
-  pub delivered-kept : (sender sent receiver received : ℕ) → sender ≡ m .sender → sent ≡ m .sent → receiver ≡ m .receiver → received ≡ m .received
-      → (received ≡ 0 → ⊥) → (r : Bool) → r ≡ crossesLine n line (record { sender = sender; sent = sent; receiver = receiver; received = received })
-      → r ≡ isKept n line m
-  unfolding isKept
-  delivered-kept sender sent receiver received a b c d some r e = rw (← d, ne-eqb received 0 some) (rw (a, b, c) at e)
+  pub undelivered-kept : x ≡ 0 → true ≡ isKept n line this
+  unfolding isKept messageAt checkpointAt
+  undelivered-kept none = rw (← read-x, none)
+
+  module _ (some : x ≡ 0 → ⊥) where
+    -- received at or before the lowest line, it crosses no line
+    pub old-kept : x ≤ lowest → false ≡ isKept n line this
+    unfolding isKept crossesLine lowestAt messageAt checkpointAt
+    old-kept b =
+        let least = least-at-most (λ j. line j (processAt receipts k)) n in
+        let none = anyBelow-none _ n (λ j l. uncrossed-at (line j) this (omega (arith, beside .lowest-is, least j l))) in
+        sym (rw (ne-eqb (checkpointAt receipts k) 0 (λ e. some (read-x ∙ e))) none)
+
+    pub delivered-kept : {j y i : ℕ} {r : Bool} → i ≡ u16At receipts (4 * k) → j ≡ u16At sends (4 * k) → y ≡ u16At sends (4 * k + 2)
+        → r ≡ crossesLine n line (record { sender = j; sent = y; receiver = i; received = x }) → r ≡ isKept n line this
+    unfolding isKept messageAt checkpointAt processAt
+    delivered-kept read-i read-j read-y e = rw (← read-x, ne-eqb x 0 some) (rw (read-i, read-j, read-y) at e)
+
+-- ---- what a loop over m messages was given, and the lowest line that it found
+pub record Asking (scratch : List ℕ) (n : ℕ) (sends receipts : List ℕ) (m : ℕ) (lowest : List ℕ) : Type 0 where
+  pub holds : HoldsLines n scratch
+  pub known : Messages n m sends receipts
+  pub lowest-is : lowest ≡ lowestLine n (linesIn scratch n)
+
+-- message k, by the receiver that was read
+module _ {scratch : List ℕ} {n : ℕ} {sends receipts : List ℕ} {m : ℕ} {lowest : List ℕ} (asking : Asking scratch n sends receipts m lowest)
+    {k : ℕ} (l : k < m) {receiver : ℕ} (read : receiver ≡ u16At receipts (4 * k)) where
+  pub receiver-small : receiver < mostProcesses
+  unfolding processAt
+  receiver-small = omega (arith, asking .known .receivers-known k l, asking .holds .few)
+
+  pub may-ask : MessageBeside scratch n (getD lowest receiver 0) sends receipts k
+  unfolding lowestLine processAt
+  may-ask =
+      let numbers = tabulate n (lowestAt n (linesIn scratch n)) in
+      let size = length-tabulate n (lowestAt n (linesIn scratch n)) in
+      let there = message-there (asking .known) l in
+      record {
+        holds = asking .holds;
+        there = there;
+        lowest-is =
+            ap₂ (λ (xs : List ℕ) (i : ℕ). getD xs i 0) (asking .lowest-is) read ∙ array-at numbers (omega (arith, size, asking .holds .few)) _
+            ∙ getD-tabulate n (lowestAt n (linesIn scratch n)) _ 0 (there .receiver-known);
+      }
 
 -- ---- numbers below a limit that pass a test, from one to the next
-module _ (test : ℕ → Bool) (limit : ℕ) where
-  -- The loop stands at the limit or at a number that passes.
-  pub record Standing (c : ℕ) : Type 0 where
-    pub within : c ≤ limit
-    pub passes : c < limit → test c ≡ true
+-- The loop stands at the limit or at a number that passes.
+pub record Standing (test : ℕ → Bool) (limit c : ℕ) : Type 0 where
+  pub within : c ≤ limit
+  pub passes : c < limit → test c ≡ true
 
-  pub stands : (from c : ℕ) → First test from limit c → Standing c
-  stands from c f = record { within = f .within; passes = f .passes }
+module _ {test : ℕ → Bool} {limit c : ℕ} where
+  pub stands : {from : ℕ} → First test from limit c → Standing test limit c
+  stands f = record { within = f .within; passes = f .passes }
 
-  pub select-first : (c : ℕ) → First test 0 limit c → select test c ≡ []
+  pub select-first : First test 0 limit c → select test c ≡ []
   unfolding select
-  select-first c f = select-gap test 0 c (f .from-on) (f .none-before)
+  select-first f = select-gap test 0 c (f .from-on) (f .none-before)
 
-  pub select-next : (c next : ℕ) → Standing c → c < limit → First test (c + 1) limit next → select test next ≡ select test c ++ (c ∷ [])
-  select-next c next s l f = select-gap test (c + 1) next (f .from-on) (f .none-before) ∙ select-more test c (s .passes l)
+  pub select-next : Standing test limit c → c < limit → {next : ℕ} → First test (c + 1) limit next → select test next ≡ select test c ++ (c ∷ [])
+  select-next s l {next} f = select-gap test (c + 1) next (f .from-on) (f .none-before) ∙ select-more test c (s .passes l)
 
 -- ---- numbers below a limit that pass a test, counted as far as k
 pub record Tallied (test : ℕ → Bool) (limit kept k : ℕ) : Type 0 where
@@ -197,56 +249,79 @@ module _ {test : ℕ → Bool} {limit : ℕ} where
   unfolding select
   tallied-none = record { within = zero-le; number = refl }
 
-  pub tallied-first : {c : ℕ} → First test 0 limit c → Tallied test limit 0 c
-  tallied-first {c} f = record { within = f .within; number = sym (ap length (select-first test limit c f)) }
-
   module _ {kept k : ℕ} (h : Tallied test limit kept k) where
     pub tallied-small : kept ≤ k
     tallied-small = omega (arith, h .number, select-small test k)
 
-    pub tallied-skip : k < limit → (r : Bool) → r ≡ test k → r ≡ false → Tallied test limit kept (k + 1)
-    tallied-skip l r e f = record { within = omega arith; number = h .number ∙ ap length (sym (select-skip test k (sym e ∙ f))) }
-
     with-next : (next : ℕ) → next ≤ limit → select test next ≡ select test k ++ (k ∷ []) → Tallied test limit (kept + 1) next
     with-next next b e = record { within = b; number = omega (arith, h .number, ap length e, length-append (select test k) (k ∷ [])) }
 
-    pub tallied-more : k < limit → (r : Bool) → r ≡ test k → r ≡ true → Tallied test limit (kept + 1) (k + 1)
-    tallied-more l r e f = with-next (k + 1) (omega arith) (select-more test k (sym e ∙ f))
+    -- what the test says of k
+    module _ (l : k < limit) {r : Bool} (is : r ≡ test k) where
+      pub tallied-skip : r ≡ false → Tallied test limit kept (k + 1)
+      tallied-skip e = record { within = omega arith; number = h .number ∙ ap length (sym (select-skip test k (sym is ∙ e))) }
 
-    pub tallied-next : Standing test limit k → k < limit → {next : ℕ} → First test (k + 1) limit next → Tallied test limit (kept + 1) next
-    tallied-next s l {next} f = with-next next (f .within) (select-next test limit k next s l f)
+      pub tallied-more : r ≡ true → Tallied test limit (kept + 1) (k + 1)
+      tallied-more e = with-next (k + 1) (omega arith) (select-more test k (sym is ∙ e))
 
     pub tallied-all : limit ≤ k → kept ≡ length (select test limit)
     tallied-all l = subst (λ (j : ℕ). kept ≡ length (select test j)) (le-antisymm (h .within) l) (h .number)
 
--- ---- lists of at most 65,536 entries each, counted one after another
-pub record Totalled {A : Type 0} (f : ℕ → List A) (n kept i : ℕ) : Type 0 where
+-- ---- a loop that counts them from one to the next
+pub record Counting (test : ℕ → Bool) (limit kept c : ℕ) : Type 0 where
+  pub standing : Standing test limit c
+  pub tallied : Tallied test limit kept c
+
+module _ {test : ℕ → Bool} {limit c : ℕ} where
+  pub counting-first : First test 0 limit c → Counting test limit 0 c
+  counting-first f = record { standing = stands f; tallied = record { within = f .within; number = sym (ap length (select-first f)) } }
+
+  pub counting-next : {kept next : ℕ} → Counting test limit kept c → c < limit → First test (c + 1) limit next → Counting test limit (kept + 1) next
+  counting-next {next = next} h l f =
+      record { standing = stands f; tallied = with-next (h .tallied) next (f .within) (select-next (h .standing) l f) }
+
+-- ---- a loop that counts the kept messages
+pub record Picking (scratch : List ℕ) (n : ℕ) (sends receipts : List ℕ) (m : ℕ) (lowest : List ℕ) (kept k : ℕ) : Type 0 where
+  pub asking : Asking scratch n sends receipts m lowest
+  pub tallied : Tallied (λ j. isKept n (linesIn scratch n) (messageAt sends receipts j)) m kept k
+
+-- ---- a loop that counts the kept checkpoints, process by process
+-- the kept checkpoints of process i
+abbrev keptAt : List ℕ → ℕ → List ℕ → ℕ → List Checkpoint
+keptAt scratch n counts i = checkpointsAt i (keptOf n (linesIn scratch n) i (countAt counts i))
+
+pub record Totalling (scratch : List ℕ) (n : ℕ) (counts : List ℕ) (total i : ℕ) : Type 0 where
   pub within : i ≤ n
-  pub small : kept ≤ 65536 * i
-  pub number : kept ≡ length (rows f i)
+  pub small : total ≤ 65536 * i
+  pub number : total ≡ length (rows (keptAt scratch n counts) i)
 
-module _ {A : Type 0} {f : ℕ → List A} {n : ℕ} where
-  pub totalled-none : Totalled f n 0 0
+module _ {scratch : List ℕ} {n : ℕ} {counts : List ℕ} where
+  pub totalling-none : Totalling scratch n counts 0 0
   unfolding rows
-  totalled-none = record { within = zero-le; small = zero-le; number = refl }
+  totalling-none = record { within = zero-le; small = zero-le; number = refl }
 
-  module _ {kept i : ℕ} (h : Totalled f n kept i) where
-    pub totalled-more : i < n → (r : ℕ) → r ≡ length (f i) → r ≤ 65536 → Totalled f n (kept + r) (i + 1)
-    totalled-more l r e b = record {
-      within = omega arith;
-      small = omega (arith, h .small);
-      number = omega (arith, h .number, ap length (rows-more f i), length-append (rows f i) (f i));
-    }
+  module _ {total i : ℕ} (h : Totalling scratch n counts total i) where
+    -- the number r of checkpoints that are kept of process i, and its count, as they were read
+    module _ {count r : ℕ} (read : count ≡ u16At counts (2 * i)) (found : r ≡ length (keptOf n (linesIn scratch n) i count)) where
+      pub totalling-adds : r ≤ count
+      unfolding keptOf
+      totalling-adds = omega (arith, select-small (shows n (linesIn scratch n) i) count)
 
-    pub totalled-all : n ≤ i → kept ≡ length (rows f n)
-    totalled-all l = subst (λ (j : ℕ). kept ≡ length (rows f j)) (le-antisymm (h .within) l) (h .number)
+      pub totalling-more : i < n → count ≤ 65536 → Totalling scratch n counts (total + r) (i + 1)
+      unfolding countAt checkpointsAt
+      totalling-more l b = record {
+        within = omega arith;
+        small = omega (arith, h .small, totalling-adds);
+        number =
+            let f = keptAt scratch n counts in
+            omega (arith, h .number, ap length (rows-more f i), length-append (rows f i) (f i), this-many);
+      }
+        where
+          this-many : r ≡ length (keptAt scratch n counts i)
+          this-many =
+              found ∙ ap (λ (x : ℕ). length (keptOf n (linesIn scratch n) i x)) read
+              ∙ sym (length-map (keptOf n (linesIn scratch n) i (u16At counts (2 * i))) (λ c. record { process = i; number = c }))
 
--- the number of checkpoints kept of process i, once the code has read the count
-module _ (n : ℕ) (line : ℕ → Line) (i count r : ℕ) (found : r ≡ length (keptOf n line i count)) where
-  pub kept-small : r ≤ count
-  unfolding keptOf
-  kept-small = omega (arith, select-small (shows n line i) count)
-
-  pub kept-read : (counts : List ℕ) → count ≡ u16At counts (2 * i) → r ≡ length (checkpointsAt i (keptOf n line i (countAt counts i)))
-  unfolding countAt checkpointsAt
-  kept-read counts read = found ∙ ap (λ (x : ℕ). length (keptOf n line i x)) read ∙ sym (length-map (keptOf n line i (u16At counts (2 * i))) _)
+    pub totalling-all : n ≤ i → total ≡ length (checkpointsOf n (linesIn scratch n) counts)
+    unfolding checkpointsOf
+    totalling-all l = subst (λ (j : ℕ). total ≡ length (rows (keptAt scratch n counts) j)) (le-antisymm (h .within) l) (h .number)

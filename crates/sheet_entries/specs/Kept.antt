@@ -1,5 +1,5 @@
--- Of the code: what n lines say is kept, the line of holder k being `line k`. The laws join these to the keep sheet of a table.
--- Assumes nothing.
+-- Of the code: what n lines say is kept, the line of holder k being `line k`. The laws join these to the keep sheet
+-- of a table. Assumes nothing.
 use mathlib.Core.Bool.{Bool, cond, true, false, _||_}
 use mathlib.Core.List.{List, map}
 use mathlib.Core.Path.{_≡_}
@@ -35,7 +35,8 @@ checkpointsAt i checkpoints = map (λ c. record { process = i; number = c }) che
 unfoldable pub checkpointsOf : ℕ → (ℕ → Line) → List ℕ → List Checkpoint
 checkpointsOf n line counts = rows (λ i. checkpointsAt i (keptOf n line i (countAt counts i))) n
 
--- One array of the sheet: the numbers of the kept checkpoints, or else their processes. First of one process, then of all.
+-- One array of the sheet: the numbers of the kept checkpoints, or else their processes. First of one process, then of
+-- all.
 unfoldable pub columnAt : Bool → ℕ → List ℕ → List ℕ
 columnAt checkpoints i kept = map (λ c. cond checkpoints c i) kept
 

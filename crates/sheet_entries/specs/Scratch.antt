@@ -1,9 +1,25 @@
 -- Of the code: lines in a scratch that begins with n lines of n numbers each, one after another. Assumes nothing.
 use mathlib.Core.List.{List}
-use Prim.Native.Nat.{ℕ, _+_, _*_}
-use lib.ListN.{getD}
+use mathlib.Core.Path.{_≡_}
+use Prim.Native.Nat.{ℕ, _+_, _*_, _≤_}
+use lib.ListN.{getD, length}
 use Rattle.consistency.specs.Lines.{Line}
+use Rattle.run_table.specs.Format.{processAt}
+use Rattle.run_table.specs.Parts.{MessageThere}
+use Rattle.run_table.specs.Table.{mostProcesses}
+use Rattle.sheet_entries.specs.Kept.{lowestAt}
+
+-- A scratch that begins with the lines of n processes.
+pub record HoldsLines (n : ℕ) (scratch : List ℕ) : Type 0 where
+  pub few : n ≤ mostProcesses
+  pub room : n * n ≤ length scratch
 
 -- Line k, by its number at process i.
 unfoldable pub linesIn : List ℕ → ℕ → ℕ → Line
 linesIn scratch n k i = getD scratch (n * k + i) 0
+
+-- Message k of a part of sends and a part of receipts, and the lowest line's number at its receiver.
+pub record MessageBeside (scratch : List ℕ) (n lowest : ℕ) (sends receipts : List ℕ) (k : ℕ) : Type 0 where
+  pub holds : HoldsLines n scratch
+  pub there : MessageThere n k sends receipts
+  pub lowest-is : lowest ≡ lowestAt n (linesIn scratch n) (processAt receipts k)

@@ -2,15 +2,16 @@
 use crate::scratch::number_in_line;
 use run_table::numbers::u16_at;
 ghost use mathlib.Core.Path.{_≡_};
-ghost use Prim.Native.Nat.{_*_, _<_, _≤_};
+ghost use Prim.Native.Nat.{_<_, _≤_};
 ghost use lib.ListN.{length};
 ghost use Rattle.sheet_entries.specs.Kept.{First, checkpointsOf, keptOf, shows};
-ghost use Rattle.sheet_entries.specs.Scratch.{linesIn};
+ghost use Rattle.sheet_entries.specs.Scratch.{HoldsLines, linesIn};
+ghost use Rattle.run_table.specs.Parts.{Counts};
 
 // The first checkpoint from a start on, below a count, that some line has at process i; the count where
 // there is none.
 pub fn next_kept(scratch: &[u16], n: usize, i: usize, from: u16, count: u16) -> u16
-    requires { ⌜ n * n ≤ length (now scratch) ⌝ }
+    requires { ⌜ HoldsLines n (now scratch) ⌝ }
     requires { ⌜ i < n ⌝ }
     requires { ⌜ from ≤ count ⌝ }
     ensures { λ r. ⌜ First (shows n (linesIn (now (scratch .entry)) n) i) from count r ⌝ }
@@ -33,7 +34,7 @@ pub fn next_kept(scratch: &[u16], n: usize, i: usize, from: u16, count: u16) -> 
 
 // How many checkpoints of process i are kept.
 fn count_kept_of(scratch: &[u16], n: usize, i: usize, count: u16) -> usize
-    requires { ⌜ n * n ≤ length (now scratch) ⌝ }
+    requires { ⌜ HoldsLines n (now scratch) ⌝ }
     requires { ⌜ i < n ⌝ }
     ensures { λ r. ⌜ r ≡ length (keptOf n (linesIn (now (scratch .entry)) n) i count) ⌝ }
 {
@@ -48,9 +49,8 @@ fn count_kept_of(scratch: &[u16], n: usize, i: usize, count: u16) -> usize
 
 // How many checkpoints are kept of n processes, from a part of their counts.
 pub fn count_kept(scratch: &[u16], n: usize, counts: &[u8]) -> usize
-    requires { ⌜ n * n ≤ length (now scratch) ⌝ }
-    requires { ⌜ n ≤ 32 ⌝ }
-    requires { ⌜ length (now counts) ≡ 2 * n ⌝ }
+    requires { ⌜ HoldsLines n (now scratch) ⌝ }
+    requires { ⌜ Counts n (now counts) ⌝ }
     ensures { λ r. ⌜ r ≡ length (checkpointsOf n (linesIn (now (scratch .entry)) n) (now (counts .entry))) ⌝ }
 {
     let mut total = 0;

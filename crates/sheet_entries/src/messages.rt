@@ -3,16 +3,16 @@ use crate::checkpoints::next_kept;
 use crate::scratch::number_in_line;
 use run_table::numbers::u16_at;
 ghost use mathlib.Core.Path.{_≡_};
-ghost use Prim.Native.Nat.{ℕ, _+_, _*_, _<_, _≤_};
+ghost use Prim.Native.Nat.{_<_};
 ghost use lib.ListN.{length};
-ghost use Rattle.sheet_entries.specs.Kept.{crossesLine, isKept, lowestAt, lowestLine, positionsOf};
-ghost use Rattle.sheet_entries.specs.Scratch.{linesIn};
-ghost use Rattle.run_table.specs.Format.{messageAt, processAt};
+ghost use Rattle.sheet_entries.specs.Kept.{crossesLine, isKept, lowestLine, positionsOf};
+ghost use Rattle.sheet_entries.specs.Scratch.{HoldsLines, MessageBeside, linesIn};
+ghost use Rattle.run_table.specs.Format.{messageAt};
+ghost use Rattle.run_table.specs.Parts.{Messages};
 
 // The lowest line: at each process the least number that any of n lines has there.
 pub fn lowest_line(scratch: &[u16], n: usize) -> [u16; 32]
-    requires { ⌜ n * n ≤ length (now scratch) ⌝ }
-    requires { ⌜ n ≤ 32 ⌝ }
+    requires { ⌜ HoldsLines n (now scratch) ⌝ }
     ensures { λ r. ⌜ r ≡ lowestLine n (linesIn (now (scratch .entry)) n) ⌝ }
 {
     let mut lowest = [0u16; 32];
@@ -34,10 +34,11 @@ fn crosses_line(
     receiver: usize,
     received: u16,
 ) -> bool
-    requires { ⌜ n * n ≤ length (now scratch) ⌝ }
+    requires { ⌜ HoldsLines n (now scratch) ⌝ }
     requires { ⌜ sender < n ⌝ }
     requires { ⌜ receiver < n ⌝ }
-    ensures { λ r. ⌜ r ≡ crossesLine n (linesIn (now (scratch .entry)) n) (record { sender = sender; sent = sent; receiver = receiver; received = received }) ⌝ }
+    ensures { λ r. ⌜ r ≡ crossesLine n (linesIn (now (scratch .entry)) n)
+        (record { sender = sender; sent = sent; receiver = receiver; received = received }) ⌝ }
 {
     let mut k = 0;
     while k < n {
@@ -66,13 +67,9 @@ pub fn is_kept(
     receipts: &[u8],
     k: usize,
 ) -> bool
-    requires { ⌜ lowest ≡ lowestAt n (linesIn (now scratch) n) (processAt (now receipts) k) ⌝ }
-    requires { ⌜ n * n ≤ length (now scratch) ⌝ }
-    requires { ⌜ 4 * k + 3 < length (now sends) ⌝ }
-    requires { ⌜ 4 * k + 3 < length (now receipts) ⌝ }
-    requires { ⌜ processAt (now sends) k < n ⌝ }
-    requires { ⌜ processAt (now receipts) k < n ⌝ }
-    ensures { λ r. ⌜ r ≡ isKept n (linesIn (now (scratch .entry)) n) (messageAt (now (sends .entry)) (now (receipts .entry)) k) ⌝ }
+    requires { ⌜ MessageBeside (now scratch) n lowest (now sends) (now receipts) k ⌝ }
+    ensures { λ r. ⌜ r ≡ isKept n (linesIn (now (scratch .entry)) n)
+        (messageAt (now (sends .entry)) (now (receipts .entry)) k) ⌝ }
 {
     let receiver = u16_at(receipts, 4 * k) as usize;
     let received = u16_at(receipts, 4 * k + 2);
@@ -89,13 +86,10 @@ pub fn is_kept(
 
 // How many of the m messages are kept.
 pub fn count_kept(scratch: &[u16], n: usize, sends: &[u8], receipts: &[u8], m: usize) -> usize
-    requires { ⌜ n * n ≤ length (now scratch) ⌝ }
-    requires { ⌜ n ≤ 32 ⌝ }
-    requires { ⌜ length (now sends) ≡ 4 * m ⌝ }
-    requires { ⌜ length (now receipts) ≡ 4 * m ⌝ }
-    requires { ⌜ ((k : ℕ) → k < m → processAt (now sends) k < n) ⌝ }
-    requires { ⌜ ((k : ℕ) → k < m → processAt (now receipts) k < n) ⌝ }
-    ensures { λ r. ⌜ r ≡ length (positionsOf n (linesIn (now (scratch .entry)) n) (now (sends .entry)) (now (receipts .entry)) m) ⌝ }
+    requires { ⌜ HoldsLines n (now scratch) ⌝ }
+    requires { ⌜ Messages n m (now sends) (now receipts) ⌝ }
+    ensures { λ r. ⌜ r ≡ length
+        (positionsOf n (linesIn (now (scratch .entry)) n) (now (sends .entry)) (now (receipts .entry)) m) ⌝ }
 {
     let lowest = lowest_line(scratch, n);
     let mut kept = 0;

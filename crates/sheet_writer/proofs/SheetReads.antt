@@ -1,17 +1,18 @@
 -- What the code finds is the keep sheet of the table.
---     lines-length, lines-stand                   the lines of single holders; where `fill_lines` leaves them
---     holder-front                                the line of one holder, as the code finds it
---     checkpoints-are, positions-are              what lines of single holders say is kept
---     entry-is                                    lines in the scratch are the lines of single holders
---     .. -needs, .. -found                        what the code finds, from what it read
+--     holder-length, lines-length, lines-stand    the lines of single holders; where `fill_lines` leaves them
 --     sheet-length                                the sheet's length
+--     checkpoints-are, positions-are              what lines of single holders say is kept
 --     kept-few                                    the sheet of an accepted table is not long
+--     Lining, lining-..                           a loop that writes the lines of single holders
+--     entry-is, holds-lines                       lines in the scratch are the lines of single holders
+--     .. -found                                   what the code finds, from what it read
 -- Assumes nothing.
-use mathlib.Core.Bool.{Bool, cond, _&&_, _||_}
+use mathlib.Core.Bool.{Bool, cond, false, _&&_, _||_}
 use mathlib.Core.List.{List, _∷_, _++_, map, map-map}
 use mathlib.Core.Path.{_≡_, refl, sym, ap, ap₂, _∙_}
 use Prim.Native.Nat.{ℕ, _+_, _-_, _*_, _^_, _<_, _≤_}
-use native.Mathlib.Nat.{mul-le-mul}
+use native.Mathlib.Nat.{mul-le-mul, mul-suc}
+use native.Mathlib.Numerals.{add-one}
 use native.Mathlib.Omega.{arith}
 use borrow.Author.Tests.{lt-ltb}
 use lib.Dec.{eqb, ltb}
@@ -23,22 +24,25 @@ use Rattle.consistency.specs.Lines.{Line, asLine}
 use Rattle.consistency.specs.Lowering.{lineUnder}
 use Rattle.futures.specs.Sheet.{Checkpoint, crosses, holderLine, holderLines, keepsCheckpoint, keepsMessage, keptCheckpoints, keptMessages, sheet}
 use Rattle.lines.proofs.LineReads.{set-front}
+use Rattle.lines.specs.Propagation.{propagatesFrom}
 use Rattle.process_set.proofs.SetLaws.{member-one}
 use Rattle.process_set.specs.Sets.{member}
-use Rattle.sheet_writer.proofs.FewLaws.{checkpoints-few}
-use Rattle.sheet_entries.proofs.ScratchLaws.{cell-below}
-use Rattle.sheet_entries.specs.Kept.{checkpointsAt, checkpointsOf, columnAt, columnOf, crossesLine, isKept, keptOf, positionsOf, shows}
-use Rattle.sheet_entries.specs.Scratch.{linesIn}
-use Rattle.run_table.proofs.ListLaws.{anyBelow-ext, map-rows, rows-at, rows-ext, rows-length, select-ext, select-small, tabulate-ext}
+use Rattle.run_table.proofs.ArrayLaws.{array-length}
+use Rattle.run_table.proofs.ListLaws.{anyBelow-ext, getD-tabulate, map-rows, rows-at, rows-ext, rows-length, select-ext, select-small, tabulate-ext}
 use Rattle.run_table.proofs.NumberLaws.{length-u16s}
-use Rattle.run_table.proofs.ReadLaws.{count-is, counts-size, message-good, message-is, messages-few, processes-few}
-use Rattle.run_table.proofs.ReadLaws.{receipts-size, receivers-known, senders-known, sends-size}
+use Rattle.run_table.proofs.ReadLaws.{ReadMessages, count-is, message-good, message-is, messages-few, processes-few}
 use Rattle.run_table.specs.Arrays.{arrayOf}
 use Rattle.run_table.specs.Checks.{GoodMessage, tableRefusal}
-use Rattle.run_table.specs.Format.{countAt, countsPart, decode, messageAt, processAt, receiptsPart, sendsPart}
-use Rattle.run_table.specs.Lists.{select}
+use Rattle.run_table.specs.Format.{countAt, countsPart, decode, messageAt, receiptsPart, sendsPart}
+use Rattle.run_table.specs.Lists.{select, tabulate}
 use Rattle.run_table.specs.Numbers.{putAt}
-use Rattle.run_table.specs.Table.{Message, Table, countOf, messageCount, messageOf, mostMessages, processCount}
+use Rattle.run_table.specs.Table.{Message, Table, countOf, messageCount, messageOf, mostMessages, mostProcesses, processCount}
+use Rattle.sheet_entries.proofs.ScratchLaws.{cell-below}
+use Rattle.sheet_entries.specs.Kept.{checkpointsAt, checkpointsOf, columnAt, columnOf, crossesLine, isKept, keptOf, positionsOf, shows}
+use Rattle.sheet_entries.specs.Scratch.{HoldsLines, linesIn}
+use Rattle.sheet_writer.proofs.FewLaws.{checkpoints-few}
+use Rattle.sheet_writer.specs.SheetParts.{LinesOf}
+use Rattle.table_writer.proofs.WriteLaws.{Written, written-all, written-more, written-none, written-room}
 
 -- ---- the lines of single holders
 module _ (t : Table) where
@@ -53,15 +57,12 @@ module _ (t : Table) where
   unfolding holderLines
   lines-length = rows-length (holderLine t) N holder-length N
 
-  pub lines-fit : (n : ℕ) (s : List ℕ) → n ≡ N → N * N ≤ length s → 0 + n * n ≤ length s
-  lines-fit n s same room = rw same (omega arith)
-
   -- where the lines stand once they are written to the front of a scratch
   pub lines-stand : (before after : List ℕ) → N * N ≤ length before → after ≡ putAt before 0 (holderLines t) → take (N * N) after ≡ holderLines t
   unfolding putAt
   lines-stand before after room e = ap (take (N * N)) e ∙ take-at (holderLines t) (drop (0 + length (holderLines t)) before) (N * N) lines-length
 
-  pub holder-line : (k set : ℕ) → set ≡ 2 ^ k → lineOf t (member set) ≡ holderLine t k
+  holder-line : (k set : ℕ) → set ≡ 2 ^ k → lineOf t (member set) ≡ holderLine t k
   unfolding lineOf ceilingOf single holderLine
   holder-line k set e =
       ap (lineUnder (t .messages))
@@ -99,7 +100,8 @@ module _ (t : Table) where
     kept-is m good =
         ap (λ (r : Bool). eqb (m .received) 0 || r)
         (anyBelow-ext _ _ N (λ k l.
-        ap₂ (λ (x y : ℕ). ltb (m .sent) x && ltb y (m .received)) (are k (m .sender) l (good .sender-known)) (are k (m .receiver) l (good .receiver-known))))
+        ap₂ (λ (x y : ℕ). ltb (m .sent) x && ltb y (m .received))
+        (are k (m .sender) l (good .sender-known)) (are k (m .receiver) l (good .receiver-known))))
 
     positions-are : (sends receipts : List ℕ) → ((k : ℕ) → k < messageCount t → messageAt sends receipts k ≡ messageOf t k)
         → ((k : ℕ) → k < messageCount t → GoodMessage t (messageOf t k)) → positionsOf N line sends receipts (messageCount t) ≡ keptMessages t
@@ -108,7 +110,8 @@ module _ (t : Table) where
         select-ext _ _ (messageCount t) (λ k l. ap (isKept N line) (read k l) ∙ kept-is (messageOf t k) (good k l))
 
 -- at most N × N checkpoints, and M messages
-pub kept-few : (bytes : List ℕ) → tableRefusal bytes ≡ 0 → (length (keptCheckpoints (decode bytes)) ≤ 1024) × (length (keptMessages (decode bytes)) ≤ mostMessages)
+pub kept-few : (bytes : List ℕ) → tableRefusal bytes ≡ 0
+    → (length (keptCheckpoints (decode bytes)) ≤ 1024) × (length (keptMessages (decode bytes)) ≤ mostMessages)
 unfolding keptMessages
 kept-few bytes accepted =
     let t = decode bytes in
@@ -117,58 +120,96 @@ kept-few bytes accepted =
       omega (arith, messages-few bytes accepted, select-small (λ k. keepsMessage t (messageOf t k)) (messageCount t)),
     )
 
--- the line of holder k, as the code finds it
-pub holder-front : (bytes : List ℕ) (accepted : tableRefusal bytes ≡ 0) (n k : ℕ) (line : List ℕ) → n ≡ processCount (decode bytes)
-    → line ≡ arrayOf (lineOf (decode bytes) (member (2 ^ k))) → take n line ≡ holderLine (decode bytes) k
-holder-front bytes accepted n k line read-n e =
-    ap (λ (x : ℕ). take x line) read-n ∙ set-front bytes accepted (2 ^ k) line e ∙ holder-line (decode bytes) k (2 ^ k) refl
+-- ---- a loop that writes the lines of single holders, one behind another, to the front of a scratch
+pub record Lining (bytes before : List ℕ) (n : ℕ) (propagates : List Bool) (after : List ℕ) (at k : ℕ) : Type 0 where
+  pub accepted : tableRefusal bytes ≡ 0
+  pub n-is : n ≡ processCount (decode bytes)
+  pub few : n ≤ mostProcesses
+  pub marks : propagates ≡ tabulate 32 (propagatesFrom (decode bytes))
+  pub behind : at ≡ n * k
+  pub written : Written n (holderLine (decode bytes)) n 0 before after k
+
+module _ {bytes before : List ℕ} {n : ℕ} {propagates : List Bool} where
+  pub lining-none : tableRefusal bytes ≡ 0 → N (decode bytes) * N (decode bytes) ≤ length before → n ≡ N (decode bytes)
+      → propagates ≡ tabulate 32 (propagatesFrom (decode bytes)) → Lining bytes before n propagates before 0 0
+  lining-none accepted room n-is marks = record {
+    accepted = accepted;
+    n-is = n-is;
+    few = omega (arith, n-is, processes-few bytes accepted);
+    marks = marks;
+    behind = omega arith;
+    written = written-none _ _ _ _ before (rw n-is (omega arith));
+  }
+
+  module _ {after : List ℕ} {at k : ℕ} (h : Lining bytes before n propagates after at k) where
+    each : (j : ℕ) → length (holderLine (decode bytes) j) ≡ n
+    each j = holder-length (decode bytes) j ∙ sym (h .n-is)
+
+    pub lining-all : n ≤ k → after ≡ putAt before 0 (holderLines (decode bytes))
+    unfolding holderLines
+    lining-all l = rw (h .n-is) at (written-all _ _ _ _ before each after k (h .written) l)
+
+    module _ (l : k < n) where
+      pub lining-mark : getD propagates k false ≡ propagatesFrom (decode bytes) k
+      lining-mark = ap (λ (marks : List Bool). getD marks k false) (h .marks) ∙ getD-tabulate 32 _ k _ (omega (arith, h .few))
+
+      pub lining-room : at + n ≤ length after
+      lining-room = omega (arith, h .behind, written-room _ _ _ _ before each after k (h .written) l)
+
+      -- the line of holder k, of which the first n numbers are stored
+      module _ {line : List ℕ} (found : line ≡ arrayOf (lineOf (decode bytes) (member (2 ^ k)))) where
+        pub lining-fits : n ≤ length line
+        lining-fits = omega (arith, h .few, ap length found, array-length (lineOf (decode bytes) (member (2 ^ k))))
+
+        pub lining-more : {later : List ℕ} → later ≡ putAt after at (take n line) → Lining bytes before n propagates later (at + n) (k + 1)
+        lining-more put = record {
+          accepted = h .accepted;
+          n-is = h .n-is;
+          few = h .few;
+          marks = h .marks;
+          behind = omega (arith, h .behind, mul-suc n k, ap (λ (j : ℕ). n * j) (add-one k));
+          written = written-more _ _ _ _ before each after k (h .written) l at _ (omega (arith, h .behind)) (put ∙ ap (putAt after at) front);
+        }
+          where
+            front : take n line ≡ holderLine (decode bytes) k
+            front =
+                ap (λ (x : ℕ). take x line) (h .n-is) ∙ set-front bytes (h .accepted) (2 ^ k) line found
+                ∙ holder-line (decode bytes) k (2 ^ k) refl
 
 -- ---- what the code finds in a scratch that has the lines of an accepted table
-module _ (bytes : List ℕ) (accepted : tableRefusal bytes ≡ 0) (s : List ℕ)
-    (stand : take (processCount (decode bytes) * processCount (decode bytes)) s ≡ holderLines (decode bytes)) where
+module _ {bytes s : List ℕ} (given : LinesOf bytes s) where
   abbrev t : Table
   t = decode bytes
-
-  scratch-room : N t * N t ≤ length s
-  scratch-room = omega (arith, ap length stand, lines-length t, length-take (N t * N t) s)
 
   pub entry-is : (k i : ℕ) → k < N t → i < N t → linesIn s (N t) k i ≡ asLine (holderLine t k) i
   unfolding linesIn holderLines
   entry-is k i l b =
-      sym (getD-take (N t * N t) s (N t * k + i) 0 (cell-below (N t) k i l b)) ∙ ap (λ (x : List ℕ). getD x (N t * k + i) 0) stand
+      sym (getD-take (N t * N t) s (N t * k + i) 0 (cell-below l b)) ∙ ap (λ (x : List ℕ). getD x (N t * k + i) 0) (given .lines)
       ∙ rows-at (holderLine t) (N t) (holder-length t) (N t) k i 0 l b
 
   -- from what the code read
-  module _ (n : ℕ) (counts : List ℕ) (read-n : n ≡ N t) (read-c : counts ≡ countsPart bytes) where
-    pub checkpoints-needs : (n * n ≤ length s) × ((n ≤ 32) × (length counts ≡ 2 * n))
-    checkpoints-needs = rw (read-n, read-c) (scratch-room, (processes-few bytes accepted, counts-size bytes accepted))
+  module _ {n : ℕ} (n-is : n ≡ N t) where
+    pub holds-lines : HoldsLines n s
+    holds-lines = rw n-is record {
+      few = processes-few bytes (given .accepted);
+      room = omega (arith, ap length (given .lines), lines-length t, length-take (N t * N t) s);
+    }
 
-    pub checkpoints-found : checkpointsOf n (linesIn s n) counts ≡ keptCheckpoints t
-    checkpoints-found = rw (read-n, read-c) (checkpoints-are t (linesIn s (N t)) entry-is (countsPart bytes) (count-is bytes accepted))
+    module _ {counts : List ℕ} (counts-are : counts ≡ countsPart bytes) where
+      pub checkpoints-found : checkpointsOf n (linesIn s n) counts ≡ keptCheckpoints t
+      checkpoints-found = rw (n-is, counts-are) (checkpoints-are t (linesIn s (N t)) entry-is (countsPart bytes) (count-is bytes (given .accepted)))
 
-    -- one array of the sheet: the numbers of the kept checkpoints, or else their processes
-    pub column-found : (checkpoints : Bool) → columnOf checkpoints n (linesIn s n) counts ≡ map (λ k. cond checkpoints (k .number) (k .process)) (keptCheckpoints t)
-    unfolding columnOf columnAt checkpointsOf checkpointsAt
-    column-found checkpoints =
-        let number : Checkpoint → ℕ = λ k. cond checkpoints (k .number) (k .process) in
-        rows-ext _ _ n (λ i _. sym (map-map number (λ c. record { process = i; number = c }) (keptOf n (linesIn s n) i (countAt counts i))))
-        ∙ sym (map-rows number _ n) ∙ ap (map number) checkpoints-found
+      -- one array of the sheet: the numbers of the kept checkpoints, or else their processes
+      pub column-found : (checkpoints : Bool)
+          → columnOf checkpoints n (linesIn s n) counts ≡ map (λ k. cond checkpoints (k .number) (k .process)) (keptCheckpoints t)
+      unfolding columnOf columnAt checkpointsOf checkpointsAt
+      column-found checkpoints =
+          let number : Checkpoint → ℕ = λ k. cond checkpoints (k .number) (k .process) in
+          rows-ext _ _ n (λ i _. sym (map-map number (λ c. record { process = i; number = c }) (keptOf n (linesIn s n) i (countAt counts i))))
+          ∙ sym (map-rows number _ n) ∙ ap (map number) checkpoints-found
 
-  module _ (n m : ℕ) (sends receipts : List ℕ) (read-n : n ≡ N t) (read-m : m ≡ messageCount t) (read-s : sends ≡ sendsPart bytes)
-      (read-r : receipts ≡ receiptsPart bytes) where
-    pub messages-needs : (n * n ≤ length s)
-        × ((n ≤ 32)
-        × ((length sends ≡ 4 * m) × ((length receipts ≡ 4 * m) × (((k : ℕ) → k < m → processAt sends k < n) × ((k : ℕ) → k < m → processAt receipts k < n)))))
-    messages-needs =
-        rw (read-n, read-m, read-s, read-r) (
-          scratch-room,
-          (
-            processes-few bytes accepted,
-            (sends-size bytes accepted, (receipts-size bytes accepted, ((λ k l. senders-known bytes accepted k l), (λ k l. receivers-known bytes accepted k l)))),
-          ),
-        )
-
-    pub positions-found : positionsOf n (linesIn s n) sends receipts m ≡ keptMessages t
-    positions-found =
-        rw (read-n, read-m, read-s, read-r)
-        (positions-are t (linesIn s (N t)) entry-is (sendsPart bytes) (receiptsPart bytes) (message-is bytes accepted) (message-good bytes accepted))
+    pub positions-found : {m : ℕ} {sends receipts : List ℕ} → ReadMessages bytes m sends receipts → positionsOf n (linesIn s n) sends receipts m ≡ keptMessages t
+    positions-found read =
+        let whole = message-is bytes (given .accepted) in
+        rw (n-is, read .m-is, read .sends-are, read .receipts-are)
+        (positions-are t (linesIn s (N t)) entry-is (sendsPart bytes) (receiptsPart bytes) whole (message-good bytes (given .accepted)))

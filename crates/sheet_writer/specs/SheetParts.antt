@@ -11,15 +11,27 @@ use Rattle.run_table.specs.Checks.{tableRefusal}
 use Rattle.run_table.specs.Format.{decode}
 use Rattle.run_table.specs.Table.{Table, processCount}
 
--- The numbers of a part: K and Q as given; the processes and the numbers of the kept checkpoints; the positions of the kept messages.
+-- The numbers of a part: K and Q as given; the processes and the numbers of the kept checkpoints; the positions of the
+-- kept messages.
 unfoldable pub numbersOf : Part → Table → List ℕ
 numbersOf (Sizes kept logged) t = kept ∷ logged ∷ []
 numbersOf Processes t = map (λ k. k .process) (keptCheckpoints t)
 numbersOf Checkpoints t = map (λ k. k .number) (keptCheckpoints t)
 numbersOf Positions t = keptMessages t
 
--- A part can be put: the table is accepted, the scratch begins with the lines of its single holders, and the buffer has room from a place on.
-pub record CanPut (part : Part) (table scratch : List ℕ) (at : ℕ) (buffer : List ℕ) : Type 0 where
+-- An accepted table, and a scratch that begins with the lines of its single holders.
+pub record LinesOf (table scratch : List ℕ) : Type 0 where
   pub accepted : tableRefusal table ≡ 0
   pub lines : take (processCount (decode table) * processCount (decode table)) scratch ≡ holderLines (decode table)
+
+-- A part of their sheet can be put: the buffer has room for it from a place on.
+pub record CanPut (part : Part) (table scratch : List ℕ) (at : ℕ) (buffer : List ℕ) : Type 0 where
+  pub given : LinesOf table scratch
   pub room : at + 2 * length (numbersOf part (decode table)) ≤ length buffer
+
+-- Their sheet can be put: K and Q are known, and the buffer has room for all of it.
+pub record CanPutSheet (table scratch : List ℕ) (kept logged : ℕ) (buffer : List ℕ) : Type 0 where
+  pub given : LinesOf table scratch
+  pub kept-is : kept ≡ length (keptCheckpoints (decode table))
+  pub logged-is : logged ≡ length (keptMessages (decode table))
+  pub room : 4 + 4 * length (keptCheckpoints (decode table)) + 2 * length (keptMessages (decode table)) ≤ length buffer

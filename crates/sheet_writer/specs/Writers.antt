@@ -12,4 +12,7 @@ standing buffer at = record { buffer = buffer; at = at }
 
 -- A writer that has put numbers: the same loan, with the numbers in the buffer, and the place after the last.
 abbrev pub written : SheetWriter → List ℕ → SheetWriter
-written w numbers = record { buffer = at-last (w .buffer) (putAt (now (w .buffer)) (w .at) (u16s numbers)); at = w .at + 2 * length numbers }
+written w numbers = record {
+  buffer = at-last (w .buffer) (putAt (now (w .buffer)) (w .at) (u16s numbers));
+  at = w .at + 2 * length numbers;
+}

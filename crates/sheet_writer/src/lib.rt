@@ -11,19 +11,21 @@ use sheet_entries::checkpoints;
 use sheet_entries::messages;
 use table_writer::store_numbers;
 ghost use mathlib.Core.Path.{_≡_};
-ghost use Prim.Native.Nat.{_+_, _*_, _≤_};
-ghost use lib.ListN.{length, take};
+ghost use Prim.Native.Nat.{_*_, _≤_};
+ghost use lib.ListN.{length};
 ghost use Rattle.futures.specs.Sheet.{holderLines, keptCheckpoints, keptMessages, sheet};
 ghost use Rattle.run_table.specs.Checks.{tableRefusal};
 ghost use Rattle.run_table.specs.Format.{decode};
 ghost use Rattle.run_table.specs.Numbers.{putAt};
 ghost use Rattle.run_table.specs.Table.{processCount};
+ghost use Rattle.sheet_writer.specs.SheetParts.{CanPutSheet, LinesOf};
 
 // Writes the lines of all single holders to the front of a scratch that has room for N × N numbers.
 pub fn fill_lines(table: &[u8], scratch: &mut [u16])
     requires { ⌜ tableRefusal (now table) ≡ 0 ⌝ }
     requires { ⌜ processCount (decode (now table)) * processCount (decode (now table)) ≤ length (now scratch) ⌝ }
-    ensures { λ _. ⌜ now (scratch .exit) ≡ putAt (now (scratch .entry)) 0 (holderLines (decode (now (table .entry)))) ⌝ }
+    ensures { λ _. ⌜ now (scratch .exit)
+        ≡ putAt (now (scratch .entry)) 0 (holderLines (decode (now (table .entry)))) ⌝ }
 {
     let n = parts::process_count(table);
     let propagates = propagating(table);
@@ -39,8 +41,7 @@ pub fn fill_lines(table: &[u8], scratch: &mut [u16])
 
 // K, the number of checkpoints that are kept.
 pub fn count_checkpoints(table: &[u8], scratch: &[u16]) -> usize
-    requires { ⌜ tableRefusal (now table) ≡ 0 ⌝ }
-    requires { ⌜ take (processCount (decode (now table)) * processCount (decode (now table))) (now scratch) ≡ holderLines (decode (now table)) ⌝ }
+    requires { ⌜ LinesOf (now table) (now scratch) ⌝ }
     ensures { λ r. ⌜ r ≡ length (keptCheckpoints (decode (now (table .entry)))) ⌝ }
 {
     let n = parts::process_count(table);
@@ -49,8 +50,7 @@ pub fn count_checkpoints(table: &[u8], scratch: &[u16]) -> usize
 
 // Q, the number of messages that are kept.
 pub fn count_messages(table: &[u8], scratch: &[u16]) -> usize
-    requires { ⌜ tableRefusal (now table) ≡ 0 ⌝ }
-    requires { ⌜ take (processCount (decode (now table)) * processCount (decode (now table))) (now scratch) ≡ holderLines (decode (now table)) ⌝ }
+    requires { ⌜ LinesOf (now table) (now scratch) ⌝ }
     ensures { λ r. ⌜ r ≡ length (keptMessages (decode (now (table .entry)))) ⌝ }
 {
     let n = parts::process_count(table);
@@ -60,11 +60,7 @@ pub fn count_messages(table: &[u8], scratch: &[u16]) -> usize
 
 // Writes the keep sheet, given K and Q, to the front of a buffer that has room for it.
 pub fn put_sheet(table: &[u8], scratch: &[u16], kept: usize, logged: usize, answer: &mut [u8])
-    requires { ⌜ tableRefusal (now table) ≡ 0 ⌝ }
-    requires { ⌜ take (processCount (decode (now table)) * processCount (decode (now table))) (now scratch) ≡ holderLines (decode (now table)) ⌝ }
-    requires { ⌜ kept ≡ length (keptCheckpoints (decode (now table))) ⌝ }
-    requires { ⌜ logged ≡ length (keptMessages (decode (now table))) ⌝ }
-    requires { ⌜ 4 + 4 * length (keptCheckpoints (decode (now table))) + 2 * length (keptMessages (decode (now table))) ≤ length (now answer) ⌝ }
+    requires { ⌜ CanPutSheet (now table) (now scratch) kept logged (now answer) ⌝ }
     ensures { λ _. ⌜ now (answer .exit) ≡ putAt (now (answer .entry)) 0 (sheet (decode (now (table .entry)))) ⌝ }
 {
     SheetWriter {

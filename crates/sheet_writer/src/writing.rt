@@ -9,14 +9,14 @@ use sheet_entries::messages::lowest_line;
 ghost use mathlib.Core.Bool.{cond};
 ghost use mathlib.Core.List.{_∷_, []};
 ghost use mathlib.Core.Path.{_≡_};
-ghost use Prim.Native.Nat.{ℕ, _+_, _*_, _<_, _≤_};
+ghost use Prim.Native.Nat.{_+_, _*_, _<_, _≤_};
 ghost use lib.ListN.{length};
 ghost use Rattle.sheet_entries.specs.Kept.{columnAt, columnOf, keptOf, positionsOf};
-ghost use Rattle.sheet_entries.specs.Scratch.{linesIn};
+ghost use Rattle.sheet_entries.specs.Scratch.{HoldsLines, linesIn};
 ghost use Rattle.sheet_writer.specs.SheetParts.{CanPut, numbersOf};
 ghost use Rattle.sheet_writer.specs.Writing.{Put};
-ghost use Rattle.run_table.specs.Format.{decode, processAt};
-ghost use Rattle.run_table.specs.Table.{mostMessages};
+ghost use Rattle.run_table.specs.Format.{decode};
+ghost use Rattle.run_table.specs.Parts.{Counts, Messages};
 
 // The parts of a keep sheet: K and Q, the two arrays of the kept checkpoints, and the positions.
 pub enum Part {
@@ -64,11 +64,12 @@ fn put_process(
     i: usize,
     count: u16,
 ) -> usize
-    requires { ⌜ n * n ≤ length (now scratch) ⌝ }
-    requires { ⌜ n ≤ 32 ⌝ }
+    requires { ⌜ HoldsLines n (now scratch) ⌝ }
     requires { ⌜ i < n ⌝ }
-    requires { ⌜ at + 2 * length (columnAt checkpoints i (keptOf n (linesIn (now scratch) n) i count)) ≤ length (now buffer) ⌝ }
-    ensures { λ r. ⌜ Put (now (buffer .entry)) (now (buffer .exit)) at (columnAt checkpoints i (keptOf n (linesIn (now (scratch .entry)) n) i count)) r ⌝ }
+    requires { ⌜ at + 2 * length (columnAt checkpoints i (keptOf n (linesIn (now scratch) n) i count))
+        ≤ length (now buffer) ⌝ }
+    ensures { λ r. ⌜ Put (now (buffer .entry)) (now (buffer .exit)) at
+        (columnAt checkpoints i (keptOf n (linesIn (now (scratch .entry)) n) i count)) r ⌝ }
 {
     let mut next = at;
     let mut checkpoint = next_kept(scratch, n, i, 0, count);
@@ -89,11 +90,12 @@ fn put_column(
     n: usize,
     counts: &[u8],
 ) -> usize
-    requires { ⌜ n * n ≤ length (now scratch) ⌝ }
-    requires { ⌜ n ≤ 32 ⌝ }
-    requires { ⌜ length (now counts) ≡ 2 * n ⌝ }
-    requires { ⌜ at + 2 * length (columnOf checkpoints n (linesIn (now scratch) n) (now counts)) ≤ length (now buffer) ⌝ }
-    ensures { λ r. ⌜ Put (now (buffer .entry)) (now (buffer .exit)) at (columnOf checkpoints n (linesIn (now (scratch .entry)) n) (now (counts .entry))) r ⌝ }
+    requires { ⌜ HoldsLines n (now scratch) ⌝ }
+    requires { ⌜ Counts n (now counts) ⌝ }
+    requires { ⌜ at + 2 * length (columnOf checkpoints n (linesIn (now scratch) n) (now counts))
+        ≤ length (now buffer) ⌝ }
+    ensures { λ r. ⌜ Put (now (buffer .entry)) (now (buffer .exit)) at
+        (columnOf checkpoints n (linesIn (now (scratch .entry)) n) (now (counts .entry))) r ⌝ }
 {
     let mut next = at;
     let mut i = 0;
@@ -122,15 +124,12 @@ fn put_positions(
     receipts: &[u8],
     m: usize,
 ) -> usize
-    requires { ⌜ n * n ≤ length (now scratch) ⌝ }
-    requires { ⌜ n ≤ 32 ⌝ }
-    requires { ⌜ m ≤ mostMessages ⌝ }
-    requires { ⌜ length (now sends) ≡ 4 * m ⌝ }
-    requires { ⌜ length (now receipts) ≡ 4 * m ⌝ }
-    requires { ⌜ ((k : ℕ) → k < m → processAt (now sends) k < n) ⌝ }
-    requires { ⌜ ((k : ℕ) → k < m → processAt (now receipts) k < n) ⌝ }
-    requires { ⌜ at + 2 * length (positionsOf n (linesIn (now scratch) n) (now sends) (now receipts) m) ≤ length (now buffer) ⌝ }
-    ensures { λ r. ⌜ Put (now (buffer .entry)) (now (buffer .exit)) at (positionsOf n (linesIn (now (scratch .entry)) n) (now (sends .entry)) (now (receipts .entry)) m) r ⌝ }
+    requires { ⌜ HoldsLines n (now scratch) ⌝ }
+    requires { ⌜ Messages n m (now sends) (now receipts) ⌝ }
+    requires { ⌜ at + 2 * length (positionsOf n (linesIn (now scratch) n) (now sends) (now receipts) m)
+        ≤ length (now buffer) ⌝ }
+    ensures { λ r. ⌜ Put (now (buffer .entry)) (now (buffer .exit)) at
+        (positionsOf n (linesIn (now (scratch .entry)) n) (now (sends .entry)) (now (receipts .entry)) m) r ⌝ }
 {
     let lowest = lowest_line(scratch, n);
     let mut next = at;
@@ -151,7 +150,8 @@ fn put_positions(
 // Puts a part of the sheet of an accepted table, given a scratch with the lines of its single holders.
 pub fn put_part(buffer: &mut [u8], at: usize, part: Part, table: &[u8], scratch: &[u16]) -> usize
     requires { ⌜ CanPut part (now table) (now scratch) at (now buffer) ⌝ }
-    ensures { λ r. ⌜ Put (now (buffer .entry)) (now (buffer .exit)) at (numbersOf part (decode (now (table .entry)))) r ⌝ }
+    ensures { λ r. ⌜ Put (now (buffer .entry)) (now (buffer .exit)) at
+        (numbersOf part (decode (now (table .entry)))) r ⌝ }
 {
     let n = parts::process_count(table);
     match part {

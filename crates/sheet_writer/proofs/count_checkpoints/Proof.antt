@@ -3,16 +3,26 @@
 use borrow.Author.Needs.{needs}
 use mathlib.Core.Path.{ap, _∙_}
 use lib.ListN.{length}
-use Rattle.sheet_writer.proofs.SheetReads.{checkpoints-found, checkpoints-needs}
+use Rattle.run_table.proofs.ReadLaws.{counts-known}
+use Rattle.sheet_writer.proofs.SheetReads.{checkpoints-found, holds-lines}
 use Rattle.sheet_writer.proofs.count_checkpoints.Statement.{statement}
 use Rattle.sheet_writer.proofs.count_checkpoints.Tie as tie
 
-count-kept-requires : tie.Need-count-kept-requires
-count-kept-requires c κs = checkpoints-needs _ (c .before .before .before .before .pre .0) _ (c .before .before .before .before .pre .1) _ _ (c .before .process-count .ensures) (c .counts .ensures)
+-- ---- the places: the entry, from where N was read
+abbrev entry : tie.After-process-count → tie.Start
+entry c = c .before .before .before
 
-returns : tie.Need-returns
-returns c = c .count-kept .ensures ∙ ap length (checkpoints-found _ (c .before .before .before .before .before .pre .0) _ (c .before .before .before .before .before .pre .1) _ _ (c .before .before .process-count .ensures) (c .before .counts .ensures))
-
+-- ---- the needs, in the code's course
 pub count-checkpoints-spec : {M : Type 1} → statement M
 count-checkpoints-spec =
-    tie.close (tie.spec (λ c κs. search needs) (λ c κs. search needs) count-kept-requires returns)
+    tie.close
+    (tie.spec
+    (λ c κs. search needs)
+    (λ c κs. search needs)
+    (λ c κs.
+    let sized = c .before in
+    let n = sized .process-count .ensures in
+    (holds-lines (entry sized .pre) n, counts-known _ (entry sized .pre .accepted) n (c .counts .ensures)))
+    (λ c.
+    let sized = c .before .before in
+    c .count-kept .ensures ∙ ap length (checkpoints-found (entry sized .pre) (sized .process-count .ensures) (c .before .counts .ensures))))

@@ -1,20 +1,28 @@
 -- `count_messages` meets its contract, by the parts of the table.
 -- Assumes nothing.
 use borrow.Author.Needs.{needs}
+use native.Mathlib.Omega.{arith}
 use mathlib.Core.Path.{ap, _∙_}
+use denote.Ref.{now}
 use lib.ListN.{length}
-use Rattle.sheet_writer.proofs.SheetReads.{messages-needs, positions-found}
+use Rattle.run_table.proofs.ReadLaws.{ReadMessages, messages-known, messages-read}
+use Rattle.sheet_writer.proofs.SheetReads.{holds-lines, positions-found}
 use Rattle.sheet_writer.proofs.count_messages.Statement.{statement}
 use Rattle.sheet_writer.proofs.count_messages.Tie as tie
 
-count-kept-requires : tie.Need-count-kept-requires
-count-kept-requires c κs = messages-needs _ (c .before .before .before .before .before .before .pre .0) _ (c .before .before .before .before .before .before .pre .1) _ _ _ _ (c .before .before .before .process-count .ensures) (c .before .before .message-count .ensures) (c .before .sends .ensures) (c .receipts .ensures)
+-- ---- the places: the entry, from where N was read; that, from where the parts were
+abbrev entry : tie.After-process-count → tie.Start
+entry c = c .before .before .before
 
-returns : tie.Need-returns
-returns c =
-    c .count-kept .ensures
-    ∙ ap length (positions-found _ (c .before .before .before .before .before .before .before .pre .0) _ (c .before .before .before .before .before .before .before .pre .1) _ _ _ _ (c .before .before .before .before .process-count .ensures) (c .before .before .before .message-count .ensures) (c .before .before .sends .ensures) (c .before .receipts .ensures))
+abbrev sized : tie.After-receipts → tie.After-process-count
+sized c = c .before .before .before
 
+-- ---- what is known there: the messages, as they were read
+messages : (c : tie.After-receipts)
+    → ReadMessages (now (entry (sized c) .args .table)) (c .before .before .message-count .result) (now (c .before .sends .result)) (now (c .receipts .result))
+messages c = messages-read (entry (sized c) .pre .accepted) (c .before .before .message-count .ensures) (c .before .sends .ensures) (c .receipts .ensures)
+
+-- ---- the needs, in the code's course
 pub count-messages-spec : {M : Type 1} → statement M
 count-messages-spec =
     tie.close
@@ -23,5 +31,9 @@ count-messages-spec =
     (λ c κs. search needs)
     (λ c κs. search needs)
     (λ c κs. search needs)
-    count-kept-requires
-    returns)
+    (λ c κs.
+    let n = sized c .process-count .ensures in
+    (holds-lines (entry (sized c) .pre) n, messages-known (messages c) (omega (arith, n))))
+    (λ c.
+    let read = c .before in
+    c .count-kept .ensures ∙ ap length (positions-found (entry (sized read) .pre) (sized read .process-count .ensures) (messages read))))

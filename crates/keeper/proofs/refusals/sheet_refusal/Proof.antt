@@ -14,14 +14,18 @@ use Rattle.run_table.specs.Checks.{tableRefusal}
 use Rattle.keeper.proofs.refusals.sheet_refusal.Statement.{statement}
 use Rattle.keeper.proofs.refusals.sheet_refusal.Tie as tie
 
--- the table is accepted
-accepted : (c : tie.Else1) → tableRefusal (now (c .before .before .before .args .table)) ≡ 0
+-- ---- the places: the entry, from where the table was checked
+abbrev entry : tie.After-check → tie.Start
+entry c = c .before .before
+
+-- ---- what is known there: the table is accepted; N, as it was read, is small, and its square is the scratch's
+accepted : (c : tie.Else1) → tableRefusal (now (entry (c .before) .args .table)) ≡ 0
 accepted c = sym (c .before .check .ensures) ∙ c .if1 .left
 
--- N, as it was read, is small
 few : (c : tie.After-process-count) → c .process-count .result ≤ 32
 few c = omega (arith, c .process-count .ensures, processes-few _ (accepted (c .before)))
 
+-- ---- the needs, in the code's course
 pub sheet-refusal-spec : {M : Type 1} → statement M
 unfolding keepSheetChecks
 sheet-refusal-spec =

@@ -2,46 +2,38 @@
 -- Assumes nothing.
 use native.Mathlib.Omega.{arith}
 use Prim.Native.Nat.{_-_}
-use Rattle.sheet_entries.proofs.SearchLaws.{Totalled, kept-read, kept-small, totalled-all, totalled-more, totalled-none}
-use Rattle.sheet_entries.specs.Kept.{checkpointsAt, checkpointsOf, keptOf}
-use Rattle.sheet_entries.specs.Scratch.{linesIn}
-use Rattle.run_table.specs.Format.{countAt}
+use Rattle.sheet_entries.proofs.SearchLaws.{Totalling, totalling-adds, totalling-all, totalling-more, totalling-none}
 use Rattle.sheet_entries.proofs.checkpoints.count_kept.Statement.{statement}
 use Rattle.sheet_entries.proofs.checkpoints.count_kept.Tie as tie
 
 abbrev Inv-loop : tie.InvT-loop
-Inv-loop scratch n counts total₀ i₀ total i = Totalled (λ j. checkpointsAt j (keptOf n (linesIn scratch n) j (countAt counts j))) n total i
+Inv-loop scratch n counts total₀ i₀ total i = Totalling scratch n counts total i
 
 abbrev μ-loop : tie.MeasureT-loop
 μ-loop scratch n counts total₀ i₀ total i = n - i
 
-loop-holds : tie.Need-loop-holds Inv-loop μ-loop
-loop-holds c = totalled-none
+-- ---- the places: a turn of the loop, and where the count of its process was read
+abbrev turn : tie.After-u16-at Inv-loop μ-loop → tie.In-loop Inv-loop μ-loop
+turn c = c .before
 
-add-total : tie.Need-add-total Inv-loop μ-loop
-add-total c = omega (arith, kept-small _ _ _ _ _ (c .count-kept-of .ensures))
-
-loop-again : tie.Need-loop-again Inv-loop μ-loop
-loop-again c =
-    let read = kept-read _ _ _ _ _ (c .count-kept-of .ensures) _ (c .before .u16-at .ensures) in
-    totalled-more (c .before .before .before .loop .inv) (omega arith) _ read (omega (arith, kept-small _ _ _ _ _ (c .count-kept-of .ensures)))
-
-returns : tie.Need-returns Inv-loop μ-loop
-unfolding checkpointsOf
-returns c = totalled-all (c .before .loop .inv) (c .loop-test .left)
-
+-- ---- the needs, in the code's course
 pub count-kept-spec : {M : Type 1} → statement M
 count-kept-spec =
     tie.close
     (tie.spec
     Inv-loop
     μ-loop
-    loop-holds
+    (λ c. totalling-none)
     (λ c. omega arith)
     (λ c κs. omega arith)
     (λ c κs. omega arith)
-    add-total
+    -- one more process
+    (λ c.
+    let read = c .before in
+    omega (arith, totalling-adds (turn read .before .loop .inv) (read .u16-at .ensures) (c .count-kept-of .ensures)))
     (λ c. omega arith)
     (λ c. omega arith)
-    loop-again
-    returns)
+    (λ c.
+    let read = c .before in
+    totalling-more (turn read .before .loop .inv) (read .u16-at .ensures) (c .count-kept-of .ensures) (turn read .loop-test .taken) (omega arith))
+    (λ c. totalling-all (c .before .loop .inv) (c .loop-test .left)))

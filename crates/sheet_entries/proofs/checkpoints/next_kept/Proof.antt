@@ -13,34 +13,33 @@ Inv-loop scratch n i from count least₀ k₀ least k = Searching n (linesIn scr
 abbrev μ-loop : tie.MeasureT-loop
 μ-loop scratch n i from count least₀ k₀ least k = n - k
 
-loop-holds : tie.Need-loop-holds Inv-loop μ-loop
-loop-holds c = search-begins (c .before .pre .1 .1)
+-- ---- the places: a turn of the loop, and where the number of its line was read
+abbrev turn : tie.After-number-in-line Inv-loop μ-loop → tie.In-loop Inv-loop μ-loop
+turn c = c .before
 
-loop-again : tie.Need-loop-again Inv-loop μ-loop
-loop-again c = search-passes (c .before .before .before .loop .inv) (omega arith) (λ b. omega arith)
-
-loop-again-2 : tie.Need-loop-again-2 Inv-loop μ-loop
-loop-again-2 c = search-passes (c .before .before .before .before .loop .inv) (omega arith) (λ b. omega arith)
-
-loop-again-3 : tie.Need-loop-again-3 Inv-loop μ-loop
-loop-again-3 c = search-finds (c .before .before .before .before .loop .inv) (omega arith) _ (c .before .before .number-in-line .ensures) (omega arith) (omega arith)
-
-returns : tie.Need-returns Inv-loop μ-loop
-returns c = search-ends (c .before .loop .inv) (c .loop-test .left)
-
+-- ---- the needs, in the code's course
 pub next-kept-spec : {M : Type 1} → statement M
 next-kept-spec =
     tie.close
     (tie.spec
     Inv-loop
     μ-loop
-    loop-holds
+    (λ c. search-begins (c .before .pre .1 .1))
     (λ c κs. omega arith)
     (λ c. omega arith)
+    -- a number before the start
     (λ c. omega arith)
-    loop-again
+    (λ c.
+    let read = c .before in
+    search-passes (turn read .before .loop .inv) (turn read .loop-test .taken) (read .number-in-line .ensures) (λ b. omega arith))
+    -- one that is not below the least yet
     (λ c. omega arith)
-    loop-again-2
+    (λ c.
+    let read = c .before .before in
+    search-passes (turn read .before .loop .inv) (turn read .loop-test .taken) (read .number-in-line .ensures) (λ b. c .if2 .taken))
+    -- a new least
     (λ c. omega arith)
-    loop-again-3
-    returns)
+    (λ c.
+    let read = c .before .before in
+    search-finds (turn read .before .loop .inv) (turn read .loop-test .taken) (read .number-in-line .ensures) (c .before .if1 .left) (c .if2 .left))
+    (λ c. search-ends (c .before .loop .inv) (c .loop-test .left)))

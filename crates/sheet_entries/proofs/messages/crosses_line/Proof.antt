@@ -14,34 +14,39 @@ Inv-loop scratch n sender sent receiver received k₀ k =
 abbrev μ-loop : tie.MeasureT-loop
 μ-loop scratch n sender sent receiver received k₀ k = n - k
 
-loop-holds : tie.Need-loop-holds Inv-loop μ-loop
-loop-holds c = uncrossed-none
+-- ---- the places: a turn of the loop; where its line's number at the receiver was read; where that at the sender was
+abbrev turn : tie.After-number-in-line Inv-loop μ-loop → tie.In-loop Inv-loop μ-loop
+turn c = c .before
 
-loop-again : tie.Need-loop-again Inv-loop μ-loop
-loop-again c = received-before (c .before .before .before .loop .inv) (omega arith) (omega arith)
+abbrev received : tie.After-number-in-line2 Inv-loop μ-loop → tie.After-number-in-line Inv-loop μ-loop
+received c = c .before .before
 
-loop-again-2 : tie.Need-loop-again-2 Inv-loop μ-loop
-loop-again-2 c = sent-after (c .before .before .before .before .before .loop .inv) (omega arith) (omega arith)
-
-returns : tie.Need-returns Inv-loop μ-loop
-returns c = crossed (c .before .before .before .before .before .loop .inv) (omega arith) (omega arith) (omega arith)
-
-returns-2 : tie.Need-returns-2 Inv-loop μ-loop
-returns-2 c = uncrossed-all (c .before .loop .inv) (c .loop-test .left)
-
+-- ---- the needs, in the code's course
 pub crosses-line-spec : {M : Type 1} → statement M
 crosses-line-spec =
     tie.close
     (tie.spec
     Inv-loop
     μ-loop
-    loop-holds
+    (λ c. uncrossed-none)
+    -- received at or before the line
     (λ c. omega arith)
     (λ c κs. omega arith)
     (λ c. omega arith)
-    loop-again
+    (λ c.
+    let read = c .before in
+    received-before (turn read .before .loop .inv) (turn read .loop-test .taken) (read .number-in-line .ensures) (c .if1 .taken))
+    -- sent after it
     (λ c κs. omega arith)
     (λ c. omega arith)
-    loop-again-2
-    returns
-    returns-2)
+    (λ c.
+    let sent = c .before in
+    let read = received sent in
+    sent-after (turn read .before .loop .inv) (turn read .loop-test .taken) (read .number-in-line .ensures) (sent .number-in-line2 .ensures) (c .if2 .taken))
+    -- the message crosses it
+    (λ c.
+    let sent = c .before in
+    let read = received sent in
+    crossed (turn read .before .loop .inv) (turn read .loop-test .taken) (read .number-in-line .ensures) (sent .number-in-line2 .ensures) (c .if2 .left)
+    (sent .before .if1 .left))
+    (λ c. uncrossed-all (c .before .loop .inv) (c .loop-test .left)))

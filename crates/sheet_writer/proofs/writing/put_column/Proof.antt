@@ -1,55 +1,46 @@
 -- `writing::put_column` meets its contract: the loop goes from process to process.
 -- Assumes nothing.
 use native.Mathlib.Omega.{arith}
-use mathlib.Core.Path.{refl}
-use Prim.Native.Nat.{_-_, zero-le}
-use Rattle.sheet_writer.proofs.PutLaws.{Putting, column-read, putting-all, putting-length, putting-none, row-more, row-room}
-use Rattle.sheet_entries.specs.Kept.{columnAt, columnOf, keptOf}
-use Rattle.sheet_entries.specs.Scratch.{linesIn}
-use Rattle.run_table.specs.Format.{countAt}
+use Prim.Native.Nat.{_-_}
+use Rattle.sheet_writer.proofs.PutLaws.{Chaining, chaining-all, chaining-more, chaining-none, chaining-room, putting-length}
 use Rattle.sheet_writer.proofs.writing.put_column.Statement.{statement}
-use Rattle.run_table.specs.Lists.{rows}
 use Rattle.sheet_writer.proofs.writing.put_column.Tie as tie
 
 abbrev Inv-loop : tie.InvT-loop
-Inv-loop buffer₀ at checkpoints scratch n counts next₀ i₀ buffer next i =
-    Putting (rows (λ j. columnAt checkpoints j (keptOf n (linesIn scratch n) j (countAt counts j)))) n buffer₀ at buffer next i
+Inv-loop buffer₀ at checkpoints scratch n counts next₀ i₀ buffer next i = Chaining checkpoints scratch n counts buffer₀ at buffer next i
 
 abbrev μ-loop : tie.MeasureT-loop
 μ-loop buffer₀ at checkpoints scratch n counts next₀ i₀ buffer next i = n - i
 
-loop-holds : tie.Need-loop-holds Inv-loop μ-loop
-unfolding rows columnOf
-loop-holds c = putting-none _ _ _ _ _ zero-le refl (c .before .before .before .pre .1 .1 .1)
+-- ---- the places: a turn of the loop, from where the count of its process was read; that, from where its numbers were put
+abbrev turn : tie.After-u16-at Inv-loop μ-loop → tie.In-loop Inv-loop μ-loop
+turn c = c .before .before
 
-put-process-requires : tie.Need-put-process-requires Inv-loop μ-loop
-put-process-requires c κs =
-    let start = c .before .before .before .before .before .before .before in
-    let l = c .before .before .loop-test .taken in
-    (start .pre .0, (start .pre .1 .0, (l, row-room _ _ _ _ _ _ _ (c .before .before .before .loop .inv) l _ (column-read _ _ _ _ _ _ (c .u16-at .ensures)))))
+abbrev counted : tie.After-put-process Inv-loop μ-loop → tie.After-u16-at Inv-loop μ-loop
+counted c = c .before
 
-loop-again : tie.Need-loop-again Inv-loop μ-loop
-loop-again c = row-more _ _ _ _ _ _ _ (c .before .before .before .before .before .before .loop .inv) (c .before .before .before .before .before .loop-test .taken) _ (column-read _ _ _ _ _ _ (c .before .before .before .u16-at .ensures)) _ _ (c .before .before .put-process .ensures)
-
-same-length : tie.Need-same-length Inv-loop μ-loop
-same-length c = putting-length _ _ _ _ _ _ _ (c .before .loop .inv)
-
-returns : tie.Need-returns Inv-loop μ-loop
-unfolding columnOf
-returns c = putting-all _ _ _ _ _ _ _ (c .before .loop .inv) (c .loop-test .left)
-
+-- ---- the needs, in the code's course
 pub put-column-spec : {M : Type 1} → statement M
 put-column-spec =
     tie.close
     (tie.spec
     Inv-loop
     μ-loop
-    loop-holds
+    (λ c.
+    let given = c .before .before .before .pre in
+    chaining-none (given .0) (given .1 .0) (given .1 .1))
+    -- the numbers of a process
     (λ c. omega arith)
     (λ c κs. omega arith)
-    put-process-requires
+    (λ c κs.
+    let chain = turn c .before .loop .inv in
+    let l = turn c .loop-test .taken in
+    (chain .holds, (l, chaining-room chain l (c .u16-at .ensures))))
     (λ c. omega arith)
     (λ c. omega arith)
-    loop-again
-    same-length
-    returns)
+    (λ c.
+    let put = c .before .before in
+    let turn = turn (counted put) in
+    chaining-more (turn .before .loop .inv) (turn .loop-test .taken) (counted put .u16-at .ensures) (put .put-process .ensures))
+    (λ c. putting-length (c .before .loop .inv .putting))
+    (λ c. chaining-all (c .before .loop .inv) (c .loop-test .left)))

@@ -6,9 +6,12 @@ use Rattle.run_table.specs.Numbers.{u16Bytes, u16s}
 use Rattle.sheet_writer.proofs.writing.put_number.Statement.{statement}
 use Rattle.sheet_writer.proofs.writing.put_number.Tie as tie
 
-returns : tie.Need-returns
-unfolding u16s u16Bytes
-returns c = record { contents = c .before .before .put-u16 .ensures; place = omega arith }
-
 pub put-number-spec : {M : Type 1} → statement M
-put-number-spec = tie.close (tie.spec (λ c κs. search needs) (λ c. search needs) (λ c. search needs) returns)
+unfolding u16s u16Bytes
+put-number-spec =
+    tie.close
+    (tie.spec
+    (λ c κs. search needs)
+    (λ c. search needs)
+    (λ c. search needs)
+    (λ c. record { contents = c .before .before .put-u16 .ensures; place = omega arith }))

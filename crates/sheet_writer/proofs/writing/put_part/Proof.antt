@@ -1,97 +1,99 @@
 -- `writing::put_part` meets its contract: each part by the function that puts it.
 -- Assumes nothing.
 use borrow.Author.Needs.{needs}
+use native.Mathlib.Omega.{arith}
 use mathlib.Core.Bool.{true, false}
-use Rattle.sheet_writer.proofs.PartLaws.{column-needs, column-put, positions-needs, positions-put, sizes-needs, sizes-put}
+use denote.Ref.{now}
+use Rattle.run_table.proofs.ReadLaws.{ReadMessages, counts-known, messages-known, messages-read}
+use Rattle.sheet_writer.proofs.PartLaws.{column-put, column-room, positions-put, positions-room, sizes-put, sizes-room}
+use Rattle.sheet_writer.proofs.SheetReads.{holds-lines}
 use Rattle.sheet_writer.proofs.writing.put_part.Statement.{statement}
 use Rattle.sheet_writer.proofs.writing.put_part.Tie as tie
 
--- K and Q
-put-sizes-requires : tie.Need-put-sizes-requires
-put-sizes-requires c κs =
-    let chosen = c .before .before in
-    let start = chosen .before .before .before .before .before .before in
-    sizes-needs _ _ _ _ _ (start .pre) _ _ (chosen .part .given .1)
+-- ---- the places: the entry, from where N was read; that, from where K and Q are told, the counts read for each of two arrays, and the messages
+abbrev entry : tie.After-process-count → tie.Start
+entry c = c .before .before .before .before
 
--- the processes
-put-column-requires : tie.Need-put-column-requires
-put-column-requires c κs =
-    let chosen = c .before .before in
-    let read = chosen .before .before in
-    column-needs _ _ _ _ _ (read .before .before .before .before .pre) _ (read .process-count .ensures) _ (c .counts .ensures) false
-    (chosen .enum-told .given .1)
+abbrev sizes : tie.After-part → tie.After-process-count
+sizes c = c .before .before
 
--- the checkpoints
-put-column-requires-2 : tie.Need-put-column-requires-2
-put-column-requires-2 c κs =
-    let chosen = c .before .before in
-    let read = chosen .before .before in
-    column-needs _ _ _ _ _ (read .before .before .before .before .pre) _ (read .process-count .ensures) _ (c .counts2 .ensures) true
-    (chosen .enum-told2 .given .1)
+abbrev processes : tie.After-counts → tie.After-process-count
+processes c = c .before .before .before .before
 
--- the positions
-put-positions-requires : tie.Need-put-positions-requires
-put-positions-requires c κs =
-    let chosen = c .before .before .before .before in
-    let read = chosen .before .before in
-    positions-needs _ _ _ _ _ (read .before .before .before .before .pre) _ (read .process-count .ensures) _ _ _ (c .message-count .ensures)
-    (c .before .before .sends .ensures) (c .before .receipts .ensures) (chosen .enum-told3 .given .1)
+abbrev checkpoints : tie.After-counts2 → tie.After-process-count
+checkpoints c = c .before .before .before .before
 
-returns : tie.Need-returns
-returns c =
-    let put = c .before .before in
-    let chosen = put .before .before .before in
-    let start = chosen .before .before .before .before .before .before in
-    sizes-put _ _ _ _ _ (start .pre) _ _ (chosen .part .given .1) _ _ (put .put-sizes .ensures)
+abbrev positions : tie.After-sends → tie.After-process-count
+positions c = c .before .before .before .before
 
-returns-2 : tie.Need-returns-2
-returns-2 c =
-    let put = c .before .before in
-    let chosen = put .before .before .before in
-    let read = chosen .before .before in
-    column-put _ _ _ _ _ (read .before .before .before .before .pre) _ (read .process-count .ensures) _ (put .before .counts .ensures) false
-    (chosen .enum-told .given .1) _ _ (put .put-column .ensures)
+-- ---- what is known there: the messages, as they were read
+messages : (c : tie.After-message-count)
+    → ReadMessages (now (entry (positions (c .before .before)) .args .table)) (c .message-count .result) (now (c .before .before .sends .result))
+    (now (c .before .receipts .result))
+messages c =
+    let sends = c .before .before in
+    messages-read (entry (positions sends) .pre .given .accepted) (c .message-count .ensures) (sends .sends .ensures) (c .before .receipts .ensures)
 
-returns-3 : tie.Need-returns-3
-returns-3 c =
-    let put = c .before .before in
-    let chosen = put .before .before .before in
-    let read = chosen .before .before in
-    column-put _ _ _ _ _ (read .before .before .before .before .pre) _ (read .process-count .ensures) _ (put .before .counts2 .ensures) true
-    (chosen .enum-told2 .given .1) _ _ (put .put-column2 .ensures)
-
-returns-4 : tie.Need-returns-4
-returns-4 c =
-    let put = c .before .before in
-    let counted = put .before in
-    let chosen = counted .before .before .before .before in
-    let read = chosen .before .before in
-    positions-put _ _ _ _ _ (read .before .before .before .before .pre) _ (read .process-count .ensures) _ _ _ (counted .message-count .ensures)
-    (counted .before .before .sends .ensures) (counted .before .receipts .ensures) (chosen .enum-told3 .given .1) _ _ (put .put-positions .ensures)
-
+-- ---- the needs, in the code's course
 pub put-part-spec : {M : Type 1} → statement M
 put-part-spec =
     tie.close
     (tie.spec
     (λ c κs. search needs)
+    -- K and Q
     (λ c. search needs)
-    put-sizes-requires
-    (λ c. search needs)
-    (λ c κs. search needs)
-    put-column-requires
-    (λ c. search needs)
-    (λ c κs. search needs)
-    put-column-requires-2
+    (λ c κs.
+    let told = c .before .before in
+    sizes-room (entry (sizes told) .pre) (told .part .given .1))
+    -- the processes
     (λ c. search needs)
     (λ c κs. search needs)
+    (λ c κs.
+    let n = processes c .process-count .ensures in
+    let ready = entry (processes c) .pre in
+    let counts = c .counts .ensures in
+    (holds-lines (ready .given) n, (counts-known _ (ready .given .accepted) n counts, column-room ready n counts false (c .before .before .enum-told .given .1))))
+    -- the checkpoints
+    (λ c. search needs)
+    (λ c κs. search needs)
+    (λ c κs.
+    let n = checkpoints c .process-count .ensures in
+    let ready = entry (checkpoints c) .pre in
+    let counts = c .counts2 .ensures in
+    (holds-lines (ready .given) n, (counts-known _ (ready .given .accepted) n counts, column-room ready n counts true (c .before .before .enum-told2 .given .1))))
+    -- the positions
+    (λ c. search needs)
     (λ c κs. search needs)
     (λ c κs. search needs)
-    put-positions-requires
+    (λ c κs. search needs)
+    (λ c κs.
+    let sends = c .before .before in
+    let n = positions sends .process-count .ensures in
+    let ready = entry (positions sends) .pre in
+    let room = positions-room ready n (messages c) (sends .before .before .enum-told3 .given .1) in
+    (holds-lines (ready .given) n, (messages-known (messages c) (omega (arith, n)), room)))
+    -- what was put is the part
     (λ c. search needs)
-    returns
+    (λ c.
+    let put = c .before .before in
+    let told = put .before .before .before in
+    sizes-put (entry (sizes told) .pre) (told .part .given .1) (put .put-sizes .ensures))
     (λ c. search needs)
-    returns-2
+    (λ c.
+    let put = c .before .before in
+    let read = put .before in
+    let n = processes read .process-count .ensures in
+    column-put (entry (processes read) .pre) n (read .counts .ensures) false (read .before .before .enum-told .given .1) (put .put-column .ensures))
     (λ c. search needs)
-    returns-3
+    (λ c.
+    let put = c .before .before in
+    let read = put .before in
+    let n = checkpoints read .process-count .ensures in
+    column-put (entry (checkpoints read) .pre) n (read .counts2 .ensures) true (read .before .before .enum-told2 .given .1) (put .put-column2 .ensures))
     (λ c. search needs)
-    returns-4)
+    (λ c.
+    let put = c .before .before in
+    let read = put .before in
+    let sends = read .before .before in
+    positions-put (entry (positions sends) .pre) (positions sends .process-count .ensures) (messages read) (sends .before .before .enum-told3 .given .1)
+    (put .put-positions .ensures)))

@@ -15,38 +15,37 @@ Inv-loop buffer₀ at checkpoints scratch n i count next₀ checkpoint₀ buffer
 abbrev μ-loop : tie.MeasureT-loop
 μ-loop buffer₀ at checkpoints scratch n i count next₀ checkpoint₀ buffer next checkpoint = count - checkpoint
 
-loop-holds : tie.Need-loop-holds Inv-loop μ-loop
-unfolding keptOf
-loop-holds c = laying-first _ _ _ _ _ _ _ (c .next-kept .ensures) (c .before .before .before .pre .1 .1 .1)
+-- ---- the places: the entry, from where the first checkpoint was found; a turn of the loop, from where its number was, and where that was put
+abbrev entry : tie.After-next-kept Inv-loop μ-loop → tie.Start Inv-loop μ-loop
+entry c = c .before .before .before
 
-put-number-requires : tie.Need-put-number-requires Inv-loop μ-loop
-put-number-requires c κs = laying-room _ _ _ _ _ _ _ _ _ (c .before .before .before .loop .inv) (c .before .before .loop-test .taken)
+abbrev turn : tie.After-number-of Inv-loop μ-loop → tie.In-loop Inv-loop μ-loop
+turn c = c .before .before
 
-loop-again : tie.Need-loop-again Inv-loop μ-loop
-loop-again c =
-    laying-more _ _ _ _ _ _ _ _ _ (c .before .before .before .before .before .before .before .loop .inv) (c .before .before .before .before .before .before .loop-test .taken) _ _ _ _ (c .before .before .before .before .number-of .ensures) (c .before .before .before .put-number .ensures) (c .next-kept2 .ensures)
+abbrev put : tie.After-next-kept2 Inv-loop μ-loop → tie.After-put-number Inv-loop μ-loop
+put c = c .before .before .before
 
-same-length : tie.Need-same-length Inv-loop μ-loop
-same-length c = putting-length _ _ _ _ _ _ _ (c .before .loop .inv .putting)
-
-returns : tie.Need-returns Inv-loop μ-loop
-unfolding keptOf
-returns c = putting-all _ _ _ _ _ _ _ (c .before .loop .inv .putting) (c .loop-test .left)
-
+-- ---- the needs, in the code's course
 pub put-process-spec : {M : Type 1} → statement M
+unfolding keptOf
 put-process-spec =
     tie.close
     (tie.spec
     Inv-loop
     μ-loop
     (λ c κs. omega arith)
-    loop-holds
+    (λ c. laying-first (c .next-kept .ensures) (entry c .pre .1 .1))
+    -- the number
     (λ c. omega arith)
     (λ c κs. omega arith)
-    put-number-requires
+    (λ c κs. laying-room (turn c .before .loop .inv) (turn c .loop-test .taken))
+    -- the next checkpoint
     (λ c. omega arith)
     (λ c κs. omega arith)
     (λ c. omega arith)
-    loop-again
-    same-length
-    returns)
+    (λ c.
+    let number = put c .before in
+    laying-more (turn number .before .loop .inv) (turn number .loop-test .taken) (number .number-of .ensures) (put c .put-number .ensures)
+    (c .next-kept2 .ensures))
+    (λ c. putting-length (c .before .loop .inv .putting))
+    (λ c. putting-all (c .before .loop .inv .putting) (c .loop-test .left)))
