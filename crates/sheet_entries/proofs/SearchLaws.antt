@@ -3,9 +3,10 @@
 --     Lowering, lowering-..      the lowest line
 --     Uncrossed, ..              the lines that a message crosses
 --     .. -kept                   whether a message is kept
---     Asking, ..                 what a loop over messages was given, and what it may ask of message k
+--     Asking, receiver-small, may-ask    what a loop over messages was given, and what it may ask of message k
 --     Standing, select-..        numbers that pass a test, from one to the next
---     Tallied, tallied-..        numbers that pass a test, counted; Counting, ..: from one to the next; Picking: the kept messages
+--     Tallied, tallied-..        numbers that pass a test, counted
+--     Counting, Picking, ..      loops that count them, from one to the next; the kept messages
 --     Totalling, totalling-..    the kept checkpoints of each process, counted
 -- Assumes nothing.
 use mathlib.Core.Bool.{Bool, true, false, and-false}
@@ -106,16 +107,16 @@ module _ (f : ℕ → ℕ) where
           omega (arith, least-at-most n (there .0) (there .1), eqb-true (f (there .0)) r (there .2))
 
 -- ---- a loop that finds the lowest line of n in a scratch, process by process
-pub record Lowering (scratch : List ℕ) (n : ℕ) (lowest : List ℕ) (i : ℕ) : Type 0 where
+pub record Lowering (n : ℕ) (scratch lowest : List ℕ) (i : ℕ) : Type 0 where
   pub holds : HoldsLines n scratch
   pub filling : Filling (λ j. getD (tabulate n (lowestAt n (linesIn scratch n))) j 0) n i lowest
 
-module _ {scratch : List ℕ} {n : ℕ} where
-  pub lowering-none : HoldsLines n scratch → Lowering scratch n (replicate 32 0) 0
+module _ {n : ℕ} {scratch : List ℕ} where
+  pub lowering-none : HoldsLines n scratch → Lowering n scratch (replicate 32 0) 0
   lowering-none holds = record { holds = holds; filling = filling-none _ n }
 
-  module _ {lowest : List ℕ} {i : ℕ} (h : Lowering scratch n lowest i) where
-    pub lowering-more : i < n → {v : ℕ} → First (shows n (linesIn scratch n) i) 0 65535 v → Lowering scratch n (set lowest i v) (i + 1)
+  module _ {lowest : List ℕ} {i : ℕ} (h : Lowering n scratch lowest i) where
+    pub lowering-more : i < n → {v : ℕ} → First (shows n (linesIn scratch n) i) 0 65535 v → Lowering n scratch (set lowest i v) (i + 1)
     unfolding shows lowestAt
     lowering-more l {v} first = record {
       holds = h .holds;
@@ -169,7 +170,7 @@ module _ {n : ℕ} {line : ℕ → Line} {m : Message} where
     uncrossed-all l = subst (λ (j : ℕ). false ≡ anyBelow j (λ j. crosses (line j) m)) (le-antisymm (h .within) l) (sym (h .none))
 
 -- ---- whether message k is kept, by the numbers that were read of its entries
-module _ {scratch : List ℕ} {n lowest : ℕ} {sends receipts : List ℕ} {k : ℕ} (beside : MessageBeside scratch n lowest sends receipts k)
+module _ {n lowest k : ℕ} {scratch sends receipts : List ℕ} (beside : MessageBeside n lowest k scratch sends receipts)
     {x : ℕ} (read-x : x ≡ u16At receipts (4 * k + 2)) where
   abbrev line : ℕ → Line
   line = linesIn scratch n
@@ -196,19 +197,19 @@ module _ {scratch : List ℕ} {n lowest : ℕ} {sends receipts : List ℕ} {k : 
     delivered-kept read-i read-j read-y e = rw (← read-x, ne-eqb x 0 some) (rw (read-i, read-j, read-y) at e)
 
 -- ---- what a loop over m messages was given, and the lowest line that it found
-pub record Asking (scratch : List ℕ) (n : ℕ) (sends receipts : List ℕ) (m : ℕ) (lowest : List ℕ) : Type 0 where
+pub record Asking (n m : ℕ) (scratch sends receipts lowest : List ℕ) : Type 0 where
   pub holds : HoldsLines n scratch
   pub known : Messages n m sends receipts
   pub lowest-is : lowest ≡ lowestLine n (linesIn scratch n)
 
 -- message k, by the receiver that was read
-module _ {scratch : List ℕ} {n : ℕ} {sends receipts : List ℕ} {m : ℕ} {lowest : List ℕ} (asking : Asking scratch n sends receipts m lowest)
-    {k : ℕ} (l : k < m) {receiver : ℕ} (read : receiver ≡ u16At receipts (4 * k)) where
+module _ {n m : ℕ} {scratch sends receipts lowest : List ℕ} (asking : Asking n m scratch sends receipts lowest) {k : ℕ} (l : k < m)
+    {receiver : ℕ} (read : receiver ≡ u16At receipts (4 * k)) where
   pub receiver-small : receiver < mostProcesses
   unfolding processAt
   receiver-small = omega (arith, asking .known .receivers-known k l, asking .holds .few)
 
-  pub may-ask : MessageBeside scratch n (getD lowest receiver 0) sends receipts k
+  pub may-ask : MessageBeside n (getD lowest receiver 0) k scratch sends receipts
   unfolding lowestLine processAt
   may-ask =
       let numbers = tabulate n (lowestAt n (linesIn scratch n)) in
@@ -244,28 +245,16 @@ pub record Tallied (test : ℕ → Bool) (limit kept k : ℕ) : Type 0 where
   pub within : k ≤ limit
   pub number : kept ≡ length (select test k)
 
-module _ {test : ℕ → Bool} {limit : ℕ} where
-  pub tallied-none : Tallied test limit 0 0
-  unfolding select
-  tallied-none = record { within = zero-le; number = refl }
+module _ {test : ℕ → Bool} {limit kept k : ℕ} (h : Tallied test limit kept k) where
+  pub tallied-small : kept ≤ k
+  tallied-small = omega (arith, h .number, select-small test k)
 
-  module _ {kept k : ℕ} (h : Tallied test limit kept k) where
-    pub tallied-small : kept ≤ k
-    tallied-small = omega (arith, h .number, select-small test k)
+  -- with k
+  tallied-more : {next : ℕ} → next ≤ limit → select test next ≡ select test k ++ (k ∷ []) → Tallied test limit (kept + 1) next
+  tallied-more b e = record { within = b; number = omega (arith, h .number, ap length e, length-append (select test k) (k ∷ [])) }
 
-    with-next : (next : ℕ) → next ≤ limit → select test next ≡ select test k ++ (k ∷ []) → Tallied test limit (kept + 1) next
-    with-next next b e = record { within = b; number = omega (arith, h .number, ap length e, length-append (select test k) (k ∷ [])) }
-
-    -- what the test says of k
-    module _ (l : k < limit) {r : Bool} (is : r ≡ test k) where
-      pub tallied-skip : r ≡ false → Tallied test limit kept (k + 1)
-      tallied-skip e = record { within = omega arith; number = h .number ∙ ap length (sym (select-skip test k (sym is ∙ e))) }
-
-      pub tallied-more : r ≡ true → Tallied test limit (kept + 1) (k + 1)
-      tallied-more e = with-next (k + 1) (omega arith) (select-more test k (sym is ∙ e))
-
-    pub tallied-all : limit ≤ k → kept ≡ length (select test limit)
-    tallied-all l = subst (λ (j : ℕ). kept ≡ length (select test j)) (le-antisymm (h .within) l) (h .number)
+  pub tallied-all : limit ≤ k → kept ≡ length (select test limit)
+  tallied-all l = subst (λ (j : ℕ). kept ≡ length (select test j)) (le-antisymm (h .within) l) (h .number)
 
 -- ---- a loop that counts them from one to the next
 pub record Counting (test : ℕ → Bool) (limit kept c : ℕ) : Type 0 where
@@ -277,51 +266,67 @@ module _ {test : ℕ → Bool} {limit c : ℕ} where
   counting-first f = record { standing = stands f; tallied = record { within = f .within; number = sym (ap length (select-first f)) } }
 
   pub counting-next : {kept next : ℕ} → Counting test limit kept c → c < limit → First test (c + 1) limit next → Counting test limit (kept + 1) next
-  counting-next {next = next} h l f =
-      record { standing = stands f; tallied = with-next (h .tallied) next (f .within) (select-next (h .standing) l f) }
+  counting-next h l f = record { standing = stands f; tallied = tallied-more (h .tallied) (f .within) (select-next (h .standing) l f) }
 
 -- ---- a loop that counts the kept messages
-pub record Picking (scratch : List ℕ) (n : ℕ) (sends receipts : List ℕ) (m : ℕ) (lowest : List ℕ) (kept k : ℕ) : Type 0 where
-  pub asking : Asking scratch n sends receipts m lowest
+pub record Picking (n m : ℕ) (scratch sends receipts lowest : List ℕ) (kept k : ℕ) : Type 0 where
+  pub asking : Asking n m scratch sends receipts lowest
   pub tallied : Tallied (λ j. isKept n (linesIn scratch n) (messageAt sends receipts j)) m kept k
+
+module _ {n m : ℕ} {scratch sends receipts lowest : List ℕ} where
+  pub picking-none : Asking n m scratch sends receipts lowest → Picking n m scratch sends receipts lowest 0 0
+  unfolding select
+  picking-none asking = record { asking = asking; tallied = record { within = zero-le; number = refl } }
+
+  -- what was found of message k
+  module _ {kept k : ℕ} (h : Picking n m scratch sends receipts lowest kept k) (l : k < m)
+      {r : Bool} (is : r ≡ isKept n (linesIn scratch n) (messageAt sends receipts k)) where
+    pub picking-skip : r ≡ false → Picking n m scratch sends receipts lowest kept (k + 1)
+    picking-skip e = record {
+      asking = h .asking;
+      tallied = record { within = omega arith; number = h .tallied .number ∙ ap length (sym (select-skip _ k (sym is ∙ e))) };
+    }
+
+    pub picking-more : r ≡ true → Picking n m scratch sends receipts lowest (kept + 1) (k + 1)
+    picking-more e = record { asking = h .asking; tallied = tallied-more (h .tallied) (omega arith) (select-more _ k (sym is ∙ e)) }
 
 -- ---- a loop that counts the kept checkpoints, process by process
 -- the kept checkpoints of process i
-abbrev keptAt : List ℕ → ℕ → List ℕ → ℕ → List Checkpoint
-keptAt scratch n counts i = checkpointsAt i (keptOf n (linesIn scratch n) i (countAt counts i))
+abbrev keptAt : ℕ → List ℕ → List ℕ → ℕ → List Checkpoint
+keptAt n scratch counts i = checkpointsAt i (keptOf n (linesIn scratch n) i (countAt counts i))
 
-pub record Totalling (scratch : List ℕ) (n : ℕ) (counts : List ℕ) (total i : ℕ) : Type 0 where
+pub record Totalling (n : ℕ) (scratch counts : List ℕ) (total i : ℕ) : Type 0 where
   pub within : i ≤ n
   pub small : total ≤ 65536 * i
-  pub number : total ≡ length (rows (keptAt scratch n counts) i)
+  pub number : total ≡ length (rows (keptAt n scratch counts) i)
 
-module _ {scratch : List ℕ} {n : ℕ} {counts : List ℕ} where
-  pub totalling-none : Totalling scratch n counts 0 0
+module _ {n : ℕ} {scratch counts : List ℕ} where
+  pub totalling-none : Totalling n scratch counts 0 0
   unfolding rows
   totalling-none = record { within = zero-le; small = zero-le; number = refl }
 
-  module _ {total i : ℕ} (h : Totalling scratch n counts total i) where
+  module _ {total i : ℕ} (h : Totalling n scratch counts total i) where
     -- the number r of checkpoints that are kept of process i, and its count, as they were read
     module _ {count r : ℕ} (read : count ≡ u16At counts (2 * i)) (found : r ≡ length (keptOf n (linesIn scratch n) i count)) where
       pub totalling-adds : r ≤ count
       unfolding keptOf
       totalling-adds = omega (arith, select-small (shows n (linesIn scratch n) i) count)
 
-      pub totalling-more : i < n → count ≤ 65536 → Totalling scratch n counts (total + r) (i + 1)
+      pub totalling-more : i < n → count ≤ 65536 → Totalling n scratch counts (total + r) (i + 1)
       unfolding countAt checkpointsAt
       totalling-more l b = record {
         within = omega arith;
         small = omega (arith, h .small, totalling-adds);
         number =
-            let f = keptAt scratch n counts in
+            let f = keptAt n scratch counts in
             omega (arith, h .number, ap length (rows-more f i), length-append (rows f i) (f i), this-many);
       }
         where
-          this-many : r ≡ length (keptAt scratch n counts i)
+          this-many : r ≡ length (keptAt n scratch counts i)
           this-many =
               found ∙ ap (λ (x : ℕ). length (keptOf n (linesIn scratch n) i x)) read
               ∙ sym (length-map (keptOf n (linesIn scratch n) i (u16At counts (2 * i))) (λ c. record { process = i; number = c }))
 
     pub totalling-all : n ≤ i → total ≡ length (checkpointsOf n (linesIn scratch n) counts)
     unfolding checkpointsOf
-    totalling-all l = subst (λ (j : ℕ). total ≡ length (rows (keptAt scratch n counts) j)) (le-antisymm (h .within) l) (h .number)
+    totalling-all l = subst (λ (j : ℕ). total ≡ length (rows (keptAt n scratch counts) j)) (le-antisymm (h .within) l) (h .number)

@@ -19,7 +19,7 @@ unfoldable pub linesIn : List ℕ → ℕ → ℕ → Line
 linesIn scratch n k i = getD scratch (n * k + i) 0
 
 -- Message k of a part of sends and a part of receipts, and the lowest line's number at its receiver.
-pub record MessageBeside (scratch : List ℕ) (n lowest : ℕ) (sends receipts : List ℕ) (k : ℕ) : Type 0 where
+pub record MessageBeside (n lowest k : ℕ) (scratch sends receipts : List ℕ) : Type 0 where
   pub holds : HoldsLines n scratch
   pub there : MessageThere n k sends receipts
   pub lowest-is : lowest ≡ lowestAt n (linesIn scratch n) (processAt receipts k)

@@ -67,7 +67,7 @@ pub fn is_kept(
     receipts: &[u8],
     k: usize,
 ) -> bool
-    requires { ⌜ MessageBeside (now scratch) n lowest (now sends) (now receipts) k ⌝ }
+    requires { ⌜ MessageBeside n lowest k (now scratch) (now sends) (now receipts) ⌝ }
     ensures { λ r. ⌜ r ≡ isKept n (linesIn (now (scratch .entry)) n)
         (messageAt (now (sends .entry)) (now (receipts .entry)) k) ⌝ }
 {

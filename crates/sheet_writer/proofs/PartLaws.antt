@@ -44,22 +44,16 @@ module _ {part : Part} {bytes s : List ℕ} {at : ℕ} {before : List ℕ} (read
   abbrev numbers : List ℕ
   numbers = numbersOf part (decode bytes)
 
-  room-for : {xs : List ℕ} → xs ≡ numbers → at + 2 * length xs ≤ length before
-  room-for e = rw e (ready .room)
-
-  put-as : {xs after : List ℕ} {next : ℕ} → xs ≡ numbers → Put before after at xs next → Put before after at numbers next
-  put-as e p = rw e at p
-
   module _ {k q : ℕ} (e : part ≡ Sizes k q) where
     sizes-are : k ∷ q ∷ [] ≡ numbers
     unfolding numbersOf
     sizes-are = rw e
 
     pub sizes-room : at + 4 ≤ length before
-    sizes-room = room-for sizes-are
+    sizes-room = omega (arith, ready .room, ap length sizes-are)
 
     pub sizes-put : {after : List ℕ} {next : ℕ} → Put before after at (k ∷ q ∷ []) next → Put before after at numbers next
-    sizes-put = put-as sizes-are
+    sizes-put p = rw sizes-are at p
 
   module _ {n : ℕ} (n-is : n ≡ processCount (decode bytes)) where
     module _ {counts : List ℕ} (counts-are : counts ≡ countsPart bytes) (checkpoints : Bool) (e : part ≡ arrayPart checkpoints) where
@@ -69,11 +63,11 @@ module _ {part : Part} {bytes s : List ℕ} {at : ℕ} {before : List ℕ} (read
           ∙ sym (ap (λ (x : Part). numbersOf x (decode bytes)) e)
 
       pub column-room : at + 2 * length (columnOf checkpoints n (linesIn s n) counts) ≤ length before
-      column-room = room-for column-is
+      column-room = rw column-is (ready .room)
 
       pub column-put : {after : List ℕ} {next : ℕ} → Put before after at (columnOf checkpoints n (linesIn s n) counts) next
           → Put before after at numbers next
-      column-put = put-as column-is
+      column-put p = rw column-is at p
 
     module _ {m : ℕ} {sends receipts : List ℕ} (read : ReadMessages bytes m sends receipts) (e : part ≡ Positions) where
       positions-are : positionsOf n (linesIn s n) sends receipts m ≡ numbers
@@ -81,11 +75,11 @@ module _ {part : Part} {bytes s : List ℕ} {at : ℕ} {before : List ℕ} (read
       positions-are = positions-found (ready .given) n-is read ∙ rw e
 
       pub positions-room : at + 2 * length (positionsOf n (linesIn s n) sends receipts m) ≤ length before
-      positions-room = room-for positions-are
+      positions-room = rw positions-are (ready .room)
 
       pub positions-put : {after : List ℕ} {next : ℕ} → Put before after at (positionsOf n (linesIn s n) sends receipts m) next
           → Put before after at numbers next
-      positions-put = put-as positions-are
+      positions-put p = rw positions-are at p
 
 -- ---- all parts
 module _ (bytes : List ℕ) (k q : ℕ) (x : RefT (List ℕ)) where

@@ -1,6 +1,5 @@
 -- Numbers put into a buffer, one after another.
---     put-none, put-written             nothing; what a writer has put
---     put-length                        the buffer's length
+--     put-written, put-length           what a writer has put; the buffer's length
 --     put-room, put-then                more after what was put
 --     Putting, putting-..               a loop that puts one after another
 --     Laying, laying-..                 the loop over the kept checkpoints of a process
@@ -28,10 +27,6 @@ use Rattle.sheet_entries.specs.Scratch.{HoldsLines, linesIn}
 use Rattle.sheet_writer.specs.Writing.{Put}
 use Rattle.sheet_writer.specs.Writers.{written}
 use Rattle.sheet_writer.specs.declared.writer.SheetWriter.{SheetWriter}
-
-pub put-none : (before : List ℕ) (at : ℕ) → Put before before at [] at
-unfolding u16s
-put-none before at = record { contents = sym (putAt-none before at); place = omega arith }
 
 pub put-written : (w : SheetWriter) (xs : List ℕ) → Put (w .buffer .now) (written w xs .buffer .now) (w .at) xs (written w xs .at)
 put-written w xs = record { contents = refl; place = refl }
@@ -62,21 +57,24 @@ pub record Putting (f : ℕ → List ℕ) (n : ℕ) (before : List ℕ) (at : �
   pub put : Put before after at (f k) next
 
 module _ {f : ℕ → List ℕ} {n : ℕ} {before : List ℕ} {at : ℕ} where
-  pub putting-none : {k : ℕ} → k ≤ n → f k ≡ [] → at + 2 * length (f n) ≤ length before → Putting f n before at before at k
-  putting-none l e room = record { within = l; room = room; short = omega (arith, ap length e); put = rw e (put-none before at) }
+  putting-none : {k : ℕ} → k ≤ n → f k ≡ [] → at + 2 * length (f n) ≤ length before → Putting f n before at before at k
+  unfolding u16s
+  putting-none l e room =
+      let nothing : Put before before at [] at = record { contents = sym (putAt-none before at); place = omega arith } in
+      record { within = l; room = room; short = omega (arith, ap length e); put = rw e nothing }
 
   module _ {after : List ℕ} {next k : ℕ} (h : Putting f n before at after next k) where
     pub putting-length : length after ≡ length before
     putting-length = put-length (h .put) (omega (arith, h .room, h .short))
 
-    pub putting-room : (j : ℕ) → length (f k) + j ≤ length (f n) → next + 2 * j ≤ length after
+    putting-room : (j : ℕ) → length (f k) + j ≤ length (f n) → next + 2 * j ≤ length after
     putting-room j l = omega (arith, h .room, h .put .place, putting-length)
 
     -- nothing to put from k to j
-    pub putting-skip : {j : ℕ} → j ≤ n → f j ≡ f k → Putting f n before at after next j
+    putting-skip : {j : ℕ} → j ≤ n → f j ≡ f k → Putting f n before at after next j
     putting-skip l e = record { within = l; room = h .room; short = omega (arith, h .short, ap length e); put = rw e (h .put) }
 
-    pub putting-more : {later ys : List ℕ} {end j : ℕ} → Put after later next ys end → j ≤ n → f j ≡ f k ++ ys
+    putting-more : {later ys : List ℕ} {end j : ℕ} → Put after later next ys end → j ≤ n → f j ≡ f k ++ ys
         → length (f k) + length ys ≤ length (f n) → Putting f n before at later end j
     putting-more {ys = ys} q l e fits = record {
       within = l;
@@ -89,7 +87,8 @@ module _ {f : ℕ → List ℕ} {n : ℕ} {before : List ℕ} {at : ℕ} where
     putting-all l = subst (λ (j : ℕ). Put before after at (f j) next) (le-antisymm (h .within) l) (h .put)
 
 -- ---- the loop over the kept checkpoints of process i, for one array of the sheet
-pub record Laying (test : ℕ → Bool) (limit : ℕ) (checkpoints : Bool) (i : ℕ) (before : List ℕ) (at : ℕ) (after : List ℕ) (next c : ℕ) : Type 0 where
+pub record Laying (test : ℕ → Bool) (limit : ℕ) (checkpoints : Bool) (i : ℕ) (before : List ℕ) (at : ℕ) (after : List ℕ) (next c : ℕ)
+    : Type 0 where
   pub standing : Standing test limit c
   pub putting : Putting (λ d. columnAt checkpoints i (select test d)) limit before at after next c
 
@@ -109,8 +108,8 @@ module _ {test : ℕ → Bool} {limit : ℕ} {checkpoints : Bool} {i : ℕ} {bef
     laying-room = omega (arith, putting-room (h .putting) 1 fits)
 
     -- the number v of checkpoint c was put
-    pub laying-more : {v : ℕ} {later : List ℕ} {end d : ℕ} → v ≡ cond checkpoints c i → Put after later next (v ∷ []) end → First test (c + 1) limit d
-        → Laying test limit checkpoints i before at later end d
+    pub laying-more : {v : ℕ} {later : List ℕ} {end d : ℕ} → v ≡ cond checkpoints c i → Put after later next (v ∷ []) end
+        → First test (c + 1) limit d → Laying test limit checkpoints i before at later end d
     unfolding columnAt
     laying-more {v} {d = d} e put f = record { standing = stands f; putting = putting-more (h .putting) put (f .within) grown fits }
       where
@@ -120,18 +119,18 @@ module _ {test : ℕ → Bool} {limit : ℕ} {checkpoints : Bool} {i : ℕ} {bef
             ∙ ap (λ (x : ℕ). columnAt checkpoints i (select test c) ++ (x ∷ [])) (sym e)
 
 -- ---- the loop over the processes, for one array of the sheet
-pub record Chaining (checkpoints : Bool) (scratch : List ℕ) (n : ℕ) (counts before : List ℕ) (at : ℕ) (after : List ℕ) (next i : ℕ) : Type 0 where
+pub record Chaining (checkpoints : Bool) (n : ℕ) (scratch counts before : List ℕ) (at : ℕ) (after : List ℕ) (next i : ℕ) : Type 0 where
   pub holds : HoldsLines n scratch
   pub known : Counts n counts
   pub putting : Putting (rows (λ j. columnAt checkpoints j (keptOf n (linesIn scratch n) j (countAt counts j)))) n before at after next i
 
-module _ {checkpoints : Bool} {scratch : List ℕ} {n : ℕ} {counts before : List ℕ} {at : ℕ} where
+module _ {checkpoints : Bool} {n : ℕ} {scratch counts before : List ℕ} {at : ℕ} where
   pub chaining-none : HoldsLines n scratch → Counts n counts → at + 2 * length (columnOf checkpoints n (linesIn scratch n) counts) ≤ length before
-      → Chaining checkpoints scratch n counts before at before at 0
+      → Chaining checkpoints n scratch counts before at before at 0
   unfolding rows columnOf
   chaining-none holds known room = record { holds = holds; known = known; putting = putting-none zero-le refl room }
 
-  module _ {after : List ℕ} {next i : ℕ} (h : Chaining checkpoints scratch n counts before at after next i) where
+  module _ {after : List ℕ} {next i : ℕ} (h : Chaining checkpoints n scratch counts before at after next i) where
     -- the numbers of process i, once its count was read
     module _ (l : i < n) {count : ℕ} (read : count ≡ u16At counts (2 * i)) where
       pub chaining-room : next + 2 * length (columnAt checkpoints i (keptOf n (linesIn scratch n) i count)) ≤ length after
@@ -139,7 +138,7 @@ module _ {checkpoints : Bool} {scratch : List ℕ} {n : ℕ} {counts before : Li
       chaining-room = rw read (putting-room (h .putting) _ (rows-room _ i n l))
 
       pub chaining-more : {later : List ℕ} {end : ℕ} → Put after later next (columnAt checkpoints i (keptOf n (linesIn scratch n) i count)) end
-          → Chaining checkpoints scratch n counts before at later end (i + 1)
+          → Chaining checkpoints n scratch counts before at later end (i + 1)
       unfolding countAt
       chaining-more put = record {
         holds = h .holds;
@@ -152,27 +151,28 @@ module _ {checkpoints : Bool} {scratch : List ℕ} {n : ℕ} {counts before : Li
     chaining-all = putting-all (h .putting)
 
 -- ---- the loop over the messages
-pub record Placing (scratch : List ℕ) (n : ℕ) (sends receipts : List ℕ) (m : ℕ) (lowest before : List ℕ) (at : ℕ) (after : List ℕ) (next k : ℕ) : Type 0 where
-  pub asking : Asking scratch n sends receipts m lowest
+pub record Placing (n m : ℕ) (scratch sends receipts lowest before : List ℕ) (at : ℕ) (after : List ℕ) (next k : ℕ) : Type 0 where
+  pub asking : Asking n m scratch sends receipts lowest
   pub putting : Putting (select (λ j. isKept n (linesIn scratch n) (messageAt sends receipts j))) m before at after next k
 
-module _ {scratch : List ℕ} {n : ℕ} {sends receipts : List ℕ} {m : ℕ} {lowest before : List ℕ} {at : ℕ} where
-  pub placing-none : Asking scratch n sends receipts m lowest → at + 2 * length (positionsOf n (linesIn scratch n) sends receipts m) ≤ length before
-      → Placing scratch n sends receipts m lowest before at before at 0
+module _ {n m : ℕ} {scratch sends receipts lowest before : List ℕ} {at : ℕ} where
+  pub placing-none : Asking n m scratch sends receipts lowest → at + 2 * length (positionsOf n (linesIn scratch n) sends receipts m) ≤ length before
+      → Placing n m scratch sends receipts lowest before at before at 0
   unfolding select positionsOf
   placing-none asking room = record { asking = asking; putting = putting-none zero-le refl room }
 
-  module _ {after : List ℕ} {next k : ℕ} (h : Placing scratch n sends receipts m lowest before at after next k) where
+  module _ {after : List ℕ} {next k : ℕ} (h : Placing n m scratch sends receipts lowest before at after next k) where
     -- what was found of message k
     module _ (l : k < m) {r : Bool} (is : r ≡ isKept n (linesIn scratch n) (messageAt sends receipts k)) where
-      pub placing-skip : r ≡ false → Placing scratch n sends receipts m lowest before at after next (k + 1)
+      pub placing-skip : r ≡ false → Placing n m scratch sends receipts lowest before at after next (k + 1)
       placing-skip e = record { asking = h .asking; putting = putting-skip (h .putting) (omega arith) (select-skip _ k (sym is ∙ e)) }
 
       module _ (e : r ≡ true) where
         pub placing-room : next + 1 < length after
         placing-room = omega (arith, putting-room (h .putting) 1 (select-room _ k m l (sym is ∙ e)))
 
-        pub placing-more : {later : List ℕ} {end : ℕ} → Put after later next (k ∷ []) end → Placing scratch n sends receipts m lowest before at later end (k + 1)
+        pub placing-more : {later : List ℕ} {end : ℕ} → Put after later next (k ∷ []) end
+            → Placing n m scratch sends receipts lowest before at later end (k + 1)
         placing-more put = record {
           asking = h .asking;
           putting = putting-more (h .putting) put (omega arith) (select-more _ k (sym is ∙ e)) (select-room _ k m l (sym is ∙ e));
@@ -198,7 +198,8 @@ unfolding u16s
 low-all [] = refl
 low-all (n ∷ rest) = ap₂ (λ (bytes more : List ℕ). bytes ++ more) (low-bits n) (low-all rest)
 
-pub put-low : {before after : List ℕ} {at : ℕ} (ns : List ℕ) {next : ℕ} → Put before after at (map (λ n. n % 65536) ns) next → Put before after at ns next
+pub put-low : {before after : List ℕ} {at next : ℕ} (ns : List ℕ) → Put before after at (map (λ n. n % 65536) ns) next
+    → Put before after at ns next
 put-low {before} {at = at} ns p = record {
   contents = p .contents ∙ ap (putAt before at) (low-all ns);
   place = omega (arith, p .place, length-map ns (λ (n : ℕ). n % 65536));

@@ -1,7 +1,7 @@
 -- What the code finds is the keep sheet of the table.
 --     holder-length, lines-length, lines-stand    the lines of single holders; where `fill_lines` leaves them
 --     sheet-length                                the sheet's length
---     checkpoints-are, positions-are              what lines of single holders say is kept
+--     numbers-are, kept-is                        what lines of single holders say is kept
 --     kept-few                                    the sheet of an accepted table is not long
 --     Lining, lining-..                           a loop that writes the lines of single holders
 --     entry-is, holds-lines                       lines in the scratch are the lines of single holders
@@ -90,11 +90,6 @@ module _ (t : Table) where
     numbers-are i l =
         select-ext _ _ (countOf t i) (λ c b. rw (lt-ltb c (countOf t i) b) (anyBelow-ext _ _ N (λ k d. ap (λ (x : ℕ). eqb x c) (are k i d l))))
 
-    checkpoints-are : (counts : List ℕ) → ((i : ℕ) → i < N → countAt counts i ≡ countOf t i) → checkpointsOf N line counts ≡ keptCheckpoints t
-    unfolding checkpointsOf checkpointsAt keptCheckpoints
-    checkpoints-are counts read =
-        rows-ext _ _ N (λ i l. ap (map (λ c. record { process = i; number = c })) (ap (keptOf N line i) (read i l) ∙ numbers-are i l))
-
     kept-is : (m : Message) → GoodMessage t m → isKept N line m ≡ keepsMessage t m
     unfolding isKept keepsMessage crossesLine crosses
     kept-is m good =
@@ -102,12 +97,6 @@ module _ (t : Table) where
         (anyBelow-ext _ _ N (λ k l.
         ap₂ (λ (x y : ℕ). ltb (m .sent) x && ltb y (m .received))
         (are k (m .sender) l (good .sender-known)) (are k (m .receiver) l (good .receiver-known))))
-
-    positions-are : (sends receipts : List ℕ) → ((k : ℕ) → k < messageCount t → messageAt sends receipts k ≡ messageOf t k)
-        → ((k : ℕ) → k < messageCount t → GoodMessage t (messageOf t k)) → positionsOf N line sends receipts (messageCount t) ≡ keptMessages t
-    unfolding positionsOf keptMessages
-    positions-are sends receipts read good =
-        select-ext _ _ (messageCount t) (λ k l. ap (isKept N line) (read k l) ∙ kept-is (messageOf t k) (good k l))
 
 -- at most N × N checkpoints, and M messages
 pub kept-few : (bytes : List ℕ) → tableRefusal bytes ≡ 0
@@ -197,7 +186,11 @@ module _ {bytes s : List ℕ} (given : LinesOf bytes s) where
 
     module _ {counts : List ℕ} (counts-are : counts ≡ countsPart bytes) where
       pub checkpoints-found : checkpointsOf n (linesIn s n) counts ≡ keptCheckpoints t
-      checkpoints-found = rw (n-is, counts-are) (checkpoints-are t (linesIn s (N t)) entry-is (countsPart bytes) (count-is bytes (given .accepted)))
+      unfolding checkpointsOf checkpointsAt keptCheckpoints
+      checkpoints-found =
+          rw (n-is, counts-are)
+          (rows-ext _ _ (N t) (λ i l. ap (map (λ c. record { process = i; number = c }))
+          (ap (keptOf (N t) (linesIn s (N t)) i) (count-is bytes (given .accepted) i l) ∙ numbers-are t (linesIn s (N t)) entry-is i l)))
 
       -- one array of the sheet: the numbers of the kept checkpoints, or else their processes
       pub column-found : (checkpoints : Bool)
@@ -208,8 +201,10 @@ module _ {bytes s : List ℕ} (given : LinesOf bytes s) where
           rows-ext _ _ n (λ i _. sym (map-map number (λ c. record { process = i; number = c }) (keptOf n (linesIn s n) i (countAt counts i))))
           ∙ sym (map-rows number _ n) ∙ ap (map number) checkpoints-found
 
-    pub positions-found : {m : ℕ} {sends receipts : List ℕ} → ReadMessages bytes m sends receipts → positionsOf n (linesIn s n) sends receipts m ≡ keptMessages t
+    pub positions-found : {m : ℕ} {sends receipts : List ℕ} → ReadMessages bytes m sends receipts
+        → positionsOf n (linesIn s n) sends receipts m ≡ keptMessages t
+    unfolding positionsOf keptMessages
     positions-found read =
-        let whole = message-is bytes (given .accepted) in
         rw (n-is, read .m-is, read .sends-are, read .receipts-are)
-        (positions-are t (linesIn s (N t)) entry-is (sendsPart bytes) (receiptsPart bytes) whole (message-good bytes (given .accepted)))
+        (select-ext _ _ (messageCount t) (λ k l. ap (isKept (N t) (linesIn s (N t))) (message-is bytes (given .accepted) k l)
+        ∙ kept-is t (linesIn s (N t)) entry-is (messageOf t k) (message-good bytes (given .accepted) k l)))

@@ -1,4 +1,5 @@
 -- What the two walks by hand share.
+--     Slice                a slice of numbers, as a parameter has it
 --     life, row, machine   the sheet's writer: its lifetime, its type at that lifetime, and its machine value
 --     part-val, part-typed a part's machine value, and that it is of the enum's MIR type
 --     lent, lent-goes      the slot of a parameter that is a `&[R]`; nothing need be had of it at exit
@@ -22,7 +23,7 @@ use types.Run.{Opds, from, stop, load, and-then, look, forget, free1}
 use denote.Enum.Laws as EL
 use denote.Laws.{Is}
 use denote.RattleType.{RattleType}
-use denote.Ref.{NamedLft}
+use denote.Ref.{NamedLft, RefT}
 use denote.Exit.{yes}
 use denote.Signature.{Slot, AllWithin, plain, shrSliceOf}
 use denote.Triple.Walked.{Goes, stay-dropped, goes-dropped}
@@ -30,6 +31,9 @@ use Rattle.sheet_writer.specs.declared.writing.Part.{Part}
 use Rattle.sheet_writer.proofs.writer.SheetWriter as T
 use Rattle.sheet_writer.proofs.writing.Part as P
 use Rattle.sheet_writer.proofs.writing.Part.Laws as P′
+
+abbrev pub Slice : Type 0
+Slice = RefT (List ℕ)
 
 abbrev pub life : Lft → NamedLft
 life κ = record { mir = named 0; lft = κ }
@@ -68,7 +72,7 @@ module _ {M : Type 1} {𝓤 : URA M} {H : Heap 𝓤} {A : Atoms 𝓤} {K : Type 
       let Ξ : List (Item 𝓤) = del 𝓤 H A n Θ in
       let both : Seq K W (‵ (fat fullShare τ b zero v) ∷ ‵ (fdies τ b) ∷ Ξ) (frees ((τ, b) ∷ E) g) = (forget t 0 refl $ free1 t $ s) in
       let out : ent 𝓤 (⋆ 𝓤 H A Θ) (⋆ 𝓤 H A (nth 𝓤 H A n Θ ∷ Ξ)) = via 𝓤 _ (pull 𝓤 H A n Θ) (push 𝓤 H A _ Ξ) in
-      let freer : ent 𝓤 (⋆ 𝓤 H A Θ) (⋆ 𝓤 H A (‵ (fdies τ b) ∷ Ξ)) = subst (λ (j : Item 𝓤). ent 𝓤 (⋆ 𝓤 H A Θ) (⋆ 𝓤 H A (j ∷ Ξ))) e′ out in
+      let freer = subst (λ (j : Item 𝓤). ent 𝓤 (⋆ 𝓤 H A Θ) (⋆ 𝓤 H A (j ∷ Ξ))) e′ out in
       record {
         prf =
             via 𝓤 _ (subst (λ (j : Item 𝓤). ent 𝓤 (⋆ 𝓤 H A Γ) (sep 𝓤 (mean 𝓤 H A j) (⋆ 𝓤 H A Θ))) e (pull 𝓤 H A n Γ))

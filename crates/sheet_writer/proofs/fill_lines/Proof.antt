@@ -28,7 +28,8 @@ lined c = c .before .before .before
 
 -- ---- what is known there: the first N numbers of the line are a list of N
 front : (c : tie.After-line-of-holder Inv-loop μ-loop)
-    → length (take (turn c .before .before .before .process-count .result) (c .line-of-holder .result)) ≡ turn c .before .before .before .process-count .result
+    → length (take (turn c .before .before .before .process-count .result) (c .line-of-holder .result))
+    ≡ turn c .before .before .before .process-count .result
 front c = length-take-le _ _ (lining-fits (turn c .before .loop .inv) (turn c .loop-test .taken) (c .line-of-holder .ensures))
 
 -- ---- the needs, in the code's course

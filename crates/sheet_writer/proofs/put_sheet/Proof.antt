@@ -18,8 +18,8 @@ use ghost.Atoms.{Atoms, sem}
 use contract.Lifetimes.{Lfts, Shares}
 use contract.Monad.{Fun, fact}
 use contract.Running.{givenOf, tables, tablesOf}
-use types.Kit.{Given, Item, ‵, ⋆, raw, given, _⊛_, some, later, Post, Seq, runs, lands, _$_, _∵_, !, qed, by, move, keep, drop, use1, use3, split, split3, join}
-use types.Kit.{pick, learn, rewrite, fsplit, fjoin, feqI, suffices, frame, await, done}
+use types.Kit.{Given, Item, ‵, ⋆, raw, given, _⊛_, some, later, Post, Seq, runs, lands, _$_, _∵_, !, qed, by, move, keep, drop, use1, use3}
+use types.Kit.{split, split3, join, pick, learn, rewrite, fsplit, fjoin, feqI, suffices, frame, await, done}
 use types.Run.{Opds, look, init, stop, hop, fld, from, load, addr, lit, unit-lit, of-opd, and-then, no-more, assigns, land, returns, enter, alloc1, alloc0}
 use types.Run.{params1, pass1, pass0, free0}
 use types.Part.{agg, whole, sub, look-in}
@@ -28,7 +28,6 @@ use denote.RattleType.{owns}
 use denote.Laws.{Is, shows}
 use denote.Plain.{uint-makes, uint-vals, uint-tells}
 use denote.Builtin.{u8, u16, usize}
-use denote.Ref.{RefT}
 use denote.Slice.{sliceVal, MutSlice, ShrSlice, Room, slice-vals, mut-slice-tells, shr-slice-copy, shr-slice-lawful, shr-slice-tells}
 use denote.Steps.{only, owned, peeks, heard, nothing}
 use denote.Enum.Laws as EL
@@ -51,7 +50,7 @@ use Rattle.sheet_writer.specs.SheetParts.{CanPut, CanPutSheet, numbersOf
 use Rattle.sheet_writer.specs.Writers.{written}
 use Rattle.sheet_writer.proofs.PartLaws.{begun, can-checkpoints, can-positions, can-processes, can-sizes, filled, numbered, processed, sized}
 use Rattle.sheet_writer.proofs.PartLaws.{same-size, sheet-put}
-use Rattle.sheet_writer.proofs.Walking.{and-local, freed, lent, lent-goes, life, machine, part-typed, part-val, row}
+use Rattle.sheet_writer.proofs.Walking.{Slice, and-local, freed, lent, lent-goes, life, machine, part-typed, part-val, row}
 use Rattle.sheet_writer.proofs.writer.SheetWriter as T
 use Rattle.sheet_writer.proofs.writer.SheetWriter.Laws as T′
 use Rattle.sheet_writer.proofs.writing.Part as P
@@ -88,8 +87,8 @@ stored κ h w is =
 abbrev Puts : {M : Type 1} (𝓤 : URA M) (H : Heap 𝓤) (A : Atoms 𝓤) (mem : Memory → SProp 𝓤) (run : Routine → Fun 𝓤) → Contract 𝓤
 Puts 𝓤 H A mem run = tripleOf 𝓤 H A put.signature (put.spec 𝓤 H A mem run)
 
-module _ {M : Type 1} (𝓤 : URA M) (H : Heap 𝓤) (A : Atoms 𝓤) (W : Given 𝓤 H A) (mem : Memory → SProp 𝓤) (run : Routine → Fun 𝓤) (κ₀ κ₁ κ₂ : Lft)
-    (q₀ q₁ q₂ : Share) (table scratch : RefT (List ℕ)) where
+module _ {M : Type 1} (𝓤 : URA M) (H : Heap 𝓤) (A : Atoms 𝓤) (W : Given 𝓤 H A) (mem : Memory → SProp 𝓤) (run : Routine → Fun 𝓤)
+    (κ₀ κ₁ κ₂ : Lft) (q₀ q₁ q₂ : Share) (table scratch : Slice) where
   abbrev b : List ℕ
   b = table .now
 
@@ -122,7 +121,7 @@ module _ {M : Type 1} (𝓤 : URA M) (H : Heap 𝓤) (A : Atoms 𝓤) (W : Given
     abbrev κs : Lfts 3
     κs = (κ₂, (κ₀, (κ₁, tt)))
 
-    abbrev passed : SheetWriter × (Part × (RefT (List ℕ) × (RefT (List ℕ) × Unit {0})))
+    abbrev passed : SheetWriter × (Part × (Slice × (Slice × Unit {0})))
     passed = (h, (part, (table, (scratch, tt))))
 
     abbrev next : SheetWriter
@@ -142,9 +141,11 @@ module _ {M : Type 1} (𝓤 : URA M) (H : Heap 𝓤) (A : Atoms 𝓤) (W : Given
     said : (r : SheetWriter) → ent 𝓤 (Said r) (fact 𝓤 (r ≡ next))
     said r = exE 𝓤 _ (λ ws. snd∗ 𝓤 (sem 𝓤 H A (lasts put.ended κs passed ws)) (fact 𝓤 (r ≡ next)))
 
-    puts : {K : Type 0} {Γ : List (Item 𝓤)} {E : Env 𝓤 H} {C : Calls 𝓤 H} {Λ : Loops 𝓤 H} {post : Post 𝓤 H} {d : Place} {rest : Body} {xs : List Operand}
+    puts : {K : Type 0} {Γ : List (Item 𝓤)} {E : Env 𝓤 H} {C : Calls 𝓤 H} {Λ : Loops 𝓤 H} {post : Post 𝓤 H} {d : Place} {rest : Body}
+        {xs : List Operand}
         → K → FmC 𝓤 H (W .laws) C → Triple 𝓤 (C #put) (Puts 𝓤 H A mem run)
-        → Opds K W (raw (Puts 𝓤 H A mem run .pre to-put) ∷ ‵ Lent ∷ Γ) E xs (w ∷ part-val part ∷ only (slice-vals table) ∷ only (slice-vals scratch) ∷ [])
+        → Opds K W (raw (Puts 𝓤 H A mem run .pre to-put) ∷ ‵ Lent ∷ Γ) E xs
+        (w ∷ part-val part ∷ only (slice-vals table) ∷ only (slice-vals scratch) ∷ [])
         → ((u : Val) → Stored u → Seq K W (tokens ∷ writer next u ∷ ‵ Lent ∷ Γ) (lands C Λ E d u rest post))
         → Seq K W (tokens ∷ writer h w ∷ ‵ Lent ∷ Γ) (runs C Λ E (seq (call #put xs d) rest) post)
     puts t fm known args k =
@@ -155,7 +156,7 @@ module _ {M : Type 1} (𝓤 : URA M) (H : Heap 𝓤) (A : Atoms 𝓤) (W : Given
         split t $ rewrite t 1 (λ (g : SheetWriter). writer g u) e refl $ move t (1 ∷ []) $
         peeks t (row κ₂) (Is (row κ₂)) (shows 𝓤 H A (row κ₂)) next (u ∷ []) (λ made. move t (1 ∷ 0 ∷ []) $ k u (stored κ₂ next u made)))))
 
-  module _ (k q : ℕ) (answer : RefT (List ℕ)) (k-fits : k < 2 ^ 64) (q-fits : q < 2 ^ 64)
+  module _ (k q : ℕ) (answer : Slice) (k-fits : k < 2 ^ 64) (q-fits : q < 2 ^ 64)
       (asked : CanPutSheet b (scratch .now) k q (answer .now)) where
     abbrev lfts : Lfts 3
     lfts = (κ₀, (κ₁, (κ₂, tt)))
@@ -163,7 +164,7 @@ module _ {M : Type 1} (𝓤 : URA M) (H : Heap 𝓤) (A : Atoms 𝓤) (W : Given
     abbrev shares : Shares 3
     shares = (q₀, (q₁, (q₂, tt)))
 
-    abbrev a : RefT (List ℕ) × (RefT (List ℕ) × (ℕ × (ℕ × (RefT (List ℕ) × Unit {0}))))
+    abbrev a : Slice × (Slice × (ℕ × (ℕ × (Slice × Unit {0}))))
     a = (table, (scratch, (k, (q, (answer, tt)))))
 
     abbrev vals : List Val × (List Val × (List Val × (List Val × (List Val × Unit {0}))))
@@ -196,8 +197,8 @@ module _ {M : Type 1} (𝓤 : URA M) (H : Heap 𝓤) (A : Atoms 𝓤) (W : Given
     begins : ent 𝓤 Entry (⋆ 𝓤 H A (tokens ∷ writer first w₀ ∷ ‵ Lent ∷ []))
     begins =
         qed W ((‵ (flft κ₀ q₀) ⊛ ‵ (flft κ₁ q₁) ⊛ ‵ (flft κ₂ q₂) ⊛ ‵ ftrue)
-        ∷ ‵ (owns (ShrSlice (named 0) κ₀ u8 ∷ ShrSlice (named 1) κ₁ u16 ∷ usize ∷ usize ∷ MutSlice (named 2) κ₂ u8 ∷ []) a vals) ∷ []) ∵
-        split ! $ move ! (1 ∷ []) $ split ! $ move ! (1 ∷ []) $ split ! $
+        ∷ ‵ (owns (ShrSlice (named 0) κ₀ u8 ∷ ShrSlice (named 1) κ₁ u16 ∷ usize ∷ usize ∷ MutSlice (named 2) κ₂ u8 ∷ []) a vals)
+        ∷ []) ∵ split ! $ move ! (1 ∷ []) $ split ! $ move ! (1 ∷ []) $ split ! $
         move ! (2 ∷ 1 ∷ []) $ join ! $ move ! (2 ∷ 0 ∷ []) $ join ! $ move ! (1 ∷ 0 ∷ []) $ join ! $ frame ! $
         fsplit ! $ move ! (1 ∷ []) $ fsplit ! $ move ! (1 ∷ []) $ fsplit ! $ drop ! $ fsplit ! $ drop ! $ fsplit ! $
         -- [what the answer's loan owns; nothing; what the scratch owns; what the table owns]
@@ -219,17 +220,30 @@ module _ {M : Type 1} (𝓤 : URA M) (H : Heap 𝓤) (A : Atoms 𝓤) (W : Given
         nothing ! $ move ! (1 ∷ 0 ∷ []) $ fjoin ! $ nothing ! $ fjoin ! $ nothing ! $ fjoin ! $ nothing ! $ fjoin ! $ nothing ! $ fjoin ! $
         feqI ! (List Val) (vunit ∷ []) (vunit ∷ []) refl $ keep ! (1 ∷ 0 ∷ []) $ done !)
 
-    sizes-is : Is P.the-row (Sizes k q) (part-val (Sizes k q) ∷ [])
+    -- the parts are of their machine values
+    abbrev IsPart : Part → Type 0
+    IsPart part = Is P.the-row part (part-val part ∷ [])
+
+    sizes-is : IsPart (Sizes k q)
     sizes-is = EL.owes P.the-type P′.the-laws (Sizes k q) ((refl, k-fits), ((refl, q-fits), tt))
+
+    processes-is : IsPart Processes
+    processes-is = EL.owes P.the-type P′.the-laws Processes tt
+
+    checkpoints-is : IsPart Checkpoints
+    checkpoints-is = EL.owes P.the-type P′.the-laws Checkpoints tt
+
+    positions-is : IsPart Positions
+    positions-is = EL.owes P.the-type P′.the-laws Positions tt
 
     module _ (C : Calls 𝓤 H) (Λ : Loops 𝓤 H) (fm : FmC 𝓤 H (W .laws) C) (known : Triple 𝓤 (C #put) (Puts 𝓤 H A mem run)) where
       walk : Is (ShrSlice (named 0) κ₀ u8) table (slice-vals table) → Is (ShrSlice (named 1) κ₁ u16) scratch (slice-vals scratch)
           → Room u8 (length (answer .now)) → ent 𝓤 Entry (WpFn 𝓤 H C Λ code.function args Exit)
       walk table-is scratch-is size =
           qed W (raw Entry ∷ []) ∵ enter ! C Λ code.function args _ $
-          alloc1 ! (λ l₀. alloc1 ! (λ l₁. alloc1 ! (λ l₂. alloc1 ! (λ l₃. alloc1 ! (λ l₄. alloc1 ! (λ l₅. alloc1 ! (λ l₆. alloc1 ! (λ l₇. alloc1 ! (λ l₈.
-          alloc1 ! (λ l₉. alloc1 ! (λ l₁₀. alloc1 ! (λ l₁₁. alloc1 ! (λ l₁₂. alloc1 ! (λ l₁₃. alloc1 ! (λ l₁₄. alloc1 ! (λ l₁₅. alloc1 ! (λ l₁₆.
-          alloc0 ! $ params1 ! $
+          alloc1 ! (λ l₀. alloc1 ! (λ l₁. alloc1 ! (λ l₂. alloc1 ! (λ l₃. alloc1 ! (λ l₄. alloc1 ! (λ l₅. alloc1 ! (λ l₆.
+          alloc1 ! (λ l₇. alloc1 ! (λ l₈. alloc1 ! (λ l₉. alloc1 ! (λ l₁₀. alloc1 ! (λ l₁₁. alloc1 ! (λ l₁₂. alloc1 ! (λ l₁₃.
+          alloc1 ! (λ l₁₄. alloc1 ! (λ l₁₅. alloc1 ! (λ l₁₆. alloc0 ! $ params1 ! $
           pass1 ! (init ! 30 refl (shr-slice-lawful 𝓤 H A W (named 0) κ₀ u8 .typed table _ table-is .0)) $
           pass1 ! (init ! 28 refl (shr-slice-lawful 𝓤 H A W (named 1) κ₁ u16 .typed scratch _ scratch-is .0)) $
           pass1 ! (init ! 26 refl (tt, record { fits = k-fits })) $ pass1 ! (init ! 24 refl (tt, record { fits = q-fits })) $
@@ -248,19 +262,16 @@ module _ {M : Type 1} (𝓤 : URA M) (H : Heap 𝓤) (A : Atoms 𝓤) (W : Given
           puts first w₀ (Sizes k q) sizes-is (can-sizes b k q answer asked) ! fm known
           (and-local ! 10 refl (and-local ! 8 refl (and-local ! 32 refl (and-local ! 30 refl (no-more !)))))
           (λ w₁ ok₁. land ! (from ! (stop !)) (init ! 17 refl ok₁) $
-          assigns ! (agg ! (and-then ! (lit ! tt) (no-more !))) (from ! (stop !))
-          (init ! 7 refl (part-typed 𝓤 H A W Processes (EL.owes P.the-type P′.the-laws Processes tt))) $
-          puts (sized b k q answer) w₁ Processes (EL.owes P.the-type P′.the-laws Processes tt) (can-processes b k q answer asked) ! fm known
+          assigns ! (agg ! (and-then ! (lit ! tt) (no-more !))) (from ! (stop !)) (init ! 7 refl (part-typed 𝓤 H A W Processes processes-is)) $
+          puts (sized b k q answer) w₁ Processes processes-is (can-processes b k q answer asked) ! fm known
           (and-local ! 16 refl (and-local ! 6 refl (and-local ! 32 refl (and-local ! 30 refl (no-more !)))))
           (λ w₂ ok₂. land ! (from ! (stop !)) (init ! 19 refl ok₂) $
-          assigns ! (agg ! (and-then ! (lit ! tt) (no-more !))) (from ! (stop !))
-          (init ! 5 refl (part-typed 𝓤 H A W Checkpoints (EL.owes P.the-type P′.the-laws Checkpoints tt))) $
-          puts (processed b k q answer) w₂ Checkpoints (EL.owes P.the-type P′.the-laws Checkpoints tt) (can-checkpoints b k q answer asked) ! fm known
+          assigns ! (agg ! (and-then ! (lit ! tt) (no-more !))) (from ! (stop !)) (init ! 5 refl (part-typed 𝓤 H A W Checkpoints checkpoints-is)) $
+          puts (processed b k q answer) w₂ Checkpoints checkpoints-is (can-checkpoints b k q answer asked) ! fm known
           (and-local ! 18 refl (and-local ! 4 refl (and-local ! 32 refl (and-local ! 30 refl (no-more !)))))
           (λ w₃ ok₃. land ! (from ! (stop !)) (init ! 21 refl ok₃) $
-          assigns ! (agg ! (and-then ! (lit ! tt) (no-more !))) (from ! (stop !))
-          (init ! 3 refl (part-typed 𝓤 H A W Positions (EL.owes P.the-type P′.the-laws Positions tt))) $
-          puts (numbered b k q answer) w₃ Positions (EL.owes P.the-type P′.the-laws Positions tt) (can-positions b k q answer asked) ! fm known
+          assigns ! (agg ! (and-then ! (lit ! tt) (no-more !))) (from ! (stop !)) (init ! 3 refl (part-typed 𝓤 H A W Positions positions-is)) $
+          puts (numbered b k q answer) w₃ Positions positions-is (can-positions b k q answer asked) ! fm known
           (and-local ! 20 refl (and-local ! 2 refl (and-local ! 32 refl (and-local ! 30 refl (no-more !)))))
           (λ w₄ ok₄. land ! (from ! (stop !)) (init ! 23 refl ok₄) $
           assigns ! (of-opd ! (unit-lit !)) (from ! (stop !)) (init ! 35 refl (tt, tt)) $ returns ! (look ! 35 refl) $
@@ -269,8 +280,8 @@ module _ {M : Type 1} (𝓤 : URA M) (H : Heap 𝓤) (A : Atoms 𝓤) (W : Given
           freed ! 11 refl refl $ freed ! 9 refl refl $ freed ! 7 refl refl $ freed ! 5 refl refl $ freed ! 3 refl refl $ free0 ! $
           by ! (exits w₄))))))))))))))))))))))
 
-module _ {M : Type 1} (𝓤 : URA M) (H : Heap 𝓤) (A : Atoms 𝓤) (W : Given 𝓤 H A) (mem : Memory → SProp 𝓤) (run : Routine → Fun 𝓤) (𝓣 : Tables 𝓤 H)
-    (known : Triple 𝓤 (𝓣 .C #put) (Puts 𝓤 H A mem run)) where
+module _ {M : Type 1} (𝓤 : URA M) (H : Heap 𝓤) (A : Atoms 𝓤) (W : Given 𝓤 H A) (mem : Memory → SProp 𝓤) (run : Routine → Fun 𝓤)
+    (𝓣 : Tables 𝓤 H) (known : Triple 𝓤 (𝓣 .C #put) (Puts 𝓤 H A mem run)) where
   walks : Walks 𝓤 H A put-sheet.ended stayed (WpFn 𝓤 H (𝓣 .C) (𝓣 .Λ) code.function) (put-sheet.clauses 𝓤 H A mem run)
   walks =
       walked 𝓤 H A put-sheet.ended stayed (put-sheet.clauses 𝓤 H A mem run) (WpFn 𝓤 H (𝓣 .C) (𝓣 .Λ) code.function)
@@ -299,4 +310,5 @@ put-sheet-spec 𝓤 H 𝓜 𝓖 𝓡 =
     entered 𝓤 H (tripleOf 𝓤 H (𝓖 .A) put-sheet.signature (put-sheet.spec 𝓤 H (𝓖 .A) (𝓜 .mem) (𝓡 .run)))
     (tables 𝓤 H 𝓜 𝓡 code.env .C) (tables 𝓤 H 𝓜 𝓡 code.env .Λ) #put-sheet code.function (code.unfolded 𝓤 H 𝓜 𝓡)
     (meets 𝓤 H (𝓖 .A) (givenOf 𝓤 H 𝓜 𝓖) (𝓜 .mem) (𝓡 .run) (tablesOf 𝓤 H 𝓜 (tables 𝓤 H 𝓜 𝓡 code.env))
-    (cited 𝓤 H (Puts 𝓤 H (𝓖 .A) (𝓜 .mem) (𝓡 .run)) 𝓜 𝓡 code.env #put put-def.routine code.calls-sheet-writer·writer·SheetWriter·put (put-thm.met 𝓤 H 𝓜 𝓖 𝓡)))
+    (cited 𝓤 H (Puts 𝓤 H (𝓖 .A) (𝓜 .mem) (𝓡 .run)) 𝓜 𝓡 code.env #put put-def.routine code.calls-sheet-writer·writer·SheetWriter·put
+    (put-thm.met 𝓤 H 𝓜 𝓖 𝓡)))

@@ -7,7 +7,7 @@ use Rattle.sheet_entries.proofs.checkpoints.count_kept.Statement.{state
 use Rattle.sheet_entries.proofs.checkpoints.count_kept.Tie as tie
 
 abbrev Inv-loop : tie.InvT-loop
-Inv-loop scratch n counts total₀ i₀ total i = Totalling scratch n counts total i
+Inv-loop scratch n counts total₀ i₀ total i = Totalling n scratch counts total i
 
 abbrev μ-loop : tie.MeasureT-loop
 μ-loop scratch n counts total₀ i₀ total i = n - i

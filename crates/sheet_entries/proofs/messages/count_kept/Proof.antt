@@ -4,13 +4,13 @@ use borrow.Author.Needs.{needs}
 use native.Mathlib.Omega.{arith}
 use borrow.Author.Tests.{not-true, not-false}
 use Prim.Native.Nat.{_-_}
-use Rattle.sheet_entries.proofs.SearchLaws.{Picking, may-ask, receiver-small, tallied-all, tallied-more, tallied-none, tallied-skip, tallied-small}
+use Rattle.sheet_entries.proofs.SearchLaws.{Picking, may-ask, picking-more, picking-none, picking-skip, receiver-small, tallied-all, tallied-small}
 use Rattle.sheet_entries.specs.Kept.{positionsOf}
 use Rattle.sheet_entries.proofs.messages.count_kept.Statement.{statement}
 use Rattle.sheet_entries.proofs.messages.count_kept.Tie as tie
 
 abbrev Inv-loop : tie.InvT-loop
-Inv-loop scratch n sends receipts m lowest kept₀ k₀ kept k = Picking scratch n sends receipts m lowest kept k
+Inv-loop scratch n sends receipts m lowest kept₀ k₀ kept k = Picking n m scratch sends receipts lowest kept k
 
 abbrev μ-loop : tie.MeasureT-loop
 μ-loop scratch n sends receipts m lowest kept₀ k₀ kept k = m - k
@@ -33,7 +33,7 @@ count-kept-spec =
     (λ c κs. omega arith)
     (λ c.
     let given = entry c .pre in
-    record { asking = record { holds = given .0; known = given .1; lowest-is = c .lowest-line .ensures }; tallied = tallied-none })
+    picking-none record { holds = given .0; known = given .1; lowest-is = c .lowest-line .ensures })
     -- the message
     (λ c. omega arith)
     (λ c κs. omega arith)
@@ -46,19 +46,11 @@ count-kept-spec =
     (λ c. omega arith)
     (λ c.
     let judged = c .before in
-    let picking = turn judged .before .loop .inv in
-    record {
-      asking = picking .asking;
-      tallied = tallied-skip (picking .tallied) (turn judged .loop-test .taken) (judged .is-kept .ensures) (not-true _ (c .if1 .taken));
-    })
+    picking-skip (turn judged .before .loop .inv) (turn judged .loop-test .taken) (judged .is-kept .ensures) (not-true _ (c .if1 .taken)))
     -- it is kept
     (λ c. omega (arith, tallied-small (turn (c .before) .before .loop .inv .tallied)))
     (λ c. omega arith)
     (λ c.
     let judged = c .before in
-    let picking = turn judged .before .loop .inv in
-    record {
-      asking = picking .asking;
-      tallied = tallied-more (picking .tallied) (turn judged .loop-test .taken) (judged .is-kept .ensures) (not-false _ (c .if1 .left));
-    })
+    picking-more (turn judged .before .loop .inv) (turn judged .loop-test .taken) (judged .is-kept .ensures) (not-false _ (c .if1 .left)))
     (λ c. tallied-all (c .before .loop .inv .tallied) (c .loop-test .left)))

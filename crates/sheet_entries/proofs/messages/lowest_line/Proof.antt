@@ -7,7 +7,7 @@ use Rattle.sheet_entries.proofs.messages.lowest_line.Statement.{stateme
 use Rattle.sheet_entries.proofs.messages.lowest_line.Tie as tie
 
 abbrev Inv-loop : tie.InvT-loop
-Inv-loop scratch n lowest₀ i₀ lowest i = Lowering scratch n lowest i
+Inv-loop scratch n lowest₀ i₀ lowest i = Lowering n scratch lowest i
 
 abbrev μ-loop : tie.MeasureT-loop
 μ-loop scratch n lowest₀ i₀ lowest i = n - i

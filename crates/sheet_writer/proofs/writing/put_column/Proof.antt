@@ -7,7 +7,7 @@ use Rattle.sheet_writer.proofs.writing.put_column.Statement.{statement}
 use Rattle.sheet_writer.proofs.writing.put_column.Tie as tie
 
 abbrev Inv-loop : tie.InvT-loop
-Inv-loop buffer₀ at checkpoints scratch n counts next₀ i₀ buffer next i = Chaining checkpoints scratch n counts buffer₀ at buffer next i
+Inv-loop buffer₀ at checkpoints scratch n counts next₀ i₀ buffer next i = Chaining checkpoints n scratch counts buffer₀ at buffer next i
 
 abbrev μ-loop : tie.MeasureT-loop
 μ-loop buffer₀ at checkpoints scratch n counts next₀ i₀ buffer next i = n - i

@@ -10,8 +10,5 @@ pub put-number-spec : {M : Type 1} → statement M
 unfolding u16s u16Bytes
 put-number-spec =
     tie.close
-    (tie.spec
-    (λ c κs. search needs)
-    (λ c. search needs)
-    (λ c. search needs)
+    (tie.spec (λ c κs. search needs) (λ c. search needs) (λ c. search needs)
     (λ c. record { contents = c .before .before .put-u16 .ensures; place = omega arith }))

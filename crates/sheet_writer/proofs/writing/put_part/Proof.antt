@@ -51,16 +51,16 @@ put-part-spec =
     (λ c κs.
     let n = processes c .process-count .ensures in
     let ready = entry (processes c) .pre in
-    let counts = c .counts .ensures in
-    (holds-lines (ready .given) n, (counts-known _ (ready .given .accepted) n counts, column-room ready n counts false (c .before .before .enum-told .given .1))))
+    let counts = counts-known _ (ready .given .accepted) n (c .counts .ensures) in
+    (holds-lines (ready .given) n, (counts, column-room ready n (c .counts .ensures) false (c .before .before .enum-told .given .1))))
     -- the checkpoints
     (λ c. search needs)
     (λ c κs. search needs)
     (λ c κs.
     let n = checkpoints c .process-count .ensures in
     let ready = entry (checkpoints c) .pre in
-    let counts = c .counts2 .ensures in
-    (holds-lines (ready .given) n, (counts-known _ (ready .given .accepted) n counts, column-room ready n counts true (c .before .before .enum-told2 .given .1))))
+    let counts = counts-known _ (ready .given .accepted) n (c .counts2 .ensures) in
+    (holds-lines (ready .given) n, (counts, column-room ready n (c .counts2 .ensures) true (c .before .before .enum-told2 .given .1))))
     -- the positions
     (λ c. search needs)
     (λ c κs. search needs)

@@ -10,7 +10,7 @@ use Rattle.sheet_writer.proofs.writing.put_positions.Statement.{stateme
 use Rattle.sheet_writer.proofs.writing.put_positions.Tie as tie
 
 abbrev Inv-loop : tie.InvT-loop
-Inv-loop buffer₀ at scratch n sends receipts m lowest next₀ k₀ buffer next k = Placing scratch n sends receipts m lowest buffer₀ at buffer next k
+Inv-loop buffer₀ at scratch n sends receipts m lowest next₀ k₀ buffer next k = Placing n m scratch sends receipts lowest buffer₀ at buffer next k
 
 abbrev μ-loop : tie.MeasureT-loop
 μ-loop buffer₀ at scratch n sends receipts m lowest next₀ k₀ buffer next k = m - k

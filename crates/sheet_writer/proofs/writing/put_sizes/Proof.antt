@@ -15,12 +15,7 @@ first c = c .before .before .before .before
 pub put-sizes-spec : {M : Type 1} → statement M
 put-sizes-spec =
     tie.close
-    (tie.spec
-    (λ c. search needs)
-    (λ c κs. search needs)
-    (λ c. search needs)
-    (λ c κs. search needs)
-    (λ c. search needs)
+    (tie.spec (λ c. search needs) (λ c κs. search needs) (λ c. search needs) (λ c κs. search needs) (λ c. search needs)
     (λ c.
     let put = c .before .before in
     put-low (_ ∷ _ ∷ []) (put-then (first put .put-number .ensures) (put .put-number2 .ensures) (omega arith))))

@@ -29,7 +29,7 @@ use denote.RattleType.{owns}
 use denote.Laws.{Is, shows}
 use denote.Plain.{uint-makes, uint-lawful}
 use denote.Builtin.{u8, u16, usize}
-use denote.Ref.{RefT}
+use denote.Ref.{NamedLft}
 use denote.Slice.{sliceVal, MutSlice, ShrSlice, Room, slice-vals, shr-slice-lawful, shr-slice-tells}
 use denote.Steps.{only, owned, peeks, heard, nothing}
 use denote.Enum.Laws as EL
@@ -52,7 +52,7 @@ use Rattle.sheet_writer.specs.Writing.{Put}
 use Rattle.sheet_writer.specs.Writers.{standing}
 use Rattle.run_table.specs.Format.{decode}
 use Rattle.sheet_writer.proofs.Loans.{Waiting, lend-on, take-back}
-use Rattle.sheet_writer.proofs.Walking.{and-local, freed, lent, lent-goes, life, machine, part-typed, part-val, row}
+use Rattle.sheet_writer.proofs.Walking.{Slice, and-local, freed, lent, lent-goes, life, machine, part-typed, part-val, row}
 use Rattle.sheet_writer.proofs.writer.SheetWriter as T
 use Rattle.sheet_writer.proofs.writer.SheetWriter.Laws as T′
 use Rattle.sheet_writer.proofs.writing.Part as P
@@ -67,8 +67,11 @@ use Rattle.sheet_writer.proofs.writer.SheetWriter.put.Statement as stat
 use Rattle.sheet_writer.proofs.writer.SheetWriter.put.Code as code
 
 -- nothing is had of any parameter at exit
+abbrev named-by : Lfts 3 → NamedLft
+named-by κs = namedLft 3 0 tt κs
+
 abbrev self : Slot 3
-self = plain (λ κs. T.the-row (namedLft 3 0 tt κs))
+self = plain (λ κs. T.the-row (named-by κs))
 
 abbrev chosen : Slot 3
 chosen = plain (λ _. P.the-row)
@@ -79,11 +82,11 @@ stayed = (stay-dropped self no, (stay-dropped chosen yes, (stay-dropped (lent u8
 abbrev Store : {M : Type 1} (𝓤 : URA M) (H : Heap 𝓤) (A : Atoms 𝓤) (mem : Memory → SProp 𝓤) (run : Routine → Fun 𝓤) → Contract 𝓤
 Store 𝓤 H A mem run = tripleOf 𝓤 H A put-part.signature (put-part.spec 𝓤 H A mem run)
 
-module _ {M : Type 1} (𝓤 : URA M) (H : Heap 𝓤) (A : Atoms 𝓤) (W : Given 𝓤 H A) (mem : Memory → SProp 𝓤) (run : Routine → Fun 𝓤) (κ κ₁ κ₂ : Lft)
-    (q q₁ q₂ : Share) (p : ℕ × ℕ) (γ : GName) (xs : List ℕ) (n : ℕ) (part : Part) (table scratch : RefT (List ℕ)) (n-fits : n < 2 ^ 64)
-    (ready : CanPut part (table .now) (scratch .now) n xs) where
+module _ {M : Type 1} (𝓤 : URA M) (H : Heap 𝓤) (A : Atoms 𝓤) (W : Given 𝓤 H A) (mem : Memory → SProp 𝓤) (run : Routine → Fun 𝓤)
+    (κ κ₁ κ₂ : Lft) (q q₁ q₂ : Share) (p : ℕ × ℕ) (γ : GName) (xs : List ℕ) (n : ℕ) (part : Part) (table scratch : Slice)
+    (n-fits : n < 2 ^ 64) (ready : CanPut part (table .now) (scratch .now) n xs) where
   -- the buffer, as lent under a name and at some contents
-  abbrev loan : GName → List ℕ → RefT (List ℕ)
+  abbrev loan : GName → List ℕ → Slice
   loan δ ys = record { ptr = p; name = δ; now = ys }
 
   abbrev h : SheetWriter
@@ -95,12 +98,16 @@ module _ {M : Type 1} (𝓤 : URA M) (H : Heap 𝓤) (A : Atoms 𝓤) (W : Given
   abbrev m : ℕ → Val
   m = machine s
 
+  -- what the loan for a lifetime owns
+  abbrev Buffer : Lft → GName → List ℕ → Fml
+  Buffer α δ ys = MutSlice (named 0) α u8 .own (loan δ ys) (s ∷ [])
+
   -- what was put, at the contents ys and the next place r
   abbrev Done : List ℕ → ℕ → Type 0
   Done ys r = Put xs ys n (numbersOf part (decode (table .now))) r
 
   -- the parameters that go on to `put_part`: their values, their machine values, what they own, and the tokens of their lifetimes
-  abbrev others : Part × (RefT (List ℕ) × (RefT (List ℕ) × Unit {0}))
+  abbrev others : Part × (Slice × (Slice × Unit {0}))
   others = (part, (table, (scratch, tt)))
 
   abbrev other-vals : List Val × (List Val × (List Val × Unit {0}))
@@ -109,8 +116,8 @@ module _ {M : Type 1} (𝓤 : URA M) (H : Heap 𝓤) (A : Atoms 𝓤) (W : Given
   abbrev Others : Fml
   Others = owns (P.the-row ∷ ShrSlice (named 1) κ₁ u8 ∷ ShrSlice (named 2) κ₂ u16 ∷ []) others other-vals
 
-  abbrev tokens : Item 𝓤
-  tokens = ‵ (flft κ₁ q₁) ⊛ ‵ (flft κ₂ q₂) ⊛ ‵ ftrue
+  abbrev tokens : Lft → Share → Item 𝓤
+  tokens α u = ‵ (flft α u) ⊛ ‵ (flft κ₁ q₁) ⊛ ‵ (flft κ₂ q₂) ⊛ ‵ ftrue
 
   abbrev lfts : Lft → Lfts 3
   lfts α = (α, (κ₁, (κ₂, tt)))
@@ -127,14 +134,23 @@ module _ {M : Type 1} (𝓤 : URA M) (H : Heap 𝓤) (A : Atoms 𝓤) (W : Given
 
   -- the call of `put_part`, with the buffer lent on for ν under the name δ
   module _ (ν : ℕ) (δ : GName) where
-    abbrev passed : RefT (List ℕ) × (ℕ × (Part × (RefT (List ℕ) × (RefT (List ℕ) × Unit {0}))))
+    abbrev passed : Slice × (ℕ × (Part × (Slice × (Slice × Unit {0}))))
     passed = (loan δ xs, (n, others))
 
     abbrev to-store : Store 𝓤 H A mem run .Ghost
     to-store = ((lfts (ν ∷ []), shares fullShare, tt, passed, (s ∷ [], (vint w64 n ∷ [], other-vals))), tt)
 
     abbrev Handed : List (Item 𝓤)
-    Handed = (‵ (flft (ν ∷ []) fullShare) ⊛ tokens) ∷ ‵ (MutSlice (named 0) (ν ∷ []) u8 .own (loan δ xs) (s ∷ [])) ∷ ‵ Others ∷ []
+    Handed = tokens (ν ∷ []) fullShare ∷ ‵ (Buffer (ν ∷ []) δ xs) ∷ ‵ Others ∷ []
+
+    -- what it leaves, of the machine value w: its answer r; and the contents ys of the buffer, by what it ensures
+    abbrev Answered : Val → ℕ → Item 𝓤
+    Answered w r =
+        (tokens (ν ∷ []) fullShare ⊛ ‵ (usize .own r (w ∷ [])))
+        ⊛ raw (ensured 𝓤 H A put-part.ended (put-part.clauses 𝓤 H A mem run) (lfts (ν ∷ [])) passed tt r)
+
+    abbrev Ended : ℕ → List ℕ × (Unit {0} × (Unit {0} × (Unit {0} × (Unit {0} × Unit {0})))) → Item 𝓤
+    Ended r ys = ‵ (lasts put-part.ended (lfts (ν ∷ [])) passed ys) ⊛ raw (fact 𝓤 (Done (ys .0) r))
 
     goes : ent 𝓤 (⋆ 𝓤 H A Handed) (Store 𝓤 H A mem run .pre to-store)
     goes =
@@ -146,13 +162,13 @@ module _ {M : Type 1} (𝓤 : URA M) (H : Heap 𝓤) (A : Atoms 𝓤) (W : Given
   has r ys vss = fsep (MutSlice (named 0) κ u8 .own (loan γ ys) (vss .0)) (fsep (usize .own r (vss .1 .0)) ftrue)
 
   abbrev Left : List ℕ → List (Item 𝓤)
-  Left ys = (‵ (flft κ q) ⊛ tokens) ∷ ‵ (MutSlice (named 0) κ u8 .own (loan γ ys) (s ∷ [])) ∷ []
+  Left ys = tokens κ q ∷ ‵ (Buffer κ γ ys) ∷ []
 
   exits : (r : ℕ) (ys : List ℕ) → Done ys r → r < 2 ^ 64 → ent 𝓤 (⋆ 𝓤 H A (Left ys)) (Post (m r))
   exits r ys e r-fits =
       qed W (Left ys) ∵
-      suffices ! _ (ends-at 𝓤 H A put.ended stayed (put.clauses 𝓤 H A mem run) W ((lfts κ, shares q, tt, (h, others), (m n ∷ [], other-vals)), tt) (m r)
-      (standing (loan γ ys) r) ((tt, tt), (tt, (tt, (tt, tt)))) (tt, (tt, (tt, (tt, tt))))) $
+      suffices ! _ (ends-at 𝓤 H A put.ended stayed (put.clauses 𝓤 H A mem run) W ((lfts κ, shares q, tt, (h, others), (m n ∷ [], other-vals)), tt)
+      (m r) (standing (loan γ ys) r) ((tt, tt), (tt, (tt, (tt, tt)))) (tt, (tt, (tt, (tt, tt))))) $
       says ! (λ i. standing (loan γ (e .contents i)) (e .place i)) $ frame ! $
       nothing ! $ owned ! usize (Is usize) (uint-makes 𝓤 H A W w64) r _ (refl, r-fits) $ fjoin ! $ move ! (1 ∷ 0 ∷ []) $ fjoin ! $
       use1 W (‵ (row κ .own (standing (loan γ ys) r) (m r ∷ [])))
@@ -164,9 +180,9 @@ module _ {M : Type 1} (𝓤 : URA M) (H : Heap 𝓤) (A : Atoms 𝓤) (W : Given
         → Is (ShrSlice (named 2) κ₂ u16) scratch (slice-vals scratch) → Room u8 (length xs)
         → ent 𝓤 (onEntry 𝓤 H A put.signature (lfts κ) (shares q) (h, others) (m n ∷ [], other-vals)) (WpFn 𝓤 H C Λ code.function args Post)
     walk is part-is table-is scratch-is room =
-        qed W ((‵ (flft κ q) ⊛ tokens) ∷ ‵ (fsep (row κ .own h (m n ∷ [])) Others) ∷ []) ∵ enter ! C Λ code.function args _ $
-        alloc1 ! (λ l₀. alloc1 ! (λ l₁. alloc1 ! (λ l₂. alloc1 ! (λ l₃. alloc1 ! (λ l₄. alloc1 ! (λ l₅. alloc1 ! (λ l₆. alloc1 ! (λ l₇. alloc1 ! (λ l₈.
-        alloc1 ! (λ l₉. alloc1 ! (λ l₁₀. alloc0 ! $ params1 ! $
+        qed W (tokens κ q ∷ ‵ (fsep (row κ .own h (m n ∷ [])) Others) ∷ []) ∵ enter ! C Λ code.function args _ $
+        alloc1 ! (λ l₀. alloc1 ! (λ l₁. alloc1 ! (λ l₂. alloc1 ! (λ l₃. alloc1 ! (λ l₄. alloc1 ! (λ l₅. alloc1 ! (λ l₆. alloc1 ! (λ l₇.
+        alloc1 ! (λ l₈. alloc1 ! (λ l₉. alloc1 ! (λ l₁₀. alloc0 ! $ params1 ! $
         pass1 ! (init ! 18 refl (LL.lawful (T.the-type (life κ)) (T′.the-laws (life κ)) 𝓤 H A W .typed h _ is .0)) $
         pass1 ! (init ! 16 refl (part-typed 𝓤 H A W part part-is)) $
         pass1 ! (init ! 14 refl (shr-slice-lawful 𝓤 H A W (named 1) κ₁ u8 .typed table _ table-is .0)) $
@@ -185,25 +201,22 @@ module _ {M : Type 1} (𝓤 : URA M) (H : Heap 𝓤) (A : Atoms 𝓤) (W : Given
         (own-open 𝓤 H A W (T.the-type (life κ)) (T′.the-laws (life κ)) (loan γ xs, (n, tt)) (m n)) $ learn ! (λ _. fsplit ! $
         -- 0: what the loan owns; 1: what the place owns; 2: what the other parameters own; then the locals; 25: the tokens. The buffer is lent on for ν
         move ! (25 ∷ []) $ split ! $ lft-new ! tt (λ ν. move ! (3 ∷ 1 ∷ []) $
-        use2 W (later (some (λ (δ : GName). ‵ (MutSlice (named 0) (ν ∷ []) u8 .own (loan δ xs) (s ∷ [])) ⊛ ‵ (Waiting u8 κ (ν ∷ []) q p γ xs δ))))
+        use2 W (later (some (λ (δ : GName). ‵ (Buffer (ν ∷ []) δ xs) ⊛ ‵ (Waiting u8 κ (ν ∷ []) q p γ xs δ))))
         (lend-on u8 κ (ν ∷ []) q p γ xs 𝓤 H A W (named 0)) $ await ! tt $ pick ! (λ δ. split ! $
         -- 0: the loan for ν; 1: what waits for its end; 2: ν's token; 3: the other tokens; 4: what the place owns; 5: what the other parameters own
         move ! (2 ∷ 3 ∷ []) $ join ! $ move ! (0 ∷ 1 ∷ 4 ∷ []) $ use3 W (raw (Store 𝓤 H A mem run .pre (to-store ν δ))) (goes ν δ) $
         calls-at ! fm (Store 𝓤 H A mem run) known (to-store ν δ)
         (and-local ! 7 refl (and-local ! 13 refl (and-local ! 19 refl (and-local ! 17 refl (and-local ! 15 refl (no-more !)))))) (λ w.
-        use1 W (later (some (λ (r : ℕ). ((‵ (flft (ν ∷ []) fullShare) ⊛ tokens) ⊛ ‵ (usize .own r (w ∷ [])))
-        ⊛ raw (ensured 𝓤 H A put-part.ended (put-part.clauses 𝓤 H A mem run) (lfts (ν ∷ [])) (passed ν δ) tt r)))) (id⊢ 𝓤 _) $ await ! tt $ pick ! (λ r.
+        use1 W (later (some (Answered ν δ w))) (id⊢ 𝓤 _) $ await ! tt $ pick ! (λ r.
         -- its answer r, and the contents that it left
-        split ! $ move ! (1 ∷ []) $
-        use1 W (some (λ (ys : List ℕ × (Unit {0} × (Unit {0} × (Unit {0} × (Unit {0} × Unit {0}))))).
-        ‵ (lasts put-part.ended (lfts (ν ∷ [])) (passed ν δ) ys) ⊛ raw (fact 𝓤 (Done (ys .0) r)))) (id⊢ 𝓤 _) $ pick ! (λ ys.
+        split ! $ move ! (1 ∷ []) $ use1 W (some (Ended ν δ r)) (id⊢ 𝓤 _) $ pick ! (λ ys.
         split ! $ move ! (1 ∷ []) $ heard ! (Done (ys .0) r) (λ e. fsplit ! $ fsplit ! $ move ! (1 ∷ []) $ feqL ! (λ l.
         move ! (2 ∷ []) $ split ! $ move ! (1 ∷ []) $ peeks ! usize (Is usize) (shows 𝓤 H A usize) r (w ∷ []) (λ r-is.
         land ! (from ! (stop !)) (init ! 14 refl (uint-lawful 𝓤 H A W w64 .typed r _ r-is .0)) $
         rewrite ! 14 (λ (u : Val). ‵ (fat fullShare (tyInt w64) l₆ 0 u)) (ap only (r-is .0)) refl $
         -- ν ends, and the buffer comes back
         move ! (1 ∷ []) $ split ! $ lft-end ! tt $ move ! (0 ∷ 5 ∷ 3 ∷ []) $
-        use3 W (later (‵ (MutSlice (named 0) κ u8 .own (loan γ (ys .0)) (s ∷ [])) ⊛ ‵ (flft κ q)))
+        use3 W (later (‵ (Buffer κ γ (ys .0)) ⊛ ‵ (flft κ q)))
         (take-back u8 κ (ν ∷ []) q p γ xs 𝓤 H A W (named 0) room δ (ys .0) l) $ await ! tt $ split ! $ move ! (1 ∷ 2 ∷ []) $ join ! $
         -- 0: the tokens; 1: what the loan owns; the locals stand 5 further on than at first
         assigns ! (addr ! (from ! (fld ! refl (fld ! refl (hop ! (look-in ! 23 (sub ! 0 refl (sub ! 0 refl (whole !)))) (stop !)))))) (from ! (stop !))
@@ -217,18 +230,18 @@ module _ {M : Type 1} (𝓤 : URA M) (H : Heap 𝓤) (A : Atoms 𝓤) (W : Given
         freed ! 13 refl refl $ freed ! 11 refl refl $ freed ! 9 refl refl $ freed ! 7 refl refl $ freed ! 5 refl refl $ free0 ! $
         keep ! (0 ∷ 1 ∷ []) $ by ! (exits r (ys .0) e (r-is .1))))))))))))))))))))))
 
-module _ {M : Type 1} (𝓤 : URA M) (H : Heap 𝓤) (A : Atoms 𝓤) (W : Given 𝓤 H A) (mem : Memory → SProp 𝓤) (run : Routine → Fun 𝓤) (𝓣 : Tables 𝓤 H)
-    (known : Triple 𝓤 (𝓣 .C #put-part) (Store 𝓤 H A mem run)) where
+module _ {M : Type 1} (𝓤 : URA M) (H : Heap 𝓤) (A : Atoms 𝓤) (W : Given 𝓤 H A) (mem : Memory → SProp 𝓤) (run : Routine → Fun 𝓤)
+    (𝓣 : Tables 𝓤 H) (known : Triple 𝓤 (𝓣 .C #put-part) (Store 𝓤 H A mem run)) where
   walks : Walks 𝓤 H A put.ended stayed (WpFn 𝓤 H (𝓣 .C) (𝓣 .Λ) code.function) (put.clauses 𝓤 H A mem run)
   walks =
       walked 𝓤 H A put.ended stayed (put.clauses 𝓤 H A mem run) (WpFn 𝓤 H (𝓣 .C) (𝓣 .Λ) code.function)
-      (λ κs. (LL.vals (T.the-type (namedLft 3 0 tt κs)) (T′.the-laws (namedLft 3 0 tt κs)), (EL.vals P.the-type P′.the-laws, (slice-vals, (slice-vals, tt)))))
+      (λ κs. (LL.vals (T.the-type (named-by κs)) (T′.the-laws (named-by κs)), (EL.vals P.the-type P′.the-laws, (slice-vals, (slice-vals, tt)))))
       (λ κs. (
-        LL.tells (T.the-type (namedLft 3 0 tt κs)) (T′.the-laws (namedLft 3 0 tt κs)),
+        LL.tells (T.the-type (named-by κs)) (T′.the-laws (named-by κs)),
         (EL.tells P.the-type P′.the-laws, (shr-slice-tells (named 1) (κs .1 .0) u8, (shr-slice-tells (named 2) (κs .1 .1 .0) u16, tt))),
       ))
       (λ κs qs bounds a g are. needs 𝓤 (CanPut (a .1 .0) (a .1 .1 .0 .now) (a .1 .1 .1 .0 .now) (a .0 .at) (a .0 .buffer .now)) _ (λ ready.
-      let fields = LL.owed (T.the-type (namedLft 3 0 tt κs)) (T′.the-laws (namedLft 3 0 tt κs)) (a .0) _ (are .0) in
+      let fields = LL.owed (T.the-type (named-by κs)) (T′.the-laws (named-by κs)) (a .0) _ (are .0) in
       walk 𝓤 H A W mem run (κs .0) (κs .1 .0) (κs .1 .1 .0) (qs .0) (qs .1 .0) (qs .1 .1 .0) (a .0 .buffer .ptr) (a .0 .buffer .name) (a .0 .buffer .now)
       (a .0 .at) (a .1 .0) (a .1 .1 .0) (a .1 .1 .1 .0) (fields .1 .0 .1) ready (𝓣 .C) (𝓣 .Λ) (fmOf 𝓤 H (W .laws) 𝓣) known
       (are .0) (are .1 .0) (are .1 .1 .0) (are .1 .1 .1 .0) (fields .0 .0 .1)))
