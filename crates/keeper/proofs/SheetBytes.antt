@@ -46,10 +46,10 @@ module _ (table : List ℕ) (accepted : tableRefusal table ≡ 0) (before after 
   ns = length ks ∷ length qs ∷ (ps ++ (ss ++ qs))
 
   sizes : (length ps ≡ length ks) × (length ss ≡ length ks)
-  sizes = (length-map ks (λ (k : Checkpoint). k .process), length-map ks (λ (k : Checkpoint). k .number))
+  sizes = (simp length-map, simp length-map)
 
   size : length ns ≡ 2 + length ks + length ks + length qs
-  size = omega (arith, sizes .0, sizes .1, length-append ps (ss ++ qs), length-append ss qs)
+  size = simp (length-append, length-map) (omega arith)
 
   -- a number of the sheet, where it fits
   read : (p v : ℕ) → p < length ns → getD ns p 0 ≡ v → v < 65536 → u16At after (2 * p) ≡ v

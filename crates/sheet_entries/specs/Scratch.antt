@@ -9,7 +9,7 @@ use Rattle.run_table.specs.Parts.{MessageThere}
 use Rattle.run_table.specs.Table.{mostProcesses}
 use Rattle.sheet_entries.specs.Kept.{lowestAt}
 
--- A scratch that begins with the lines of n processes.
+-- A scratch that begins with n lines of n numbers, n being a number of processes.
 pub record HoldsLines (n : ℕ) (scratch : List ℕ) : Type 0 where
   pub few : n ≤ mostProcesses
   pub room : n * n ≤ length scratch

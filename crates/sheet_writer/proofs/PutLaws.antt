@@ -140,11 +140,9 @@ module _ {checkpoints : Bool} {n : ℕ} {scratch counts before : List ℕ} {at :
       pub chaining-more : {later : List ℕ} {end : ℕ} → Put after later next (columnAt checkpoints i (keptOf n (linesIn scratch n) i count)) end
           → Chaining checkpoints n scratch counts before at later end (i + 1)
       unfolding countAt
-      chaining-more put = record {
-        holds = h .holds;
-        known = h .known;
-        putting = putting-more (h .putting) (rw read at put) (omega arith) (rows-more _ i) (rows-room _ i n l);
-      }
+      chaining-more put =
+          let putting = putting-more (h .putting) (rw read at put) (omega arith) (rows-more _ i) (rows-room _ i n l) in
+          record { holds = h .holds; known = h .known; putting = putting }
 
     pub chaining-all : n ≤ i → Put before after at (columnOf checkpoints n (linesIn scratch n) counts) next
     unfolding columnOf

@@ -8,8 +8,8 @@
 --     .. -found                                   what the code finds, from what it read
 -- Assumes nothing.
 use mathlib.Core.Bool.{Bool, cond, false, _&&_, _||_}
-use mathlib.Core.List.{List, _∷_, _++_, map, map-map}
-use mathlib.Core.Path.{_≡_, refl, sym, ap, ap₂, _∙_}
+use mathlib.Core.List.{List, map, map-map}
+use mathlib.Core.Path.{_≡_, sym, ap, ap₂, _∙_}
 use Prim.Native.Nat.{ℕ, _+_, _-_, _*_, _^_, _<_, _≤_}
 use native.Mathlib.Nat.{mul-le-mul, mul-suc}
 use native.Mathlib.Numerals.{add-one}
@@ -33,7 +33,7 @@ use Rattle.run_table.proofs.NumberLaws.{length-u16s}
 use Rattle.run_table.proofs.ReadLaws.{ReadMessages, count-is, message-good, message-is, messages-few, processes-few}
 use Rattle.run_table.specs.Arrays.{arrayOf}
 use Rattle.run_table.specs.Checks.{GoodMessage, tableRefusal}
-use Rattle.run_table.specs.Format.{countAt, countsPart, decode, messageAt, receiptsPart, sendsPart}
+use Rattle.run_table.specs.Format.{countAt, countsPart, decode}
 use Rattle.run_table.specs.Lists.{select, tabulate}
 use Rattle.run_table.specs.Numbers.{putAt}
 use Rattle.run_table.specs.Table.{Message, Table, countOf, messageCount, messageOf, mostMessages, mostProcesses, processCount}
@@ -62,26 +62,15 @@ module _ (t : Table) where
   unfolding putAt
   lines-stand before after room e = ap (take (N * N)) e ∙ take-at (holderLines t) (drop (0 + length (holderLines t)) before) (N * N) lines-length
 
-  holder-line : (k set : ℕ) → set ≡ 2 ^ k → lineOf t (member set) ≡ holderLine t k
+  -- as the line of a set of one
+  holder-line : (k : ℕ) → lineOf t (member (2 ^ k)) ≡ holderLine t k
   unfolding lineOf ceilingOf single holderLine
-  holder-line k set e =
-      ap (lineUnder (t .messages))
-      (tabulate-ext N _ _ (λ p _. ap (λ (b : Bool). cond b (countOf t p - 1) (countOf t p)) (ap (λ (x : ℕ). member x p) e ∙ member-one k p)))
+  holder-line k =
+      ap (lineUnder (t .messages)) (tabulate-ext N _ _ (λ p _. ap (λ (b : Bool). cond b (countOf t p - 1) (countOf t p)) (member-one k p)))
 
   pub sheet-length : length (sheet t) ≡ 4 + 4 * length (keptCheckpoints t) + 2 * length (keptMessages t)
   unfolding sheet
-  sheet-length =
-      let ks = keptCheckpoints t in
-      let ps = map (λ (k : Checkpoint). k .process) ks in
-      let ss = map (λ (k : Checkpoint). k .number) ks in
-      omega (
-        arith,
-        length-u16s (length ks ∷ length (keptMessages t) ∷ (ps ++ (ss ++ keptMessages t))),
-        length-append ps (ss ++ keptMessages t),
-        length-append ss (keptMessages t),
-        length-map ks (λ (k : Checkpoint). k .process),
-        length-map ks (λ (k : Checkpoint). k .number),
-      )
+  sheet-length = simp (length-u16s, length-append, length-map) (omega arith)
 
   -- what lines say is kept that are those of single holders
   module _ (line : ℕ → Line) (are : (k i : ℕ) → k < N → i < N → line k i ≡ asLine (holderLine t k) i) where
@@ -127,7 +116,7 @@ module _ {bytes before : List ℕ} {n : ℕ} {propagates : List Bool} where
     few = omega (arith, n-is, processes-few bytes accepted);
     marks = marks;
     behind = omega arith;
-    written = written-none _ _ _ _ before (rw n-is (omega arith));
+    written = written-none n _ n 0 before (rw n-is (omega arith));
   }
 
   module _ {after : List ℕ} {at k : ℕ} (h : Lining bytes before n propagates after at k) where
@@ -136,14 +125,14 @@ module _ {bytes before : List ℕ} {n : ℕ} {propagates : List Bool} where
 
     pub lining-all : n ≤ k → after ≡ putAt before 0 (holderLines (decode bytes))
     unfolding holderLines
-    lining-all l = rw (h .n-is) at (written-all _ _ _ _ before each after k (h .written) l)
+    lining-all l = rw (h .n-is) at (written-all n _ n 0 before each after k (h .written) l)
 
     module _ (l : k < n) where
       pub lining-mark : getD propagates k false ≡ propagatesFrom (decode bytes) k
       lining-mark = ap (λ (marks : List Bool). getD marks k false) (h .marks) ∙ getD-tabulate 32 _ k _ (omega (arith, h .few))
 
       pub lining-room : at + n ≤ length after
-      lining-room = omega (arith, h .behind, written-room _ _ _ _ before each after k (h .written) l)
+      lining-room = omega (arith, h .behind, written-room n _ n 0 before each after k (h .written) l)
 
       -- the line of holder k, of which the first n numbers are stored
       module _ {line : List ℕ} (found : line ≡ arrayOf (lineOf (decode bytes) (member (2 ^ k)))) where
@@ -157,13 +146,12 @@ module _ {bytes before : List ℕ} {n : ℕ} {propagates : List Bool} where
           few = h .few;
           marks = h .marks;
           behind = omega (arith, h .behind, mul-suc n k, ap (λ (j : ℕ). n * j) (add-one k));
-          written = written-more _ _ _ _ before each after k (h .written) l at _ (omega (arith, h .behind)) (put ∙ ap (putAt after at) front);
+          written = written-more n _ n 0 before each after k (h .written) l at _ (omega (arith, h .behind)) (put ∙ ap (putAt after at) front);
         }
           where
             front : take n line ≡ holderLine (decode bytes) k
             front =
-                ap (λ (x : ℕ). take x line) (h .n-is) ∙ set-front bytes (h .accepted) (2 ^ k) line found
-                ∙ holder-line (decode bytes) k (2 ^ k) refl
+                ap (λ (x : ℕ). take x line) (h .n-is) ∙ set-front bytes (h .accepted) (2 ^ k) line found ∙ holder-line (decode bytes) k
 
 -- ---- what the code finds in a scratch that has the lines of an accepted table
 module _ {bytes s : List ℕ} (given : LinesOf bytes s) where

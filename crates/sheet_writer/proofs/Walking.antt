@@ -1,7 +1,8 @@
 -- What the two walks by hand share.
 --     Slice                a slice of numbers, as a parameter has it
 --     life, row, machine   the sheet's writer: its lifetime, its type at that lifetime, and its machine value
---     part-val, part-typed a part's machine value, and that it is of the enum's MIR type
+--     part-val, IsPart     a part's machine value, and that it is a part's
+--     part-typed           that it is of the enum's MIR type
 --     lent, lent-goes      the slot of a parameter that is a `&[R]`; nothing need be had of it at exit
 --     and-local            an operand that copies a whole local, which entry n of the context holds, before others
 --     freed                the first local that is left is freed: entry n of the context holds it, and the entry after it what frees it
@@ -48,7 +49,10 @@ machine s n = vstruct (vcons s (vcons (vint w64 n) vnil))
 abbrev pub part-val : Part → Val
 part-val = EL.val P.the-type P′.the-laws
 
-pub part-typed : {M : Type 1} (𝓤 : URA M) (H : Heap 𝓤) (A : Atoms 𝓤) → Given 𝓤 H A → (part : Part) → Is P.the-row part (part-val part ∷ [])
+abbrev pub IsPart : Part → Type 0
+IsPart part = Is P.the-row part (part-val part ∷ [])
+
+pub part-typed : {M : Type 1} (𝓤 : URA M) (H : Heap 𝓤) (A : Atoms 𝓤) → Given 𝓤 H A → (part : Part) → IsPart part
     → Holds (hasTy P′.mir (part-val part)) × WT (part-val part)
 part-typed 𝓤 H A W part is = EL.lawful P.the-type P′.the-laws 𝓤 H A W tt .typed part _ is .0
 

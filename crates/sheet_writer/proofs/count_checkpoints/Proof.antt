@@ -1,8 +1,6 @@
 -- `count_checkpoints` meets its contract, by the counts of the table.
 -- Assumes nothing.
 use borrow.Author.Needs.{needs}
-use mathlib.Core.Path.{ap, _∙_}
-use lib.ListN.{length}
 use Rattle.run_table.proofs.ReadLaws.{counts-known}
 use Rattle.sheet_writer.proofs.SheetReads.{checkpoints-found, holds-lines}
 use Rattle.sheet_writer.proofs.count_checkpoints.Statement.{statement}
@@ -25,4 +23,4 @@ count-checkpoints-spec =
     (holds-lines (entry sized .pre) n, counts-known _ (entry sized .pre .accepted) n (c .counts .ensures)))
     (λ c.
     let sized = c .before .before in
-    c .count-kept .ensures ∙ ap length (checkpoints-found (entry sized .pre) (sized .process-count .ensures) (c .before .counts .ensures))))
+    rw (checkpoints-found (entry sized .pre) (sized .process-count .ensures) (c .before .counts .ensures)) at (c .count-kept .ensures)))

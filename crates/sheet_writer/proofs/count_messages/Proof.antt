@@ -2,9 +2,7 @@
 -- Assumes nothing.
 use borrow.Author.Needs.{needs}
 use native.Mathlib.Omega.{arith}
-use mathlib.Core.Path.{ap, _∙_}
 use denote.Ref.{now}
-use lib.ListN.{length}
 use Rattle.run_table.proofs.ReadLaws.{ReadMessages, messages-known, messages-read}
 use Rattle.sheet_writer.proofs.SheetReads.{holds-lines, positions-found}
 use Rattle.sheet_writer.proofs.count_messages.Statement.{statement}
@@ -37,4 +35,4 @@ count-messages-spec =
     (holds-lines (entry (sized c) .pre) n, messages-known (messages c) (omega (arith, n))))
     (λ c.
     let read = c .before in
-    c .count-kept .ensures ∙ ap length (positions-found (entry (sized read) .pre) (sized read .process-count .ensures) (messages read))))
+    rw (positions-found (entry (sized read) .pre) (sized read .process-count .ensures) (messages read)) at (c .count-kept .ensures)))

@@ -50,7 +50,7 @@ use Rattle.sheet_writer.specs.SheetParts.{CanPut, CanPutSheet, numbersOf
 use Rattle.sheet_writer.specs.Writers.{written}
 use Rattle.sheet_writer.proofs.PartLaws.{begun, can-checkpoints, can-positions, can-processes, can-sizes, filled, numbered, processed, sized}
 use Rattle.sheet_writer.proofs.PartLaws.{same-size, sheet-put}
-use Rattle.sheet_writer.proofs.Walking.{Slice, and-local, freed, lent, lent-goes, life, machine, part-typed, part-val, row}
+use Rattle.sheet_writer.proofs.Walking.{IsPart, Slice, and-local, freed, lent, lent-goes, life, machine, part-typed, part-val, row}
 use Rattle.sheet_writer.proofs.writer.SheetWriter as T
 use Rattle.sheet_writer.proofs.writer.SheetWriter.Laws as T′
 use Rattle.sheet_writer.proofs.writing.Part as P
@@ -115,9 +115,8 @@ module _ {M : Type 1} (𝓤 : URA M) (H : Heap 𝓤) (A : Atoms 𝓤) (W : Given
       move ! (0 ∷ 2 ∷ []) $ fjoin ! $ move ! (2 ∷ 0 ∷ []) $ fjoin ! $
       move ! (1 ∷ []) $ nothing ! $ move ! (1 ∷ 0 ∷ []) $ fjoin ! $ move ! (2 ∷ 0 ∷ []) $ fjoin ! $ done !
 
-  -- a call of `put` as a step of the walk: the writer h, of the machine value w, puts a part
-  module _ (h : SheetWriter) (w : Val) (part : Part) (is : Is P.the-row part (part-val part ∷ []))
-      (can : CanPut part b (scratch .now) (h .at) (h .buffer .now)) where
+  -- ---- a call of `put` as a step of the walk: the writer h, of the machine value w, puts a part
+  module _ (h : SheetWriter) (w : Val) (part : Part) (is : IsPart part) (can : CanPut part b (scratch .now) (h .at) (h .buffer .now)) where
     abbrev κs : Lfts 3
     κs = (κ₂, (κ₀, (κ₁, tt)))
 
@@ -156,6 +155,7 @@ module _ {M : Type 1} (𝓤 : URA M) (H : Heap 𝓤) (A : Atoms 𝓤) (W : Given
         split t $ rewrite t 1 (λ (g : SheetWriter). writer g u) e refl $ move t (1 ∷ []) $
         peeks t (row κ₂) (Is (row κ₂)) (shows 𝓤 H A (row κ₂)) next (u ∷ []) (λ made. move t (1 ∷ 0 ∷ []) $ k u (stored κ₂ next u made)))))
 
+  -- ---- the parameters, the entry, the exit, and the walk between them
   module _ (k q : ℕ) (answer : Slice) (k-fits : k < 2 ^ 64) (q-fits : q < 2 ^ 64)
       (asked : CanPutSheet b (scratch .now) k q (answer .now)) where
     abbrev lfts : Lfts 3
@@ -219,10 +219,6 @@ module _ {M : Type 1} (𝓤 : URA M) (H : Heap 𝓤) (A : Atoms 𝓤) (W : Given
         rewrite ! 0 (λ (v : Val). ‵ (MutSlice (named 2) κ₂ u8 .own (last .buffer) (v ∷ []))) (ap (sliceVal (answer .ptr)) size-kept) refl $
         nothing ! $ move ! (1 ∷ 0 ∷ []) $ fjoin ! $ nothing ! $ fjoin ! $ nothing ! $ fjoin ! $ nothing ! $ fjoin ! $ nothing ! $ fjoin ! $
         feqI ! (List Val) (vunit ∷ []) (vunit ∷ []) refl $ keep ! (1 ∷ 0 ∷ []) $ done !)
-
-    -- the parts are of their machine values
-    abbrev IsPart : Part → Type 0
-    IsPart part = Is P.the-row part (part-val part ∷ [])
 
     sizes-is : IsPart (Sizes k q)
     sizes-is = EL.owes P.the-type P′.the-laws (Sizes k q) ((refl, k-fits), ((refl, q-fits), tt))

@@ -18,7 +18,7 @@ use Rattle.keeper.proofs.refusals.sheet_refusal.Tie as tie
 abbrev entry : tie.After-check → tie.Start
 entry c = c .before .before
 
--- ---- what is known there: the table is accepted; N, as it was read, is small, and its square is the scratch's
+-- ---- what is known there: the table is accepted; N, as it was read, is small
 accepted : (c : tie.Else1) → tableRefusal (now (entry (c .before) .args .table)) ≡ 0
 accepted c = sym (c .before .check .ensures) ∙ c .if1 .left
 

@@ -10,29 +10,29 @@ use Rattle.sheet_writer.proofs.SheetReads.{holds-lines}
 use Rattle.sheet_writer.proofs.writing.put_part.Statement.{statement}
 use Rattle.sheet_writer.proofs.writing.put_part.Tie as tie
 
--- ---- the places: the entry, from where N was read; that, from where K and Q are told, the counts read for each of two arrays, and the messages
+-- ---- the places: the entry, from where N was read; where N was read, from where a part was told (K and Q) or the table's parts were read for it
 abbrev entry : tie.After-process-count → tie.Start
 entry c = c .before .before .before .before
 
-abbrev sizes : tie.After-part → tie.After-process-count
-sizes c = c .before .before
+abbrev of-sizes : tie.After-part → tie.After-process-count
+of-sizes c = c .before .before
 
-abbrev processes : tie.After-counts → tie.After-process-count
-processes c = c .before .before .before .before
+abbrev of-processes : tie.After-counts → tie.After-process-count
+of-processes c = c .before .before .before .before
 
-abbrev checkpoints : tie.After-counts2 → tie.After-process-count
-checkpoints c = c .before .before .before .before
+abbrev of-checkpoints : tie.After-counts2 → tie.After-process-count
+of-checkpoints c = c .before .before .before .before
 
-abbrev positions : tie.After-sends → tie.After-process-count
-positions c = c .before .before .before .before
+abbrev of-positions : tie.After-sends → tie.After-process-count
+of-positions c = c .before .before .before .before
 
 -- ---- what is known there: the messages, as they were read
 messages : (c : tie.After-message-count)
-    → ReadMessages (now (entry (positions (c .before .before)) .args .table)) (c .message-count .result) (now (c .before .before .sends .result))
+    → ReadMessages (now (entry (of-positions (c .before .before)) .args .table)) (c .message-count .result) (now (c .before .before .sends .result))
     (now (c .before .receipts .result))
 messages c =
     let sends = c .before .before in
-    messages-read (entry (positions sends) .pre .given .accepted) (c .message-count .ensures) (sends .sends .ensures) (c .before .receipts .ensures)
+    messages-read (entry (of-positions sends) .pre .given .accepted) (c .message-count .ensures) (sends .sends .ensures) (c .before .receipts .ensures)
 
 -- ---- the needs, in the code's course
 pub put-part-spec : {M : Type 1} → statement M
@@ -44,21 +44,21 @@ put-part-spec =
     (λ c. search needs)
     (λ c κs.
     let told = c .before .before in
-    sizes-room (entry (sizes told) .pre) (told .part .given .1))
+    sizes-room (entry (of-sizes told) .pre) (told .part .given .1))
     -- the processes
     (λ c. search needs)
     (λ c κs. search needs)
     (λ c κs.
-    let n = processes c .process-count .ensures in
-    let ready = entry (processes c) .pre in
+    let n = of-processes c .process-count .ensures in
+    let ready = entry (of-processes c) .pre in
     let counts = counts-known _ (ready .given .accepted) n (c .counts .ensures) in
     (holds-lines (ready .given) n, (counts, column-room ready n (c .counts .ensures) false (c .before .before .enum-told .given .1))))
     -- the checkpoints
     (λ c. search needs)
     (λ c κs. search needs)
     (λ c κs.
-    let n = checkpoints c .process-count .ensures in
-    let ready = entry (checkpoints c) .pre in
+    let n = of-checkpoints c .process-count .ensures in
+    let ready = entry (of-checkpoints c) .pre in
     let counts = counts-known _ (ready .given .accepted) n (c .counts2 .ensures) in
     (holds-lines (ready .given) n, (counts, column-room ready n (c .counts2 .ensures) true (c .before .before .enum-told2 .given .1))))
     -- the positions
@@ -68,8 +68,8 @@ put-part-spec =
     (λ c κs. search needs)
     (λ c κs.
     let sends = c .before .before in
-    let n = positions sends .process-count .ensures in
-    let ready = entry (positions sends) .pre in
+    let n = of-positions sends .process-count .ensures in
+    let ready = entry (of-positions sends) .pre in
     let room = positions-room ready n (messages c) (sends .before .before .enum-told3 .given .1) in
     (holds-lines (ready .given) n, (messages-known (messages c) (omega (arith, n)), room)))
     -- what was put is the part
@@ -77,23 +77,23 @@ put-part-spec =
     (λ c.
     let put = c .before .before in
     let told = put .before .before .before in
-    sizes-put (entry (sizes told) .pre) (told .part .given .1) (put .put-sizes .ensures))
+    sizes-put (entry (of-sizes told) .pre) (told .part .given .1) (put .put-sizes .ensures))
     (λ c. search needs)
     (λ c.
     let put = c .before .before in
     let read = put .before in
-    let n = processes read .process-count .ensures in
-    column-put (entry (processes read) .pre) n (read .counts .ensures) false (read .before .before .enum-told .given .1) (put .put-column .ensures))
+    let n = of-processes read .process-count .ensures in
+    column-put (entry (of-processes read) .pre) n (read .counts .ensures) false (read .before .before .enum-told .given .1) (put .put-column .ensures))
     (λ c. search needs)
     (λ c.
     let put = c .before .before in
     let read = put .before in
-    let n = checkpoints read .process-count .ensures in
-    column-put (entry (checkpoints read) .pre) n (read .counts2 .ensures) true (read .before .before .enum-told2 .given .1) (put .put-column2 .ensures))
+    let n = of-checkpoints read .process-count .ensures in
+    column-put (entry (of-checkpoints read) .pre) n (read .counts2 .ensures) true (read .before .before .enum-told2 .given .1) (put .put-column2 .ensures))
     (λ c. search needs)
     (λ c.
     let put = c .before .before in
     let read = put .before in
     let sends = read .before .before in
-    positions-put (entry (positions sends) .pre) (positions sends .process-count .ensures) (messages read) (sends .before .before .enum-told3 .given .1)
+    positions-put (entry (of-positions sends) .pre) (of-positions sends .process-count .ensures) (messages read) (sends .before .before .enum-told3 .given .1)
     (put .put-positions .ensures)))

@@ -29,7 +29,6 @@ use denote.RattleType.{owns}
 use denote.Laws.{Is, shows}
 use denote.Plain.{uint-makes, uint-lawful}
 use denote.Builtin.{u8, u16, usize}
-use denote.Ref.{NamedLft}
 use denote.Slice.{sliceVal, MutSlice, ShrSlice, Room, slice-vals, shr-slice-lawful, shr-slice-tells}
 use denote.Steps.{only, owned, peeks, heard, nothing}
 use denote.Enum.Laws as EL
@@ -43,7 +42,7 @@ use denote.Triple.Clauses.{ensured, lasts}
 use denote.Triple.Table.{entered, cited}
 use denote.Triple.Walked.{says, needs, Stays, stay-dropped, walkOf, Goes, goes-dropped, Walks, ends-at, walked, walk-meets}
 use denote.Exit.{yes, no}
-use denote.Signature.{Slot, plain, namedLft}
+use denote.Signature.{Slot, plain}
 use denote.Signature.Struct.{makes}
 use Rattle.sheet_writer.specs.declared.writer.SheetWriter.{SheetWriter}
 use Rattle.sheet_writer.specs.declared.writing.Part.{Part}
@@ -52,7 +51,7 @@ use Rattle.sheet_writer.specs.Writing.{Put}
 use Rattle.sheet_writer.specs.Writers.{standing}
 use Rattle.run_table.specs.Format.{decode}
 use Rattle.sheet_writer.proofs.Loans.{Waiting, lend-on, take-back}
-use Rattle.sheet_writer.proofs.Walking.{Slice, and-local, freed, lent, lent-goes, life, machine, part-typed, part-val, row}
+use Rattle.sheet_writer.proofs.Walking.{IsPart, Slice, and-local, freed, lent, lent-goes, life, machine, part-typed, part-val, row}
 use Rattle.sheet_writer.proofs.writer.SheetWriter as T
 use Rattle.sheet_writer.proofs.writer.SheetWriter.Laws as T′
 use Rattle.sheet_writer.proofs.writing.Part as P
@@ -67,11 +66,8 @@ use Rattle.sheet_writer.proofs.writer.SheetWriter.put.Statement as stat
 use Rattle.sheet_writer.proofs.writer.SheetWriter.put.Code as code
 
 -- nothing is had of any parameter at exit
-abbrev named-by : Lfts 3 → NamedLft
-named-by κs = namedLft 3 0 tt κs
-
 abbrev self : Slot 3
-self = plain (λ κs. T.the-row (named-by κs))
+self = plain (λ κs. row (κs .0))
 
 abbrev chosen : Slot 3
 chosen = plain (λ _. P.the-row)
@@ -132,7 +128,7 @@ module _ {M : Type 1} (𝓤 : URA M) (H : Heap 𝓤) (A : Atoms 𝓤) (W : Given
   abbrev Post : Val → SProp 𝓤
   Post = walkOf 𝓤 H A put.ended stayed (put.clauses 𝓤 H A mem run) .post ((lfts κ, shares q, tt, (h, others), (m n ∷ [], other-vals)), tt)
 
-  -- the call of `put_part`, with the buffer lent on for ν under the name δ
+  -- ---- the call of `put_part`, with the buffer lent on for ν under the name δ
   module _ (ν : ℕ) (δ : GName) where
     abbrev passed : Slice × (ℕ × (Part × (Slice × (Slice × Unit {0}))))
     passed = (loan δ xs, (n, others))
@@ -157,7 +153,7 @@ module _ {M : Type 1} (𝓤 : URA M) (H : Heap 𝓤) (A : Atoms 𝓤) (W : Given
         qed W Handed ∵ says ! ready $ frame ! $
         move ! (1 ∷ []) $ owned ! usize (Is usize) (uint-makes 𝓤 H A W w64) n _ (refl, n-fits) $ fjoin ! $ move ! (1 ∷ 0 ∷ []) $ fjoin ! $ done !
 
-  -- what the fields of the result own
+  -- ---- the exit: what the fields of the result own, and what is left
   abbrev has : ℕ → List ℕ → List Val × (List Val × Unit {0}) → Fml
   has r ys vss = fsep (MutSlice (named 0) κ u8 .own (loan γ ys) (vss .0)) (fsep (usize .own r (vss .1 .0)) ftrue)
 
@@ -176,7 +172,7 @@ module _ {M : Type 1} (𝓤 : URA M) (H : Heap 𝓤) (A : Atoms 𝓤) (W : Given
       nothing ! $ nothing ! $ fjoin ! $ nothing ! $ fjoin ! $ nothing ! $ fjoin ! $ nothing ! $ fjoin ! $ done !
 
   module _ (C : Calls 𝓤 H) (Λ : Loops 𝓤 H) (fm : FmC 𝓤 H (W .laws) C) (known : Triple 𝓤 (C #put-part) (Store 𝓤 H A mem run)) where
-    walk : Is (row κ) h (m n ∷ []) → Is P.the-row part (part-val part ∷ []) → Is (ShrSlice (named 1) κ₁ u8) table (slice-vals table)
+    walk : Is (row κ) h (m n ∷ []) → IsPart part → Is (ShrSlice (named 1) κ₁ u8) table (slice-vals table)
         → Is (ShrSlice (named 2) κ₂ u16) scratch (slice-vals scratch) → Room u8 (length xs)
         → ent 𝓤 (onEntry 𝓤 H A put.signature (lfts κ) (shares q) (h, others) (m n ∷ [], other-vals)) (WpFn 𝓤 H C Λ code.function args Post)
     walk is part-is table-is scratch-is room =
@@ -235,13 +231,13 @@ module _ {M : Type 1} (𝓤 : URA M) (H : Heap 𝓤) (A : Atoms 𝓤) (W : Given
   walks : Walks 𝓤 H A put.ended stayed (WpFn 𝓤 H (𝓣 .C) (𝓣 .Λ) code.function) (put.clauses 𝓤 H A mem run)
   walks =
       walked 𝓤 H A put.ended stayed (put.clauses 𝓤 H A mem run) (WpFn 𝓤 H (𝓣 .C) (𝓣 .Λ) code.function)
-      (λ κs. (LL.vals (T.the-type (named-by κs)) (T′.the-laws (named-by κs)), (EL.vals P.the-type P′.the-laws, (slice-vals, (slice-vals, tt)))))
+      (λ κs. (LL.vals (T.the-type (life (κs .0))) (T′.the-laws (life (κs .0))), (EL.vals P.the-type P′.the-laws, (slice-vals, (slice-vals, tt)))))
       (λ κs. (
-        LL.tells (T.the-type (named-by κs)) (T′.the-laws (named-by κs)),
+        LL.tells (T.the-type (life (κs .0))) (T′.the-laws (life (κs .0))),
         (EL.tells P.the-type P′.the-laws, (shr-slice-tells (named 1) (κs .1 .0) u8, (shr-slice-tells (named 2) (κs .1 .1 .0) u16, tt))),
       ))
       (λ κs qs bounds a g are. needs 𝓤 (CanPut (a .1 .0) (a .1 .1 .0 .now) (a .1 .1 .1 .0 .now) (a .0 .at) (a .0 .buffer .now)) _ (λ ready.
-      let fields = LL.owed (T.the-type (named-by κs)) (T′.the-laws (named-by κs)) (a .0) _ (are .0) in
+      let fields = LL.owed (T.the-type (life (κs .0))) (T′.the-laws (life (κs .0))) (a .0) _ (are .0) in
       walk 𝓤 H A W mem run (κs .0) (κs .1 .0) (κs .1 .1 .0) (qs .0) (qs .1 .0) (qs .1 .1 .0) (a .0 .buffer .ptr) (a .0 .buffer .name) (a .0 .buffer .now)
       (a .0 .at) (a .1 .0) (a .1 .1 .0) (a .1 .1 .1 .0) (fields .1 .0 .1) ready (𝓣 .C) (𝓣 .Λ) (fmOf 𝓤 H (W .laws) 𝓣) known
       (are .0) (are .1 .0) (are .1 .1 .0) (are .1 .1 .1 .0) (fields .0 .0 .1)))
