@@ -82,7 +82,8 @@ markedCases =
     ∷ record {
       table = tableA;
       call = keepSheet;
-      expected = answered (3 ∷ 0 ∷ 2 ∷ 0 ∷ 0 ∷ 0 ∷ 1 ∷ 0 ∷ 1 ∷ 0 ∷ 1 ∷ 0 ∷ 1 ∷ 0 ∷ 2 ∷ 0 ∷ 0 ∷ 0 ∷ 4 ∷ 0 ∷ []);
+      expected = answered (3 ∷ 0 ∷ 2 ∷ 0 ∷ 0 ∷ 0 ∷ 1 ∷ 0 ∷ 1 ∷ 0 ∷ 1 ∷ 0
+          ∷ 1 ∷ 0 ∷ 2 ∷ 0 ∷ 0 ∷ 0 ∷ 4 ∷ 0 ∷ []);
     }
     -- A3: A after a fall back
     ∷ record {
@@ -101,7 +102,11 @@ markedCases =
     ∷ record { table = tableD; call = recoveryLine; expected = answered (u16s (0 ∷ 0 ∷ [])) }
     ∷ record { table = tableD; call = hold 1; expected = answered (u16s (0 ∷ 0 ∷ [])) }
     ∷ record { table = tableD; call = hold 2; expected = answered (u16s (2 ∷ 1 ∷ [])) }
-    ∷ record { table = tableD; call = keepSheet; expected = answered (u16s (3 ∷ 0 ∷ 0 ∷ 1 ∷ 1 ∷ 0 ∷ 0 ∷ 1 ∷ [])) }
+    ∷ record {
+      table = tableD;
+      call = keepSheet;
+      expected = answered (u16s (3 ∷ 0 ∷ 0 ∷ 1 ∷ 1 ∷ 0 ∷ 0 ∷ 1 ∷ []));
+    }
     -- E: 3 bytes; N = 33; M = 4,097
     ∷ record { table = 2 ∷ 0 ∷ 0 ∷ []; call = checkTable; expected = refused 1 }
     ∷ record { table = u16s (33 ∷ 0 ∷ []); call = checkTable; expected = refused 2 }

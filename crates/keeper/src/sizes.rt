@@ -25,7 +25,8 @@ pub fn line_size(table: &[u8]) -> usize
 // The table after a send, whichever it is: one message more.
 pub fn send_size(table: &[u8]) -> usize
     requires { ⌜ tableRefusal (now table) ≡ 0 ⌝ }
-    ensures { λ (r : ℕ). ⌜ ((from to : ℕ) → r ≡ length (encode (afterSend (decode (now (table .entry))) from to))) ⌝ }
+    ensures { λ (r : ℕ). ⌜ ((from to : ℕ)
+        → r ≡ length (encode (afterSend (decode (now (table .entry))) from to))) ⌝ }
 {
     table_length(process_count(table), message_count(table) + 1)
 }
@@ -52,8 +53,8 @@ pub fn rollback_size(table: &[u8], m: usize) -> usize
 pub fn sheet_size(kept: usize, logged: usize) -> usize
     requires { ⌜ kept < 65536 ⌝ }
     requires { ⌜ logged < 65536 ⌝ }
-    ensures { λ (r : ℕ). ⌜ ((t : Table) → kept ≡ length (keptCheckpoints t) → logged ≡ length (keptMessages t)
-        → r ≡ length (sheet t)) ⌝ }
+    ensures { λ (r : ℕ). ⌜ ((t : Table) → kept ≡ length (keptCheckpoints t)
+        → logged ≡ length (keptMessages t) → r ≡ length (sheet t)) ⌝ }
 {
     4 + 4 * kept + 2 * logged
 }

@@ -34,5 +34,7 @@ lineNumbers sheet number n = cond (not sheet || ltb mostProcesses n) 0 (cond (eq
 
 -- The answer of a test whether every byte in front of a place and from another one on is a guard.
 pub record Guarded (buffer : List ℕ) (from to : ℕ) (answer : Bool) : Type 0 where
-  pub kept : answer ≡ true → (i : ℕ) → (i < from) ⊎ (to ≤ i) → i < length buffer → getD buffer i 0 ≡ 165
-  pub changed : answer ≡ false → (i : ℕ) × ((i < from) ⊎ (to ≤ i)) × (i < length buffer) × (getD buffer i 0 ≡ 165 → ⊥)
+  pub kept : answer ≡ true → (i : ℕ) → (i < from) ⊎ (to ≤ i) → i < length buffer
+      → getD buffer i 0 ≡ 165
+  pub changed : answer ≡ false
+      → (i : ℕ) × ((i < from) ⊎ (to ≤ i)) × (i < length buffer) × (getD buffer i 0 ≡ 165 → ⊥)

@@ -34,4 +34,5 @@ pub record CanPutSheet (table scratch : List ℕ) (kept logged : ℕ) (buffer : 
   pub given : LinesOf table scratch
   pub kept-is : kept ≡ length (keptCheckpoints (decode table))
   pub logged-is : logged ≡ length (keptMessages (decode table))
-  pub room : 4 + 4 * length (keptCheckpoints (decode table)) + 2 * length (keptMessages (decode table)) ≤ length buffer
+  pub room : 4 + 4 * length (keptCheckpoints (decode table)) + 2 * length (keptMessages (decode table))
+      ≤ length buffer

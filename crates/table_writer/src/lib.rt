@@ -53,7 +53,8 @@ pub fn store_numbers(buffer: &mut [u16], at: usize, numbers: &[u16])
 // Puts the two numbers of an entry at a place that has room for them.
 pub fn put_entry(buffer: &mut [u8], at: usize, process: u16, checkpoint: u16)
     requires { ⌜ at + 4 ≤ length (now buffer) ⌝ }
-    ensures { λ _. ⌜ now (buffer .exit) ≡ putAt (now (buffer .entry)) at (u16s (process ∷ checkpoint ∷ [])) ⌝ }
+    ensures { λ _. ⌜ now (buffer .exit)
+        ≡ putAt (now (buffer .entry)) at (u16s (process ∷ checkpoint ∷ [])) ⌝ }
 {
     put_u16(buffer, at, process);
     put_u16(buffer, at + 2, checkpoint);

@@ -12,7 +12,8 @@ withNumber buffer at value = set (set buffer at (value % 256)) (at + 1) (value /
 -- The answer of a test whether every byte from one place to another has a value.
 pub record AllAre (buffer : List ℕ) (from to value : ℕ) (answer : Bool) : Type 0 where
   pub all : answer ≡ true → (i : ℕ) → from ≤ i → i < to → i < length buffer → getD buffer i 0 ≡ value
-  pub another : answer ≡ false → (i : ℕ) × (from ≤ i) × (i < to) × (i < length buffer) × (getD buffer i 0 ≡ value → ⊥)
+  pub another : answer ≡ false
+      → (i : ℕ) × (from ≤ i) × (i < to) × (i < length buffer) × (getD buffer i 0 ≡ value → ⊥)
 
 -- A checksum of the first n bytes.
 unfoldable pub checksumOf : List ℕ → ℕ → ℕ

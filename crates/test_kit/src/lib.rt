@@ -150,7 +150,8 @@ fn domino_place(m: u16, k: u16, backward: bool) -> u16
 
 // Fills a buffer with one byte.
 pub fn fill(buffer: &mut [u8], value: u8)
-    ensures { λ _. ⌜ Filled (λ _. value) (length (now (buffer .entry))) (now (buffer .entry)) (now (buffer .exit)) ⌝ }
+    ensures { λ _. ⌜ Filled (λ _. value) (length (now (buffer .entry)))
+        (now (buffer .entry)) (now (buffer .exit)) ⌝ }
 {
     let mut i = 0;
     while i < buffer.len() {
