@@ -19,7 +19,8 @@ sized c = c .before .before .before
 messages : (c : tie.After-receipts)
     → ReadMessages (now (entry (sized c) .args .table)) (c .before .before .message-count .result) (now (c .before .sends .result))
     (now (c .receipts .result))
-messages c = messages-read (entry (sized c) .pre .accepted) (c .before .before .message-count .ensures) (c .before .sends .ensures) (c .receipts .ensures)
+messages c =
+    messages-read (entry (sized c) .pre .accepted) (c .before .before .message-count .ensures) (c .before .sends .ensures) (c .receipts .ensures)
 
 -- ---- the needs, in the code's course
 pub count-messages-spec : {M : Type 1} → statement M
