@@ -35,18 +35,18 @@ crosses-line-spec =
     (λ c. omega arith)
     (λ c.
     let read = c .before in
-    received-before (turn read .before .loop .inv) (turn read .loop-test .taken) (read .number-in-line .ensures) (c .if1 .taken))
+    received-before (turn read .before .loop .inv) (turn read .loop-test .taken) (read .number-in-line .ensures) (omega arith))
     -- sent after it
     (λ c κs. omega arith)
     (λ c. omega arith)
     (λ c.
     let sent = c .before in
     let read = received sent in
-    sent-after (turn read .before .loop .inv) (turn read .loop-test .taken) (read .number-in-line .ensures) (sent .number-in-line2 .ensures) (c .if2 .taken))
+    sent-after (turn read .before .loop .inv) (turn read .loop-test .taken) (read .number-in-line .ensures) (sent .number-in-line2 .ensures) (omega arith))
     -- the message crosses it
     (λ c.
     let sent = c .before in
     let read = received sent in
-    crossed (turn read .before .loop .inv) (turn read .loop-test .taken) (read .number-in-line .ensures) (sent .number-in-line2 .ensures) (c .if2 .left)
-    (sent .before .if1 .left))
+    crossed (turn read .before .loop .inv) (turn read .loop-test .taken) (read .number-in-line .ensures) (sent .number-in-line2 .ensures) (omega arith)
+    (omega arith))
     (λ c. uncrossed-all (c .before .loop .inv) (c .loop-test .left)))

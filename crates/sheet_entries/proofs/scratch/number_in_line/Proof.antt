@@ -7,8 +7,12 @@ use mathlib.Core.Path.{refl}
 use Rattle.sheet_entries.proofs.scratch.number_in_line.Statement.{statement}
 use Rattle.sheet_entries.proofs.scratch.number_in_line.Tie as tie
 
-pub number-in-line-spec : {M : Type 1} → statement M
+-- the place is that of line k at process i
+returns : tie.Need-returns
 unfolding linesIn
+returns c = refl
+
+pub number-in-line-spec : {M : Type 1} → statement M
 number-in-line-spec =
     tie.close
     (tie.spec
@@ -16,4 +20,4 @@ number-in-line-spec =
     (λ c. omega (arith, cell-below (c .pre .1 .0) (c .pre .1 .1)))
     (λ c. omega (arith, cell-below (c .pre .1 .0) (c .pre .1 .1)))
     (λ c. omega (arith, cell-below (c .before .pre .1 .0) (c .before .pre .1 .1)))
-    (λ c. refl))
+    returns)
