@@ -1,7 +1,7 @@
 -- The refusals of the calls on a table: the table's checks, and behind them the call's own.
 --     table-caught, own-caught    the call's refusal, where the table is refused and where it is accepted
 --     table-accepted              where no check of the call catches, none of the table's does
---     NoRefusal, no-refusal       no check of the call catches, by the refusal that was found
+--     QuietCall, quiet-call       no check of the call before 16 catches, by the refusal that was found
 --     quiet-by                    then the check of any number is quiet
 --     first-of, second-of, neither    a check of two tests
 --     read-le, read-lt, le-read, lt-read    a test of a number, by what was read
@@ -27,22 +27,22 @@ module _ (table : List ℕ) (own : List Check) where
   unfolding tableRefusal
   own-caught accepted e = sym (append-passed (tableChecks table) own (table-refusals table) accepted ∙ e)
 
-  pub table-accepted : firstCaught (onTable table own) ≡ 0 → tableRefusal table ≡ 0
+  table-accepted : firstCaught (onTable table own) ≡ 0 → tableRefusal table ≡ 0
   unfolding tableRefusal
   table-accepted quiet = quiet-front (tableChecks table) own quiet
 
--- No check of a call on a table catches, but for 16, which is not among these.
-pub record NoRefusal (table : List ℕ) (checks : List Check) : Type 0 where
+-- None of these checks of a call on a table catches, all but 16, so that the table is accepted.
+pub record QuietCall (table : List ℕ) (checks : List Check) : Type 0 where
   pub accepted : tableRefusal table ≡ 0
   pub quiet : Quiet checks
 
-pub no-refusal : (table : List ℕ) (own : List Check) → areRefusals own ≡ true → {r : ℕ} → r ≡ firstCaught (onTable table own) → r ≡ 0
-    → NoRefusal table (onTable table own)
+pub quiet-call : (table : List ℕ) (own : List Check) → areRefusals own ≡ true → {r : ℕ} → r ≡ firstCaught (onTable table own) → r ≡ 0
+    → QuietCall table (onTable table own)
 unfolding tableChecks areRefusals
-no-refusal table own refusals e none =
-    record { accepted = table-accepted table own (sym e ∙ none); quiet = record { refusals = refusals; quiet = sym e ∙ none } }
+quiet-call table own refusals e zero =
+    record { accepted = table-accepted table own (sym e ∙ zero); quiet = record { refusals = refusals; quiet = sym e ∙ zero } }
 
-pub quiet-by : {table : List ℕ} {checks : List Check} → NoRefusal table checks → (n : ℕ) → caughtBy n checks ≡ false
+pub quiet-by : {table : List ℕ} {checks : List Check} → QuietCall table checks → (n : ℕ) → caughtBy n checks ≡ false
 quiet-by {checks = checks} q = quiet-number checks (q .quiet .refusals) (q .quiet .quiet)
 
 module _ (a b : Bool) where

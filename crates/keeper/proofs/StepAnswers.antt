@@ -17,7 +17,7 @@ use Rattle.futures.proofs.StepLaws.{quiet-send, rollback-limits, rollback-proce
 use Rattle.futures.proofs.StepLaws.{step-taken, step-well-formed}
 use Rattle.futures.specs.Steps.{Step, afterCheckpoint, afterRollback, afterSend, checkpoint, checkpointChecks, rollback, send, sendChecks, step}
 use Rattle.keeper.proofs.AnswerLaws.{put-in-front}
-use Rattle.keeper.proofs.RefusalLaws.{NoRefusal, quiet-by}
+use Rattle.keeper.proofs.RefusalLaws.{QuietCall, quiet-by}
 use Rattle.keeper.specs.Calls.{HoldsTable, checkpointCallChecks, sendCallChecks}
 use Rattle.run_table.proofs.AcceptLaws.{accepted-encode, facts, reread}
 use Rattle.run_table.proofs.CheckLaws.{caughtBy, passed, quiet-none}
@@ -57,7 +57,7 @@ pub record Taken (table : List ℕ) (s : Step) (after : Table) : Type 0 where
 
 -- a send and a checkpoint of which no check catches
 module _ {table : List ℕ} where
-  module _ (j i : ℕ) (q : NoRefusal table (sendCallChecks table j i)) where
+  module _ (j i : ℕ) (q : QuietCall table (sendCallChecks table j i)) where
     send-quiet : firstCaught (sendChecks (decode table) j i) ≡ 0
     unfolding sendCallChecks sendChecks tableChecks caughtBy
     send-quiet = passed _ _ 0 (quiet-by q 10) (passed _ _ 0 (quiet-by q 11) quiet-none)
@@ -73,7 +73,7 @@ module _ {table : List ℕ} where
       limits = send-limits (decode table) j i (facts table (q .accepted) .limits) (leb-false mostMessages _ (quiet-by q 14));
     }
 
-  module _ (i : ℕ) (list : List ℕ) (q : NoRefusal table (checkpointCallChecks table i list)) where
+  module _ (i : ℕ) (list : List ℕ) (q : QuietCall table (checkpointCallChecks table i list)) where
     checkpoint-quiet : firstCaught (checkpointChecks (decode table) i list) ≡ 0
     unfolding checkpointCallChecks checkpointChecks tableChecks caughtBy
     checkpoint-quiet = passed _ _ 0 (quiet-by q 10) (passed _ _ 0 (quiet-by q 13) quiet-none)

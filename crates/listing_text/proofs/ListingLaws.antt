@@ -72,14 +72,14 @@ module _ (table scratch bytes : List ℕ) (long : 1024 ≤ length scratch) (room
   lines-room : tableRefusal table ≡ 0 → processCount t * processCount t ≤ length scratch
   lines-room accepted = omega (arith, long, mul-le-mul (processes-few table accepted) (processes-few table accepted))
 
-  quiet-call : tableRefusal table ≡ 0 → Quiet (keepSheetChecks table (length scratch))
-  quiet-call accepted = long-scratch table (length scratch) accepted (lines-room accepted)
+  quiet-sheet : tableRefusal table ≡ 0 → Quiet (keepSheetChecks table (length scratch))
+  quiet-sheet accepted = long-scratch table (length scratch) accepted (lines-room accepted)
 
   answered-by : (accepted : tableRefusal table ≡ 0) (written : ℕ)
       → Yields (keepSheetAnswer table (length scratch) (length bytes)) 0 bytes (putAt bytes 0 (sheet t)) written (length (sheet t))
   unfolding keepSheetAnswer
   answered-by accepted written =
-      answered (keepSheetChecks table (length scratch)) (sheet t) (length bytes) (quiet-call accepted) refl
+      answered (keepSheetChecks table (length scratch)) (sheet t) (length bytes) (quiet-sheet accepted) refl
       (omega (arith, room, sheet-length t, kept-few table accepted .0, kept-few table accepted .1)) refl
 
   module _ (r : ℕ) (after scratch′ : List ℕ) (written written′ : ℕ)
@@ -102,7 +102,7 @@ module _ (table scratch bytes : List ℕ) (long : 1024 ≤ length scratch) (room
     sheet-answered accepted = record {
       lines-are =
           lines-stand t scratch scratch′ (lines-room accepted)
-          (filled ∙ sym (scratch-filled table scratch (quiet-call accepted) (putAt scratch 0 (holderLines t)) refl));
+          (filled ∙ sym (scratch-filled table scratch (quiet-sheet accepted) (putAt scratch 0 (holderLines t)) refl));
       sheet-is =
           ap (take (length (sheet t))) (y .buffer-is ∙ sym (answered-by accepted written .buffer-is) ∙ put-in-front bytes (sheet t))
           ∙ take-append-seam (sheet t) (drop (length (sheet t)) bytes);

@@ -58,7 +58,7 @@ module _ (l : List ℕ) where
       go false e = e
 
 -- The messages that remain of the first k.
-abbrev pub soFar : Table → ℕ → List Message
+abbrev soFar : Table → ℕ → List Message
 soFar t k = remaining (recoveryLine t) (take k (t .messages))
 
 module _ (t : Table) (k : ℕ) where
@@ -125,13 +125,13 @@ module _ {table line : List ℕ} (here : AtLine table line) where
       unfolding stays
       stays-read = ap₂ ltb (sent-is read l read-y) (line-at j ∙ ap (asLine (recoveryLine t)) (sender-is read l read-j))
 
-      pub found-staying : y < getD line j 0 → stays (recoveryLine t) (messageOf t k) ≡ true
+      found-staying : y < getD line j 0 → stays (recoveryLine t) (messageOf t k) ≡ true
       found-staying b = sym stays-read ∙ lt-ltb y (getD line j 0) b
 
-      pub found-going : getD line j 0 ≤ y → stays (recoveryLine t) (messageOf t k) ≡ false
+      found-going : getD line j 0 ≤ y → stays (recoveryLine t) (messageOf t k) ≡ false
       found-going b = sym stays-read ∙ le-ltb y (getD line j 0) b
 
-    pub received-left : {i r v : ℕ} → i ≡ u16At receipts (4 * k) → r ≡ u16At receipts (4 * k + 2) → v ≡ receiptLeft (getD line i 0) r
+    received-left : {i r v : ℕ} → i ≡ u16At receipts (4 * k) → r ≡ u16At receipts (4 * k + 2) → v ≡ receiptLeft (getD line i 0) r
         → v ≡ putBack (recoveryLine t) (messageOf t k) .received
     unfolding putBack receiptLeft
     received-left {i} read-i read-r is =

@@ -3,7 +3,7 @@
 --     decode-encode      a table whose numbers fit 16 bits (Fits16), written and read again
 --     encode-decode      bytes (AreBytes) whose length is right, read and written again
 --     entries-append, entries-tabulate, even-number, odd-number     the numbers of one array
---     counts-numbers, sends-numbers, receipts-numbers    the numbers of the parts are those of the decoded table
+--     sends-numbers, receipts-numbers    the numbers of the parts are those of the decoded table
 -- Assumes nothing.
 use mathlib.Core.List.{List, [], _∷_, _++_, append-nil}
 use mathlib.Core.Path.{_≡_, refl, sym, ap, _∙_, subst, subst⁻¹}
@@ -296,10 +296,6 @@ odd-number part k =
 
 -- the numbers of the parts, one after another, are those of the decoded table
 module _ (bytes : List ℕ) where
-  pub counts-numbers : decode bytes .counts ≡ tabulate (processesIn bytes) (λ p. u16At (countsPart bytes) (2 * p))
-  unfolding decode countAt
-  counts-numbers = refl
-
   pub sends-numbers : sendsOf (decode bytes .messages) ≡ tabulate (2 * messagesIn bytes) (λ i. u16At (sendsPart bytes) (2 * i))
   unfolding decode messageAt processAt checkpointAt
   sends-numbers =

@@ -1,7 +1,7 @@
 -- What the code knows of an accepted table.
 --     whole, long-enough, processes-few, messages-few    its length, N and M
 --     counts-size, sends-size, receipts-size   the lengths of its parts
---     count-is, counts-positive, counts-small  its counts, as the parts have them
+--     count-is                                 its counts, as the parts have them
 --     message-is, message-good, senders-known, receivers-known   its messages, as the parts have them
 --     sender-read .. received-read             the numbers of a message, as the code read them
 --     counts-known, counts-taken, sends-taken, receipts-taken    the parts, by the sizes that the code read
@@ -63,11 +63,8 @@ module _ (bytes : List ℕ) (accepted : tableRefusal bytes ≡ 0) where
     pub count-is : countAt (countsPart bytes) p ≡ countOf (decode bytes) p
     count-is = sym (decode-count bytes p (omega (arith, decode-processes bytes)))
 
-    pub counts-positive : 0 < countAt (countsPart bytes) p
+    counts-positive : 0 < countAt (countsPart bytes) p
     counts-positive = omega (arith, count-is, facts bytes accepted .well-formed .some-checkpoint p l)
-
-    pub counts-small : countAt (countsPart bytes) p ≤ mostCheckpoints
-    counts-small = omega (arith, count-is, facts bytes accepted .limits .counts-limit p l)
 
   module _ (k : ℕ) (l : k < M) where
     pub message-is : messageAt (sendsPart bytes) (receiptsPart bytes) k ≡ messageOf (decode bytes) k
@@ -83,24 +80,6 @@ module _ (bytes : List ℕ) (accepted : tableRefusal bytes ≡ 0) where
     pub receivers-known : processAt (receiptsPart bytes) k < N
     unfolding messageAt
     receivers-known = omega (arith, message-good .receiver-known, ap (λ (x : Message). x .receiver) message-is)
-
-    -- the number v that the code read of its entry in a part
-    module _ (part : List ℕ) (v : ℕ) where
-      pub sender-read : part ≡ sendsPart bytes → v ≡ u16At part (4 * k) → v ≡ messageOf (decode bytes) k .sender
-      unfolding messageAt processAt
-      sender-read is e = e ∙ ap (λ (s : List ℕ). u16At s (4 * k)) is ∙ ap (λ (x : Message). x .sender) message-is
-
-      pub sent-read : part ≡ sendsPart bytes → v ≡ u16At part (4 * k + 2) → v ≡ messageOf (decode bytes) k .sent
-      unfolding messageAt checkpointAt
-      sent-read is e = e ∙ ap (λ (s : List ℕ). u16At s (4 * k + 2)) is ∙ ap (λ (x : Message). x .sent) message-is
-
-      pub receiver-read : part ≡ receiptsPart bytes → v ≡ u16At part (4 * k) → v ≡ messageOf (decode bytes) k .receiver
-      unfolding messageAt processAt
-      receiver-read is e = e ∙ ap (λ (s : List ℕ). u16At s (4 * k)) is ∙ ap (λ (x : Message). x .receiver) message-is
-
-      pub received-read : part ≡ receiptsPart bytes → v ≡ u16At part (4 * k + 2) → v ≡ messageOf (decode bytes) k .received
-      unfolding messageAt checkpointAt
-      received-read is e = e ∙ ap (λ (s : List ℕ). u16At s (4 * k + 2)) is ∙ ap (λ (x : Message). x .received) message-is
 
 -- ---- the parts, by the sizes that the code read
 module _ (bytes : List ℕ) (accepted : tableRefusal bytes ≡ 0) {n : ℕ} (n-is : n ≡ processCount (decode bytes)) where
@@ -206,23 +185,30 @@ module _ {bytes : List ℕ} {m : ℕ} {sends receipts : List ℕ} (read : ReadMe
     pub good : GoodMessage t (messageOf t k)
     good = message-good bytes (read .accepted) k there
 
+    is : messageAt (sendsPart bytes) (receiptsPart bytes) k ≡ messageOf t k
+    is = message-is bytes (read .accepted) k there
+
     -- by the numbers that were read of its entries
     module _ {j : ℕ} (e : j ≡ u16At sends (4 * k)) where
       pub sender-is : j ≡ messageOf t k .sender
-      sender-is = sender-read bytes (read .accepted) k there sends j (read .sends-are) e
+      unfolding messageAt processAt
+      sender-is = e ∙ ap (λ (s : List ℕ). u16At s (4 * k)) (read .sends-are) ∙ ap (λ (x : Message). x .sender) is
 
       pub sender-small : j < mostProcesses
       sender-small = omega (arith, sender-is, good .sender-known, processes-few bytes (read .accepted))
 
     pub sent-is : {y : ℕ} → y ≡ u16At sends (4 * k + 2) → y ≡ messageOf t k .sent
-    sent-is e = sent-read bytes (read .accepted) k there sends _ (read .sends-are) e
+    unfolding messageAt checkpointAt
+    sent-is e = e ∙ ap (λ (s : List ℕ). u16At s (4 * k + 2)) (read .sends-are) ∙ ap (λ (x : Message). x .sent) is
 
     module _ {i : ℕ} (e : i ≡ u16At receipts (4 * k)) where
       pub receiver-is : i ≡ messageOf t k .receiver
-      receiver-is = receiver-read bytes (read .accepted) k there receipts i (read .receipts-are) e
+      unfolding messageAt processAt
+      receiver-is = e ∙ ap (λ (s : List ℕ). u16At s (4 * k)) (read .receipts-are) ∙ ap (λ (x : Message). x .receiver) is
 
       pub receiver-small : i < mostProcesses
       receiver-small = omega (arith, receiver-is, good .receiver-known, processes-few bytes (read .accepted))
 
     pub received-is : {r : ℕ} → r ≡ u16At receipts (4 * k + 2) → r ≡ messageOf t k .received
-    received-is e = received-read bytes (read .accepted) k there receipts _ (read .receipts-are) e
+    unfolding messageAt checkpointAt
+    received-is e = e ∙ ap (λ (s : List ℕ). u16At s (4 * k + 2)) (read .receipts-are) ∙ ap (λ (x : Message). x .received) is

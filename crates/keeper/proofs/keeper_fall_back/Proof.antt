@@ -2,13 +2,15 @@
 -- Assumes nothing.
 use borrow.Author.Needs.{needs}
 use native.Mathlib.Omega.{arith}
-use mathlib.Core.Path.{_≡_, sym, _∙_}
+use mathlib.Core.List.{[]}
+use mathlib.Core.Path.{refl}
 use denote.Ref.{now}
-use Rattle.keeper.proofs.AnswerLaws.{Quiet, answered, refused, sixteen, too-short}
+use Rattle.keeper.proofs.AnswerLaws.{answered, refused, sixteen, too-short}
+use Rattle.keeper.proofs.RefusalLaws.{QuietCall, quiet-call}
 use Rattle.keeper.proofs.StepAnswers.{rollback-bytes, rollback-taken, table-holds}
 use Rattle.keeper.specs.Calls.{rollbackAnswer}
 use Rattle.rollback.specs.Rollback.{AtLine}
-use Rattle.run_table.proofs.CheckLaws.{table-refusals}
+use Rattle.run_table.proofs.CheckLaws.{areRefusals}
 use Rattle.run_table.specs.Checks.{tableChecks, tableRefusal}
 use Rattle.run_table.specs.Format.{decode}
 use Rattle.keeper.proofs.keeper_fall_back.Statement.{statement}
@@ -27,16 +29,13 @@ lined c = c .before .before
 abbrev sized : tie.After-put-rollback → tie.After-rollback-size
 sized c = c .before .before .before
 
--- ---- what is known there: the table is accepted
-accepted : (c : tie.Else1) → tableRefusal (now (entry c .args .table)) ≡ 0
-accepted c = sym (c .before .check .ensures) ∙ c .if1 .left
-
-quiet : (c : tie.Else1) → Quiet (tableChecks (now (entry c .args .table)))
-unfolding tableRefusal
-quiet c = record { refusals = table-refusals _; quiet = accepted c }
+-- ---- what is known there: no check before 16 catches; the table is at its line
+quiet : (c : tie.Else1) → QuietCall (now (entry c .args .table)) (tableChecks (now (entry c .args .table)))
+unfolding tableRefusal tableChecks areRefusals
+quiet c = quiet-call _ [] refl (c .before .check .ensures) (c .if1 .left)
 
 at-line : (c : tie.After-recovery-line) → AtLine (now (entry (judged c) .args .table)) (c .recovery-line .result)
-at-line c = record { accepted = accepted (judged c); line-is = c .recovery-line .ensures }
+at-line c = record { accepted = quiet (judged c) .accepted; line-is = c .recovery-line .ensures }
 
 -- ---- the needs, in the code's course
 pub keeper-fall-back-spec : {M : Type 1} → statement M
@@ -48,11 +47,11 @@ keeper-fall-back-spec =
     -- a check before 16
     (λ c. (refused _ _ _ (c .before .check .ensures) (c .if1 .taken), λ e. absurd (c .if1 .taken e)))
     -- asked by `recovery_line`, `count_remaining` and `rollback_size`
-    (λ c κs. accepted c)
+    (λ c κs. quiet c .accepted)
     (λ c κs. at-line c)
-    (λ c κs. (accepted (judged (c .before)), c .count-remaining .ensures))
+    (λ c κs. (quiet (judged (c .before)) .accepted, c .count-remaining .ensures))
     -- 16
-    (λ c. (too-short _ _ _ (quiet (judged (lined (c .before)))) (c .before .rollback-size .ensures) (c .if2 .taken), sixteen))
+    (λ c. (too-short _ _ _ (quiet (judged (lined (c .before))) .quiet) (c .before .rollback-size .ensures) (c .if2 .taken), sixteen))
     -- asked by `put_rollback`
     (λ c κs.
     let size = c .before .before in
@@ -63,8 +62,8 @@ keeper-fall-back-spec =
     (λ c.
     let put = c .before .before in
     let size = sized put .rollback-size .ensures in
-    let here = judged (lined (sized put)) in
+    let here = quiet (judged (lined (sized put))) in
     let table = put .put-rollback .ensures in (
-      answered _ _ _ (quiet here) size (put .before .before .if2 .left) table,
-      λ _. table-holds (rollback-taken _ (accepted here)) _ table size,
+      answered _ _ _ (here .quiet) size (put .before .before .if2 .left) table,
+      λ _. table-holds (rollback-taken _ (here .accepted)) _ table size,
     )))

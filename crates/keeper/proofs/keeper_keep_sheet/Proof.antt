@@ -3,20 +3,19 @@
 use borrow.Author.Needs.{needs}
 use native.Mathlib.Omega.{arith}
 use mathlib.Core.List.{List}
-use mathlib.Core.Path.{_≡_, refl, sym, _∙_}
+use mathlib.Core.Path.{_≡_, refl}
 use Prim.Native.Nat.{ℕ}
 use denote.Ref.{now}
 use lib.ListN.{length}
 use Rattle.futures.specs.Sheet.{sheet}
-use Rattle.keeper.proofs.AnswerLaws.{Quiet, answered, refused, sixteen, too-short}
-use Rattle.keeper.proofs.RefusalLaws.{table-accepted}
+use Rattle.keeper.proofs.AnswerLaws.{answered, refused, sixteen, too-short}
+use Rattle.keeper.proofs.RefusalLaws.{QuietCall, quiet-call}
 use Rattle.keeper.proofs.SheetBytes.{sheet-holds}
 use Rattle.keeper.proofs.SheetAnswer.{scratch-filled, scratch-kept, scratch-long}
 use Rattle.keeper.specs.Calls.{keepSheetAnswer, keepSheetChecks}
 use Rattle.sheet_writer.proofs.SheetReads.{kept-few, lines-stand, sheet-length}
 use Rattle.sheet_writer.specs.SheetParts.{LinesOf}
 use Rattle.run_table.proofs.CheckLaws.{areRefusals}
-use Rattle.run_table.specs.Checks.{tableChecks, tableRefusal}
 use Rattle.run_table.specs.Format.{decode}
 use Rattle.keeper.proofs.keeper_keep_sheet.Statement.{statement}
 use Rattle.keeper.proofs.keeper_keep_sheet.Tie as tie
@@ -37,20 +36,18 @@ counted c = c .before .before
 abbrev sized : tie.After-put-sheet → tie.After-sheet-size
 sized c = c .before .before .before .before
 
--- ---- what is known there: the table is accepted; the scratch has the lines; the size is the answer's
+-- ---- what is known there: no check before 16 catches; the scratch has the lines; the size is the answer's
 abbrev table : tie.Else1 → List ℕ
 table c = now (entry c .args .table)
 
-quiet : (c : tie.Else1) → Quiet (keepSheetChecks (table c) (length (now (entry c .args .scratch))))
-unfolding keepSheetChecks tableChecks areRefusals
-quiet c = record { refusals = refl; quiet = sym (c .before .sheet-refusal .ensures) ∙ c .if1 .left }
-
-accepted : (c : tie.Else1) → tableRefusal (table c) ≡ 0
-unfolding keepSheetChecks
-accepted c = table-accepted _ _ (quiet c .quiet)
+quiet : (c : tie.Else1) → QuietCall (table c) (keepSheetChecks (table c) (length (now (entry c .args .scratch))))
+unfolding keepSheetChecks areRefusals
+quiet c = quiet-call _ _ refl (c .before .sheet-refusal .ensures) (c .if1 .left)
 
 lined : (c : tie.After-fill-lines) → LinesOf (table (judged c)) (c .fill-lines .last .1 .0)
-lined c = record { accepted = accepted (judged c); lines = lines-stand _ _ _ (scratch-long _ _ (quiet (judged c))) (c .fill-lines .ensures) }
+lined c =
+    let here = quiet (judged c) in
+    record { accepted = here .accepted; lines = lines-stand _ _ _ (scratch-long _ _ (here .quiet)) (c .fill-lines .ensures) }
 
 size : (c : tie.After-sheet-size) → c .sheet-size .result ≡ length (sheet (decode (table (judged (filled (counted (c .before)))))))
 size c = c .sheet-size .ensures _ (counted (c .before) .count-checkpoints .ensures) (c .before .count-messages .ensures)
@@ -67,17 +64,19 @@ keeper-keep-sheet-spec =
     let found = c .before .sheet-refusal .ensures in
     (refused _ _ _ found (c .if1 .taken), (scratch-kept _ _ found (c .if1 .taken), λ e. absurd (c .if1 .taken e))))
     -- asked by `fill_lines`, `count_checkpoints`, `count_messages` and `sheet_size`
-    (λ c κs. (accepted (c .before), scratch-long _ _ (quiet (c .before))))
+    (λ c κs.
+    let here = quiet (c .before) in
+    (here .accepted, scratch-long _ _ (here .quiet)))
     (λ c κs. lined (c .before .before .before))
     (λ c κs. lined (filled (c .before)))
     (λ c κs.
-    let few = kept-few _ (accepted (judged (filled (counted c)))) in
+    let few = kept-few _ (quiet (judged (filled (counted c))) .accepted) in
     (omega (arith, counted c .count-checkpoints .ensures, few .0), omega (arith, c .count-messages .ensures, few .1)))
     (λ c. search needs)
     -- 16
     (λ c.
     let full = filled (counted (c .before .before)) in
-    let q = quiet (judged full) in
+    let q = quiet (judged full) .quiet in
     (too-short _ _ _ q (size (c .before)) (c .if2 .taken), (scratch-filled _ _ q _ (full .fill-lines .ensures), sixteen)))
     -- asked by `put_sheet`
     (λ c κs.
@@ -95,8 +94,8 @@ keeper-keep-sheet-spec =
     (λ c.
     let put = c .before .before in
     let full = filled (counted (sized put .before)) in
-    let q = quiet (judged full) in
+    let here = quiet (judged full) in
     let sheet = put .put-sheet .ensures in (
-      answered _ _ _ q (size (sized put)) (put .before .before .before .if2 .left) sheet,
-      (scratch-filled _ _ q _ (full .fill-lines .ensures), λ _. sheet-holds _ (accepted (judged full)) _ _ sheet),
+      answered _ _ _ (here .quiet) (size (sized put)) (put .before .before .before .if2 .left) sheet,
+      (scratch-filled _ _ (here .quiet) _ (full .fill-lines .ensures), λ _. sheet-holds _ (here .accepted) _ _ sheet),
     )))

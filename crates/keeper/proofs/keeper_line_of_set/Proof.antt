@@ -6,7 +6,7 @@ use denote.Ref.{now}
 use Rattle.consistency.proofs.CeilingLaws.{set-length}
 use Rattle.keeper.proofs.AnswerLaws.{answered, refused, sixteen, too-short}
 use Rattle.keeper.proofs.LineAnswers.{line-room, set-holds}
-use Rattle.keeper.proofs.RefusalLaws.{NoRefusal, no-refusal}
+use Rattle.keeper.proofs.RefusalLaws.{QuietCall, quiet-call}
 use Rattle.keeper.specs.Calls.{lineOfSetAnswer, lineOfSetChecks}
 use Rattle.run_table.proofs.CheckLaws.{areRefusals}
 use Rattle.keeper.proofs.keeper_line_of_set.Statement.{statement}
@@ -23,9 +23,9 @@ abbrev sized : tie.After-put-line-of-set → tie.After-line-size
 sized c = c .before .before .before
 
 -- ---- what is known there: no check before 16 catches
-quiet : (c : tie.Else1) → NoRefusal (now (entry c .args .table)) (lineOfSetChecks (now (entry c .args .table)) (entry c .args .set))
+quiet : (c : tie.Else1) → QuietCall (now (entry c .args .table)) (lineOfSetChecks (now (entry c .args .table)) (entry c .args .set))
 unfolding lineOfSetChecks areRefusals
-quiet c = no-refusal _ _ refl (c .before .set-refusal .ensures) (c .if1 .left)
+quiet c = quiet-call _ _ refl (c .before .set-refusal .ensures) (c .if1 .left)
 
 -- ---- the needs, in the code's course
 pub keeper-line-of-set-spec : {M : Type 1} → statement M

@@ -8,7 +8,7 @@ use Rattle.consistency.proofs.CeilingLaws.{set-length}
 use Rattle.consistency.specs.Ceilings.{recoveryLine}
 use Rattle.keeper.proofs.AnswerLaws.{answered, refused, sixteen, too-short}
 use Rattle.keeper.proofs.LineAnswers.{line-room, recovery-put, set-holds}
-use Rattle.keeper.proofs.RefusalLaws.{NoRefusal, no-refusal}
+use Rattle.keeper.proofs.RefusalLaws.{QuietCall, quiet-call}
 use Rattle.keeper.specs.Calls.{recoveryLineAnswer}
 use Rattle.process_set.specs.Sets.{allProcesses}
 use Rattle.run_table.proofs.CheckLaws.{areRefusals}
@@ -27,9 +27,9 @@ abbrev sized : tie.After-put-line-of-set → tie.After-line-size
 sized c = c .before .before .before
 
 -- ---- what is known there: no check before 16 catches
-quiet : (c : tie.Else1) → NoRefusal (now (entry c .args .table)) (tableChecks (now (entry c .args .table)))
+quiet : (c : tie.Else1) → QuietCall (now (entry c .args .table)) (tableChecks (now (entry c .args .table)))
 unfolding tableRefusal tableChecks areRefusals
-quiet c = no-refusal _ [] refl (c .before .check .ensures) (c .if1 .left)
+quiet c = quiet-call _ [] refl (c .before .check .ensures) (c .if1 .left)
 
 -- ---- the needs, in the code's course
 pub keeper-recovery-line-spec : {M : Type 1} → statement M

@@ -5,7 +5,7 @@ use mathlib.Core.Path.{refl}
 use denote.Ref.{now}
 use Rattle.futures.specs.Steps.{checkpointChecks}
 use Rattle.keeper.proofs.AnswerLaws.{answered, refused, sixteen, too-short}
-use Rattle.keeper.proofs.RefusalLaws.{NoRefusal, no-refusal}
+use Rattle.keeper.proofs.RefusalLaws.{QuietCall, quiet-call}
 use Rattle.keeper.proofs.StepAnswers.{can-checkpoint, checkpoint-room, checkpoint-taken, table-holds}
 use Rattle.keeper.specs.Calls.{checkpointAnswer, checkpointCallChecks}
 use Rattle.run_table.proofs.CheckLaws.{areRefusals}
@@ -25,9 +25,9 @@ sized c = c .before .before .before
 -- ---- what is known there: no check before 16 catches
 quiet : (c : tie.Else1)
     → (let args = entry c .args in
-    NoRefusal (now (args .table)) (checkpointCallChecks (now (args .table)) (args .process) (now (args .list))))
+    QuietCall (now (args .table)) (checkpointCallChecks (now (args .table)) (args .process) (now (args .list))))
 unfolding checkpointCallChecks checkpointChecks areRefusals
-quiet c = no-refusal _ _ refl (c .before .checkpoint-refusal .ensures) (c .if1 .left)
+quiet c = quiet-call _ _ refl (c .before .checkpoint-refusal .ensures) (c .if1 .left)
 
 -- ---- the needs, in the code's course
 pub keeper-save-spec : {M : Type 1} → statement M

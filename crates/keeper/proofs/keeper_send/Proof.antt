@@ -5,7 +5,7 @@ use mathlib.Core.Path.{refl}
 use denote.Ref.{now}
 use Rattle.futures.specs.Steps.{sendChecks}
 use Rattle.keeper.proofs.AnswerLaws.{answered, refused, sixteen, too-short}
-use Rattle.keeper.proofs.RefusalLaws.{NoRefusal, no-refusal}
+use Rattle.keeper.proofs.RefusalLaws.{QuietCall, quiet-call}
 use Rattle.keeper.proofs.StepAnswers.{send-room, send-taken, sender-known, table-holds}
 use Rattle.keeper.specs.Calls.{sendAnswer, sendCallChecks}
 use Rattle.run_table.proofs.CheckLaws.{areRefusals}
@@ -25,9 +25,9 @@ sized c = c .before .before .before
 -- ---- what is known there: no check before 16 catches
 quiet : (c : tie.Else1)
     → (let args = entry c .args in
-    NoRefusal (now (args .table)) (sendCallChecks (now (args .table)) (args .from) (args .to)))
+    QuietCall (now (args .table)) (sendCallChecks (now (args .table)) (args .from) (args .to)))
 unfolding sendCallChecks sendChecks areRefusals
-quiet c = no-refusal _ _ refl (c .before .send-refusal .ensures) (c .if1 .left)
+quiet c = quiet-call _ _ refl (c .before .send-refusal .ensures) (c .if1 .left)
 
 -- ---- the needs, in the code's course
 pub keeper-send-spec : {M : Type 1} → statement M
