@@ -8,7 +8,7 @@
 use mathlib.Core.Bool.{Bool, true, false}
 use mathlib.Core.List.{List, [], _∷_, _++_, append-nil}
 use mathlib.Core.Path.{_≡_, refl, sym, ap, ap₂, _∙_, subst}
-use Prim.Native.Nat.{ℕ, zero, suc, _+_, _*_, _/_, _≤_, _<_}
+use Prim.Native.Nat.{ℕ, zero, suc, _+_, _*_, _≤_, _<_}
 use native.Mathlib.Nat.{mul-le-mul}
 use native.Mathlib.Omega.{arith}
 use lib.Dec.{ltb}
@@ -16,7 +16,6 @@ use lib.ListN.{length, take, drop, getD, length-append, length-drop, length-take
 use lib.Seq.{getD-drop, take-append-seam}
 use Rattle.consistency.proofs.CeilingLaws.{set-length}
 use Rattle.consistency.specs.Ceilings.{recoveryLine}
-use Rattle.consistency.specs.Lines.{asLine}
 use Rattle.futures.specs.Sheet.{Checkpoint, holderLine, holderLines, keptCheckpoints, keptMessages, sheet}
 use Rattle.keeper.proofs.AnswerLaws.{Quiet, answered, put-in-front, refused, too-short}
 use Rattle.keeper.proofs.RefusalLaws.{table-caught}
@@ -32,7 +31,7 @@ use Rattle.listing_text.specs.Listing.{shareRow}
 use Rattle.listing_text.specs.Rows.{Answered, checkpointAt, checkpointRows, holdRows, lineAt, messageRows}
 use Rattle.listing_text.specs.Text.{Laid, each, overlay}
 use Rattle.sheet_writer.proofs.SheetReads.{entry-is, holder-length, kept-few, lines-length, lines-stand, sheet-length}
-use Rattle.sheet_entries.specs.Scratch.{linesIn}
+use Rattle.sheet_entries.specs.Scratch.{HoldsLines, linesIn}
 use Rattle.run_table.proofs.AcceptLaws.{facts}
 use Rattle.run_table.proofs.ArrayLaws.{array-front, array-length}
 use Rattle.run_table.proofs.CheckLaws.{areRefusals, passed, quiet-none, stopped}
@@ -195,8 +194,11 @@ module _ {table : List ℕ} {n : ℕ} {line scratch bytes : List ℕ} {k q : ℕ
   pub line-taken : n ≡ length (take n line)
   line-taken = omega (arith, line-room, length-take n line)
 
-  pub holds-needs : (n ≤ 32) × (n * n ≤ length scratch)
-  holds-needs = (omega (arith, r .n-is, processes-few table (r .accepted)), rw (r .n-is) (lines-fit table (r .accepted) scratch bytes (r .answered)))
+  pub holds-lines : HoldsLines n scratch
+  holds-lines = rw (r .n-is) record {
+    few = processes-few table (r .accepted);
+    room = lines-fit table (r .accepted) scratch bytes (r .answered);
+  }
 
   pub kept-is : k ≡ length (keptCheckpoints t₃)
   kept-is = r .k-is ∙ kept-read table (r .accepted) scratch bytes (r .answered)

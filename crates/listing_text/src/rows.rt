@@ -9,7 +9,8 @@ ghost use Prim.Native.Nat.{_+_, _*_, _≤_, _<_};
 ghost use lib.ListN.{length};
 ghost use Rattle.listing_text.specs.Listing.{lineRow};
 ghost use Rattle.listing_text.specs.Rows.{checkpointRows, holdRows, messageRows};
-ghost use Rattle.listing_text.specs.Text.{Fits, Laid, each, row};
+ghost use Rattle.sheet_entries.specs.Scratch.{HoldsLines};
+ghost use Rattle.listing_text.specs.Text.{Fits, Laid, row};
 
 // Puts a row of one number.
 pub fn put_row(text: &mut [u8], at: usize, word: &[u8], n: u32) -> usize
@@ -45,8 +46,7 @@ fn put_long_row(text: &mut [u8], at: usize, word: &[u8], first: u32, rest: &[u16
 
 // Puts the rows of n processes that hold, from a scratch that begins with n lines of n numbers each.
 pub fn put_holds(text: &mut [u8], at: usize, scratch: &[u16], n: usize) -> usize
-    requires { ⌜ n ≤ 32 ⌝ }
-    requires { ⌜ n * n ≤ length (now scratch) ⌝ }
+    requires { ⌜ HoldsLines n (now scratch) ⌝ }
     requires { ⌜ Fits at (holdRows (now scratch) n) ⌝ }
     ensures { λ r. ⌜ Laid (now (text .entry)) (now (text .exit)) at (holdRows (now (scratch .entry)) n) r ⌝ }
 {

@@ -24,7 +24,7 @@ use Rattle.run_table.specs.Format.{processAt, processesIn, receiptsAt, r
 use Rattle.run_table.specs.Numbers.{u16At}
 use Rattle.run_table.specs.Parts.{Counts, MessageThere, Messages}
 use Rattle.run_table.specs.Table.{Message, Table, countOf, messageCount, messageOf, processCount}
-use Rattle.run_table.specs.Table.{mostCheckpoints, mostMessages, mostProcesses}
+use Rattle.run_table.specs.Table.{mostMessages, mostProcesses}
 
 module _ (bytes : List ℕ) (accepted : tableRefusal bytes ≡ 0) where
   abbrev N : ℕ

@@ -1,6 +1,6 @@
 -- `put_listing` meets its contract: each part is put where the one before it ends.
 -- Assumes nothing.
-use Rattle.listing_text.proofs.ListingLaws.{Reading, holds-needs, kept-is, line-room, line-taken, listing-left, sheet-long, sheet-needs}
+use Rattle.listing_text.proofs.ListingLaws.{Reading, holds-lines, kept-is, line-room, line-taken, listing-left, sheet-long, sheet-needs}
 use Rattle.listing_text.proofs.TextLaws.{none-left, part-laid, part-room}
 use Rattle.listing_text.specs.Listing.{shareRow}
 use denote.Ref.{now}
@@ -66,7 +66,7 @@ put-listing-spec =
     (λ c κs.
     let line = c .before .before .before in
     let here = reading (read line) in
-    (holds-needs here .0, (holds-needs here .1, part-room (part-laid (listing-left here refl) (line .put-line .ensures)))))
+    (holds-lines here, part-room (part-laid (listing-left here refl) (line .put-line .ensures))))
     -- the kept checkpoints
     (λ c κs.
     let holds = c .before .before .before in

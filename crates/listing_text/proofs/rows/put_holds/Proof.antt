@@ -1,11 +1,11 @@
 -- `rows::put_holds` meets its contract: the loop puts one row after another.
 -- Assumes nothing.
-use Prim.Native.Nat.{_-_, _*_, _≤_}
+use Prim.Native.Nat.{_-_}
 use Rattle.listing_text.proofs.RowLaws.{line-in, line-part}
 use Rattle.listing_text.proofs.TextLaws.{Laying, laying-all, laying-length, laying-more, laying-none, laying-room}
 use Rattle.listing_text.specs.Listing.{holdRow}
 use Rattle.listing_text.specs.Rows.{holdRows, lineAt}
-use lib.ListN.{length}
+use Rattle.sheet_entries.specs.Scratch.{HoldsLines}
 use borrow.Author.Needs.{needs}
 use mathlib.Core.Path.{ap, refl}
 use native.Mathlib.Omega.{arith}
@@ -14,7 +14,7 @@ use Rattle.listing_text.proofs.rows.put_holds.Tie as tie
 
 abbrev Inv-loop : tie.InvT-loop
 Inv-loop text₀ at scratch n next₀ k₀ t9 text next k =
-    (n ≤ 32) × (n * n ≤ length scratch) × Laying (λ k. holdRow k (lineAt scratch n k)) n (holdRows scratch n) text₀ at text next k
+    HoldsLines n scratch × Laying (λ k. holdRow k (lineAt scratch n k)) n (holdRows scratch n) text₀ at text next k
 
 abbrev μ-loop : tie.MeasureT-loop
 μ-loop text₀ at scratch n next₀ k₀ t9 text next k = n - k
@@ -33,7 +33,7 @@ put-holds-spec =
     μ-loop
     (λ c.
     let asked = c .before .before .pre in
-    (asked .0, asked .1 .0, laying-none refl (asked .1 .1)))
+    (asked .0, laying-none refl (asked .1)))
     -- line k of the scratch
     (λ c. omega (arith, line-in _ _ (c .loop-test .taken)))
     (λ c. omega (arith, line-in _ _ (c .loop-test .taken)))
@@ -45,12 +45,12 @@ put-holds-spec =
     (λ c. omega (arith, line-in _ _ (c .before .before .loop-test .taken)))
     (λ c κs.
     let turn = c .before .before .before in
-    laying-room (turn .before .loop .inv .2) (ap (holdRow _) (line-part _ _ _)) (turn .loop-test .taken))
+    laying-room (turn .before .loop .inv .1) (ap (holdRow _) (line-part _ _ _)) (turn .loop-test .taken))
     (λ c. omega arith)
     (λ c. omega arith)
     (λ c.
     let put = c .before .before in
     let inv = turn put .before .loop .inv in
-    (inv .0, inv .1, laying-more (inv .2) (ap (holdRow _) (line-part _ _ _)) (turn put .loop-test .taken) (put .put-long-row .ensures)))
-    (λ c. laying-length (c .before .loop .inv .2))
-    (λ c. laying-all (c .before .loop .inv .2) (c .loop-test .left)))
+    (inv .0, laying-more (inv .1) (ap (holdRow _) (line-part _ _ _)) (turn put .loop-test .taken) (put .put-long-row .ensures)))
+    (λ c. laying-length (c .before .loop .inv .1))
+    (λ c. laying-all (c .before .loop .inv .1) (c .loop-test .left)))
