@@ -81,7 +81,7 @@ module _ (table scratch bytes : List ℕ) (long : 1024 ≤ length scratch) (room
       answered (keepSheetChecks table (length scratch)) (sheet t) (length bytes) (quiet-sheet accepted) refl
       (omega (arith, room, sheet-length t, kept-few table accepted .0, kept-few table accepted .1)) refl
 
-  module _ (r : ℕ) (after scratch′ : List ℕ) (written written′ : ℕ)
+  module _ {r : ℕ} {after scratch′ : List ℕ} {written written′ : ℕ}
       (y : Yields (keepSheetAnswer table (length scratch) (length bytes)) r bytes after written written′)
       (filled : scratch′ ≡ scratchAfter table scratch) where
     refused-by : (k : ℕ) → tableRefusal table ≡ suc k
@@ -234,7 +234,7 @@ unfolding listingOf listingUnless
 accepted-text table accepted = rw accepted
 
 -- ---- the call's answer, once the text was measured by an empty buffer
-module _ (table buffer last : List ℕ) (size written : ℕ) (measured : Laid [] last 0 (listingOf table) size) where
+module _ (table buffer : List ℕ) {last : List ℕ} {size : ℕ} (measured : Laid [] last 0 (listingOf table) size) where
   unchanged : last ++ buffer ≡ buffer
   unfolding overlay
   unchanged = ap (λ (l : List ℕ). l ++ buffer) (measured .contents)
@@ -247,14 +247,15 @@ module _ (table buffer last : List ℕ) (size written : ℕ) (measured : Laid []
   unfolding areRefusals
   no-checks = record { refusals = refl; quiet = quiet-none }
 
-  pub listing-refused : length (last ++ buffer) < size → Yields (listingAnswer table (length buffer)) 16 buffer (last ++ buffer) written written
+  pub listing-refused : {written : ℕ} → length (last ++ buffer) < size → Yields (listingAnswer table (length buffer)) 16 buffer (last ++ buffer) written written
   unfolding listingAnswer
   listing-refused short = rw unchanged (too-short [] (listingOf table) (length buffer) no-checks refl (listing-longer short))
 
-  pub listing-answered : size ≤ length (last ++ buffer) → (after : List ℕ) (end : ℕ) → Laid (last ++ buffer) after 0 (listingOf table) end
+  pub listing-answered : {written : ℕ} → size ≤ length (last ++ buffer) → {after : List ℕ} {end : ℕ}
+      → Laid (last ++ buffer) after 0 (listingOf table) end
       → Yields (listingAnswer table (length buffer)) 0 buffer after written size
   unfolding listingAnswer
-  listing-answered enough after end laid =
+  listing-answered enough laid =
       let fits : size ≤ length buffer = omega (arith, enough, ap length unchanged) in
       let is : size ≡ length (listingOf table) = omega (arith, measured .place) in
       answered [] (listingOf table) (length buffer) no-checks is fits

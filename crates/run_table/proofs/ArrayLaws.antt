@@ -78,19 +78,19 @@ pub record Filling (f : ℕ → ℕ) (n p : ℕ) (l : List ℕ) : Type 0 where
   pub within : p ≤ n
   pub filled : Filled f p (replicate 32 0) l
 
-pub filling-none : (f : ℕ → ℕ) (n : ℕ) → Filling f n 0 (replicate 32 0)
-filling-none f n = record { within = zero-le; filled = filled-none }
+pub filling-none : {f : ℕ → ℕ} {n : ℕ} → Filling f n 0 (replicate 32 0)
+filling-none = record { within = zero-le; filled = filled-none }
 
-module _ (f : ℕ → ℕ) (n p : ℕ) (l : List ℕ) (h : Filling f n p l) where
-  pub filling-more : (v : ℕ) → p < n → v ≡ f p → Filling f n (p + 1) (set l p v)
-  filling-more v b e = record { within = omega arith; filled = filled-more (h .filled) e refl }
+module _ {f : ℕ → ℕ} {n p : ℕ} {l : List ℕ} (h : Filling f n p l) where
+  pub filling-more : {v : ℕ} → p < n → v ≡ f p → Filling f n (p + 1) (set l p v)
+  filling-more b e = record { within = omega arith; filled = filled-more (h .filled) e refl }
 
   pub filling-all : n ≤ p → ((q : ℕ) → n ≤ q → f q ≡ 0) → l ≡ tabulate 32 f
   filling-all b beyond =
       filled-list (h .filled) (λ q c inside. getD-replicate 32 q 0 0 inside ∙ sym (beyond q (omega (arith, h .within))))
 
 -- the array of a list, where the loop went over its entries
-pub filling-array : (list : List ℕ) (n p : ℕ) (l : List ℕ) → Filling (λ q. getD list q 0) n p l → n ≤ p → n ≡ length list
+pub filling-array : (list : List ℕ) {n p : ℕ} {l : List ℕ} → Filling (λ q. getD list q 0) n p l → n ≤ p → n ≡ length list
     → l ≡ arrayOf list
 unfolding arrayOf
-filling-array list n p l h b e = filling-all (λ q. getD list q 0) n p l h b (λ q c. List·getD-eq-default list 0 (omega arith))
+filling-array list h b e = filling-all h b (λ q c. List·getD-eq-default list 0 (omega arith))

@@ -113,7 +113,7 @@ pub record Lowering (n : ℕ) (scratch lowest : List ℕ) (i : ℕ) : Type 0 whe
 
 module _ {n : ℕ} {scratch : List ℕ} where
   pub lowering-none : HoldsLines n scratch → Lowering n scratch (replicate 32 0) 0
-  lowering-none holds = record { holds = holds; filling = filling-none _ n }
+  lowering-none holds = record { holds = holds; filling = filling-none }
 
   module _ {lowest : List ℕ} {i : ℕ} (h : Lowering n scratch lowest i) where
     pub lowering-more : i < n → {v : ℕ} → First (shows n (linesIn scratch n) i) 0 65535 v → Lowering n scratch (set lowest i v) (i + 1)
@@ -121,13 +121,13 @@ module _ {n : ℕ} {scratch : List ℕ} where
     lowering-more l {v} first = record {
       holds = h .holds;
       filling =
-          filling-more _ n i lowest (h .filling) v l
+          filling-more (h .filling) l
           (least-first (λ k. linesIn scratch n k i) n v first ∙ sym (getD-tabulate n (lowestAt n (linesIn scratch n)) i 0 l));
     }
 
     pub lowering-all : n ≤ i → lowest ≡ lowestLine n (linesIn scratch n)
     unfolding lowestLine
-    lowering-all l = filling-array _ n i lowest (h .filling) l (sym (length-tabulate n _))
+    lowering-all l = filling-array _ (h .filling) l (sym (length-tabulate n _))
 
 -- ---- the lines that a message crosses
 -- a message that is received at or before a line does not cross it

@@ -28,11 +28,11 @@ enough c = c .before .before .before .before
 
 -- ---- what is known there: that call was refused as the table is, and left its answers
 refusal-is : (c : tie.After-keeper-keep-sheet) → c .keeper-keep-sheet .result ≡ tableRefusal (now (entry c .args .table))
-refusal-is c = sheet-number _ _ _ (lit≤ tt) (lit≤ tt) _ _ _ _ _ (c .keeper-keep-sheet .ensures .0) (c .keeper-keep-sheet .ensures .1 .0)
+refusal-is c = sheet-number _ _ _ (lit≤ tt) (lit≤ tt) (c .keeper-keep-sheet .ensures .0) (c .keeper-keep-sheet .ensures .1 .0)
 
 answers : (c : tie.After-keeper-keep-sheet) → tableRefusal (now (entry c .args .table)) ≡ 0
     → Answered (decode (now (entry c .args .table))) (c .keeper-keep-sheet .last .1 .0) (c .keeper-keep-sheet .last .1 .1 .0)
-answers c = sheet-answered _ _ _ (lit≤ tt) (lit≤ tt) _ _ _ _ _ (c .keeper-keep-sheet .ensures .0) (c .keeper-keep-sheet .ensures .1 .0)
+answers c = sheet-answered _ _ _ (lit≤ tt) (lit≤ tt) (c .keeper-keep-sheet .ensures .0) (c .keeper-keep-sheet .ensures .1 .0)
 
 -- ---- the needs, in the code's course
 pub keeper-listing-spec : {M : Type 1} → statement M
@@ -56,8 +56,8 @@ keeper-listing-spec =
     let size = c .before .before .before in
     let here = sheet size in
     let few = text-few (now (entry here .args .table)) (omega (arith, refusal-is here)) in
-    let longer = listing-longer _ _ _ _ 0 (size .put-text .ensures) (c .if1 .taken) in
-    (listing-refused _ _ _ _ _ (size .put-text .ensures) (c .if1 .taken), λ room. absurd (omega (arith, room, longer, few))))
+    let longer = listing-longer _ _ (size .put-text .ensures) (c .if1 .taken) in
+    (listing-refused _ _ (size .put-text .ensures) (c .if1 .taken), λ room. absurd (omega (arith, room, longer, few))))
     -- the text is put
     (λ c. search needs)
     (λ c. search needs)
@@ -68,4 +68,4 @@ keeper-listing-spec =
     (λ c.
     let text = c .before .before in
     let size = measured (enough text) in
-    (listing-answered _ _ _ _ _ (size .put-text .ensures) (enough text .if1 .left) _ _ (text .put-text2 .ensures), λ room. refl)))
+    (listing-answered _ _ (size .put-text .ensures) (enough text .if1 .left) (text .put-text2 .ensures), λ room. refl)))

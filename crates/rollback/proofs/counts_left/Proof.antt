@@ -35,7 +35,7 @@ counts-left-spec =
     Inv-loop
     μ-loop
     (λ c κs. search needs)
-    (λ c. (omega (arith, processes-few _ (c .before .before .pre .accepted), c .process-count .ensures), filling-none _ _))
+    (λ c. (omega (arith, processes-few _ (c .before .before .pre .accepted), c .process-count .ensures), filling-none))
     (λ c. omega arith)
     (λ c. omega arith)
     (λ c. omega (arith, line-small (sized c .before .before .pre) {p = c .before .loop .p} (omega arith)))
@@ -46,7 +46,7 @@ counts-left-spec =
     (λ c.
     let at-loop = c .before in
     let line = sized c .before .before .pre in
-    (at-loop .loop .inv .0, filling-more _ _ _ _ (at-loop .loop .inv .1) _ (c .loop-test .taken) (count-left line (omega arith))))
+    (at-loop .loop .inv .0, filling-more (at-loop .loop .inv .1) (c .loop-test .taken) (count-left line (omega arith))))
     (λ c.
     let at-loop = c .before in
-    filling-array _ _ _ _ (at-loop .loop .inv .1) (c .loop-test .left) (at-loop .before .process-count .ensures ∙ sym (rollback-processes _))))
+    filling-array _ (at-loop .loop .inv .1) (c .loop-test .left) (at-loop .before .process-count .ensures ∙ sym (rollback-processes _))))

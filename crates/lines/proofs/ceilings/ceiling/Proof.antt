@@ -28,7 +28,7 @@ ceiling-spec =
     (tie.spec
     Inv-loop
     μ-loop
-    (λ c. (c .before .pre, filling-none _ _))
+    (λ c. (c .before .pre, filling-none))
     -- the count, and whether the process holds
     (λ c. omega arith)
     (λ c κs. omega arith)
@@ -43,5 +43,5 @@ ceiling-spec =
     let looked-up = c .before in
     let here = turn looked-up in
     let height = height-read _ (here .loop-test .taken) (looked-up .before .u16-at .ensures) _ (looked-up .is-member .ensures) (c .height .ensures) in
-    (here .before .loop .inv .0, filling-more _ _ _ _ (here .before .loop .inv .1) _ (here .loop-test .taken) height))
-    (λ c. filling-all _ _ _ _ (c .before .loop .inv .1) (c .loop-test .left) (height-beyond _ _ _)))
+    (here .before .loop .inv .0, filling-more (here .before .loop .inv .1) (here .loop-test .taken) height))
+    (λ c. filling-all (c .before .loop .inv .1) (c .loop-test .left) (height-beyond _ _ _)))

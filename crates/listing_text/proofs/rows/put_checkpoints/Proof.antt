@@ -48,14 +48,14 @@ put-checkpoints-spec =
     (λ c. search needs)
     (λ c κs.
     let this = c .before .before .before in
-    laying-room (turn this .before .loop .inv) (checkpoint-read _ _ _ _ _ (this .before .u16-at .ensures) (this .u16-at2 .ensures))
+    laying-room (turn this .before .loop .inv) (checkpoint-read _ _ _ (this .before .u16-at .ensures) (this .u16-at2 .ensures))
     (turn this .loop-test .taken))
     (λ c. omega arith)
     (λ c. omega arith)
     (λ c.
     let put = c .before .before in
     let this = read put in
-    laying-more (turn this .before .loop .inv) (checkpoint-read _ _ _ _ _ (this .before .u16-at .ensures) (this .u16-at2 .ensures))
+    laying-more (turn this .before .loop .inv) (checkpoint-read _ _ _ (this .before .u16-at .ensures) (this .u16-at2 .ensures))
     (turn this .loop-test .taken) (put .put-long-row .ensures))
     (λ c. laying-length (c .before .loop .inv))
     (λ c. laying-all (c .before .loop .inv) (c .loop-test .left)))

@@ -34,7 +34,7 @@ count-array-spec =
     μ-loop
     (λ c κs. search needs)
     (λ c κs. search needs)
-    (λ c. (counts-read (entry (c .before) .pre) (c .before .process-count .ensures) (c .counts .ensures), filling-none _ _))
+    (λ c. (counts-read (entry (c .before) .pre) (c .before .process-count .ensures) (c .counts .ensures), filling-none))
     (λ c. omega arith)
     (λ c κs. omega arith)
     (λ c. omega arith)
@@ -44,5 +44,5 @@ count-array-spec =
     (λ c.
     let taken = turn c .loop-test .taken in
     let (read, filling) = turn c .before .loop .inv in
-    (read, filling-more _ _ _ _ filling _ taken (count-read read taken (c .u16-at .ensures))))
-    (λ c. filling-array _ _ _ _ (c .before .loop .inv .1) (c .loop-test .left) (c .before .loop .inv .0 .n-is)))
+    (read, filling-more filling taken (count-read read taken (c .u16-at .ensures))))
+    (λ c. filling-array _ (c .before .loop .inv .1) (c .loop-test .left) (c .before .loop .inv .0 .n-is)))
