@@ -247,7 +247,8 @@ module _ (table buffer : List ℕ) {last : List ℕ} {size : ℕ} (measured : La
   unfolding areRefusals
   no-checks = record { refusals = refl; quiet = quiet-none }
 
-  pub listing-refused : {written : ℕ} → length (last ++ buffer) < size → Yields (listingAnswer table (length buffer)) 16 buffer (last ++ buffer) written written
+  pub listing-refused : {written : ℕ} → length (last ++ buffer) < size
+      → Yields (listingAnswer table (length buffer)) 16 buffer (last ++ buffer) written written
   unfolding listingAnswer
   listing-refused short = rw unchanged (too-short [] (listingOf table) (length buffer) no-checks refl (listing-longer short))
 

@@ -17,7 +17,8 @@ use Rattle.run_table.specs.Lists.{sum, tabulate}
 use Rattle.run_table.specs.Numbers.{u16At}
 use Rattle.run_table.specs.Table.{Table, countOf, processCount}
 
-pub checkpoint-read : (sheet : List ℕ) (k e : ℕ) {process number : ℕ} → process ≡ u16At sheet (4 + 2 * e) → number ≡ u16At sheet (4 + 2 * k + 2 * e)
+pub checkpoint-read : (sheet : List ℕ) (k e : ℕ) {process number : ℕ} → process ≡ u16At sheet (4 + 2 * e)
+    → number ≡ u16At sheet (4 + 2 * k + 2 * e)
     → checkpointRow (record { process = process; number = number }) ≡ checkpointRow (checkpointAt sheet k e)
 unfolding checkpointAt
 checkpoint-read sheet k e p s = ap₂ (λ (a b : ℕ). checkpointRow (record { process = a; number = b })) p s
