@@ -9,26 +9,46 @@
 # make tools    builds the command keeper, target/cargo/release/keeper
 # make bench    the archive's times beside plain C, Rust and work lists, written to docs/BENCHMARKS.md
 # make install  headers, archives, pkg-config files, programs and man pages: PREFIX=/usr/local, DESTDIR
+# make clean    takes away what was built: target/, and what cargo and python left elsewhere
 # make change-report BASE=commit  what changed since a commit, for the note of a change: RUNS=2, TIMES=no, CRATES="a b"
 SHELL := /bin/sh
 .DEFAULT_GOAL := help
-.PHONY: help list program test check format reference-tests corpus-tests
+.PHONY: help list table-there program test check format reference-tests corpus-tests
 .PHONY: archives c-tests install uninstall install-test tools tools-tests
 .PHONY: refusal-tests rust-lint binding-tests differential-tests differential-faults fuzz fuzz-tools fuzz-replay bench
-.PHONY: change-report report-tests
+.PHONY: change-report report-tests clean
 
 help:
 	@sed -n 's/^# \(make .*\)/\1/p' Makefile
 
+# The kit that the proofs were last checked with, as README.md names it. With another one this says so and goes
+# on: whether a proof holds is for the prover to say.
+KIT := $(shell sed -n 's/^- The Rattle kit, `\([^`]*\)`.*/\1/p' README.md)
+need-rt:
+	@command -v rt >/dev/null 2>&1 || { echo "rt is missing: README.md, \"What it needs\", says where it comes from" >&2; exit 1; }
+	@kit=$$(rt version 2>&1 | head -n 1); test "$$kit" = '$(KIT)' || \
+	    echo "the kit here is '$$kit', and the one that README.md names is '$(KIT)': what the prover refuses now may be for that" >&2
+	@machine=$$(uname -m); test "$$machine" = x86_64 || \
+	    echo "this is $$machine, and the programs and archives are made for x86-64: they link into no program of this machine" >&2
+
 need-%:
 	@command -v $* >/dev/null 2>&1 || { echo "$* is missing: README.md, \"What it needs\", says where it comes from" >&2; exit 1; }
 
+# The listing of a table. Its name goes through the environment, as it was given, so that it may have blanks, quotes
+# and dollar signs.
+TABLE = tests/corpus/example_a.table
+override TABLE := $(value TABLE)
+export TABLE
+list: table-there program
+	@target/bin/listing <"$$TABLE"
+
+table-there:
+	@test -e "$$TABLE" || { echo "$$TABLE: there is no such file" >&2; exit 1; }
+	@test ! -d "$$TABLE" || { echo "$$TABLE: this is a folder, and a table is a file" >&2; exit 1; }
+	@test -r "$$TABLE" || { echo "$$TABLE: it can't be read" >&2; exit 1; }
+
 # The listing program, proved before it is built: nothing is done again where nothing has changed. What
 # is proved is said on standard error as it goes.
-TABLE = tests/corpus/example_a.table
-list: program
-	@test -r '$(TABLE)' || { echo "$(TABLE): there is no such file, or it can't be read" >&2; exit 1; }
-	@target/bin/listing <'$(TABLE)'
 
 program: need-rt
 	@test -x target/bin/listing || echo "proving and building the listing program: some three minutes the first time" >&2
@@ -130,6 +150,7 @@ install-test: need-gcc archives program tools
 # The listing program over the corpus of tables, whose listings are the second implementation's.
 corpus-tests: program
 	@sh tests/corpus/run.sh target/bin/listing
+	@MAKE='$(MAKE)' sh tests/corpus/list.sh
 
 # The layout of all Rust code, and clippy with no warning let through. Each is left out, in a line, where it is not there.
 RUST_FOLDERS := $(patsubst %/Cargo.toml,%,$(sort $(shell find bench bindings fuzz tests tools -name target -prune -o -name Cargo.toml -print)))
@@ -213,3 +234,7 @@ report-tests: need-cargo
 # networkx, add columns where they are there.
 bench: need-gcc need-cargo archives
 	@sh bench/run.sh
+
+# All that is built stands in target/; the others are what cargo and python leave where they are run by hand.
+clean:
+	@rm -rf target $(addsuffix /target,$(RUST_FOLDERS)) bench/__pycache__
