@@ -1,19 +1,38 @@
-//! The keeper's calls in safe Rust, over the proved static library
-//! `libkeeper.a`. The feature `run_table` adds the table reader of
-//! `librun_table.a`, and `listing_text` the listing of `liblisting_text.a`.
+//! The keeper in safe Rust, over its proved static libraries: recovery lines,
+//! steps, keep sheets and listings of run tables.
 //!
-//! A run table is bytes; an answer is written to the front of a buffer that
-//! the caller lends, and a call answers `Ok` with the length written or `Err`
-//! with a [`Refusal`]. On a refusal nothing lent is changed, with one
-//! exception: under [`Refusal::AnswerTooShort`] the scratch of
-//! [`keep_sheet`] holds the lines. Bytes and numbers beyond an answer are
-//! never changed. No call allocates, keeps what it was lent, or panics.
+//! A [`Table`] owns a run and steps it in place; its [`Sheet`] says what must be
+//! kept:
+//!
+//! ```
+//! # #[cfg(feature = "run_table")]
+//! # fn main() -> Result<(), keeper::Refusal> {
+//! let mut table = keeper::Table::new(2)?; // two processes with checkpoint 0 each
+//! let position = table.send(0, 1)?;
+//! table.save(1, &[position])?; // process 1 receives the message and saves
+//! let sheet = table.keep_sheet();
+//! assert!(sheet.has_checkpoint(1, 0)); // the message was sent after the last checkpoint of 0
+//! # Ok(())
+//! # }
+//! # #[cfg(not(feature = "run_table"))]
+//! # fn main() {}
+//! ```
+//!
+//! # Slices
+//!
+//! Below it are the calls as the archive has them. A run table is bytes; an
+//! answer is written to the front of a buffer that the caller lends, and a call
+//! answers `Ok` with the length written or `Err` with a [`Refusal`]. On a
+//! refusal nothing lent is changed, with one exception: under
+//! [`Refusal::AnswerTooShort`] the scratch of [`keep_sheet`] holds the lines.
+//! Bytes and numbers beyond an answer are never changed. No call allocates,
+//! keeps what it was lent, or panics.
 //!
 //! What is lent to one call may not overlap. Rust's borrow rules see to that
 //! here, so no call is unsafe. [`mod@archive`] has the unsafe ones below them.
 //!
-//! The doc tests below use example A: two processes with three checkpoints
-//! each and five messages.
+//! The doc tests use example A: two processes with three checkpoints each and
+//! five messages.
 //!
 //! ```
 //! /// Numbers as a table has them: 16 bits, low byte first.
@@ -28,6 +47,25 @@
 //! ]);
 //! assert_eq!(keeper::check_table(&example_a), Ok(()));
 //! ```
+//!
+//! # Features
+//!
+//! Both are on unless `default-features = false` is asked for.
+//!
+//! | feature | links | adds |
+//! |---|---|---|
+//! | none | `libkeeper.a` | the calls on slices |
+//! | `run_table` | `librun_table.a` | the table reader, [`Table`] and [`Sheet`] |
+//! | `listing_text` | `liblisting_text.a` | the listing |
+//!
+//! # Where the archives are
+//!
+//! `KEEPER_LIB_DIR` in the environment of the build names the folder of the
+//! archives, such as `/usr/local/lib` after `make install`. A relative name
+//! counts from the folder of this package, not from where cargo was called.
+//! Where it is not set or empty, `target/staticlib` of the repository is taken,
+//! where `make archives` writes them. The build stops and says which archive is
+//! missing. The archives are for x86-64.
 
 pub mod archive;
 #[cfg(feature = "listing_text")]
@@ -35,10 +73,18 @@ mod listing_text;
 mod refusal;
 #[cfg(feature = "run_table")]
 pub mod run_table;
+#[cfg(feature = "run_table")]
+mod sheet;
+#[cfg(feature = "run_table")]
+mod table;
 
 #[cfg(feature = "listing_text")]
 pub use listing_text::{listing, LISTING_ROOM};
 pub use refusal::Refusal;
+#[cfg(feature = "run_table")]
+pub use sheet::{Checkpoint, Sheet, SheetError};
+#[cfg(feature = "run_table")]
+pub use table::{FellBack, Line, Message, Table};
 
 use refusal::outcome;
 
@@ -65,17 +111,6 @@ pub const SCRATCH_NUMBERS: usize = MOST_PROCESSES * MOST_PROCESSES;
 /// The bytes that are enough for every keep sheet, by the proof that at most
 /// N × N checkpoints are kept: 12,292.
 pub const SHEET_ROOM: usize = 4 + 4 * SCRATCH_NUMBERS + 2 * MOST_MESSAGES;
-
-/// No keep sheet is longer than this: 10,308 bytes, for 528 checkpoints and
-/// 4,096 messages.
-///
-/// Of the lines of two single holders p and q, one has the other's process at
-/// its new state or the two lines are the same, so each pair of processes adds
-/// at most one checkpoint to the N of the holders themselves: at most
-/// N × (N + 1) / 2 are kept. This is an argument on paper; what is proved is
-/// [`SHEET_ROOM`].
-pub const LARGEST_SHEET: usize =
-    4 + 4 * (MOST_PROCESSES * (MOST_PROCESSES + 1) / 2) + 2 * MOST_MESSAGES;
 
 // Each call below is sound for one reason: the archive's functions are proved
 // to read and write nothing but what they are lent, for slices of any length
@@ -327,6 +362,5 @@ mod tests {
         assert_eq!(LARGEST_TABLE, 32_836);
         assert_eq!(SCRATCH_NUMBERS, 1_024);
         assert_eq!(SHEET_ROOM, 12_292);
-        assert_eq!(LARGEST_SHEET, 10_308);
     }
 }

@@ -1,0 +1,428 @@
+//! A run table that is owned and stepped in place, over the calls of lib.rs and
+//! the lookups of run_table.rs.
+
+use std::fmt;
+use std::num::NonZeroU16;
+use std::ops::Deref;
+
+use crate::{run_table, Refusal, Sheet, LARGEST_LINE, MOST_PROCESSES};
+
+/// An accepted run table, owned: the run as it is now. With the feature
+/// `run_table`.
+///
+/// The answer of every method is the archive's; this layer only lends the
+/// buffers. A step that is refused leaves the table as it was. Two tables are
+/// equal where their bytes are.
+///
+/// ```
+/// use keeper::Table;
+/// let mut table = Table::new(2)?; // two processes with checkpoint 0 each
+/// let position = table.send(0, 1)?; // a message, at position 0
+/// table.save(1, &[position])?; // process 1 receives it and saves
+/// assert_eq!(*table.recovery_line(), [0, 0]); // it was sent after checkpoint 0 of process 0
+/// table.save(0, &[])?;
+/// assert_eq!(*table.recovery_line(), [1, 1]);
+/// let sheet = table.keep_sheet();
+/// assert!(sheet.has_checkpoint(1, 1) && !sheet.has_checkpoint(1, 0));
+/// # Ok::<(), keeper::Refusal>(())
+/// ```
+#[derive(Clone, PartialEq, Eq, Hash)]
+pub struct Table {
+    /// An accepted table: what `check_table` accepted, or the answer of a step.
+    bytes: Vec<u8>,
+}
+
+/// A message of a [`Table`].
+#[derive(Clone, Copy, Debug, PartialEq, Eq, Hash)]
+pub struct Message {
+    /// The process that sent it.
+    pub sender: u16,
+    /// The number of the sender's latest checkpoint before sending.
+    pub sent: u16,
+    /// The process that it is for.
+    pub receiver: u16,
+    /// The number of the receiver's first checkpoint after receiving; `None`:
+    /// it is waiting (undelivered).
+    pub received: Option<NonZeroU16>,
+}
+
+impl Message {
+    /// Whether it is waiting for its receiver. A message that was received since
+    /// the receiver's latest checkpoint is waiting still.
+    pub fn is_waiting(&self) -> bool {
+        self.received.is_none()
+    }
+}
+
+/// One number for each process, by process: that of one of its checkpoints, or
+/// its count, which stands for its virtual checkpoint. It is shown as its
+/// numbers with one blank between.
+///
+/// ```
+/// let line = keeper::Table::new(3)?.recovery_line();
+/// assert_eq!(line.len(), 3);
+/// assert_eq!(line[2], 0);
+/// assert_eq!(line.to_string(), "0 0 0");
+/// # Ok::<(), keeper::Refusal>(())
+/// ```
+#[derive(Clone, Debug, PartialEq, Eq, Hash)]
+pub struct Line(pub(crate) Vec<u16>);
+
+/// What [`Table::fall_back`] did: all that is needed to carry along what is
+/// stored for the run.
+#[derive(Clone, Debug, PartialEq, Eq, Hash)]
+pub struct FellBack {
+    /// The recovery line that the run fell back to. Of process p the checkpoints
+    /// up to number `line[p]` are there still; those above it are gone.
+    pub line: Line,
+    /// By the position that a message had before, its position now; `None` where
+    /// it was removed.
+    pub messages: Vec<Option<u16>>,
+}
+
+/// Why a call can't be refused: the table is accepted and the buffer is as long
+/// as the longest answer.
+const NEVER_REFUSED: &str = "no check catches: the table is accepted, and there is room";
+
+impl Table {
+    /// The table of a run that begins: `processes` processes with one checkpoint
+    /// each, and no messages. Refused by 2 where that is 0 or above 32.
+    ///
+    /// ```
+    /// use keeper::{Refusal, Table};
+    /// let table = Table::new(32)?;
+    /// assert!(table.counts().all(|count| count == 1));
+    /// assert_eq!(Table::new(0), Err(Refusal::ProcessesOutOfRange));
+    /// assert_eq!(Table::new(33), Err(Refusal::ProcessesOutOfRange));
+    /// # Ok::<(), Refusal>(())
+    /// ```
+    pub fn new(processes: usize) -> Result<Table, Refusal> {
+        // One above the limit stands for every number above it, so that no
+        // number is too large for the 16 bits of N.
+        let n = processes.min(MOST_PROCESSES + 1);
+        let mut numbers = vec![1; 2 + n];
+        numbers[..2].copy_from_slice(&[n as u16, 0]);
+        Table::from_bytes(
+            numbers
+                .into_iter()
+                .flat_map(u16::to_le_bytes)
+                .collect::<Vec<u8>>(),
+        )
+    }
+
+    /// A table by its bytes, or the first of the table's checks that catches.
+    ///
+    /// ```
+    /// use keeper::{Refusal, Table};
+    /// # let example_a: Vec<u8> = [2u16, 5, 3, 3, 0, 0, 1, 0, 1, 1, 0, 2, 1, 2, 1, 2, 0, 1, 0, 2, 1, 2, 0, 0]
+    /// #     .iter().flat_map(|number| number.to_le_bytes()).collect();
+    /// let table = Table::from_bytes(&example_a[..])?;
+    /// assert_eq!(table.counts().collect::<Vec<_>>(), [3, 3]);
+    /// assert_eq!(Table::from_bytes(&example_a[..47]), Err(Refusal::WrongLength));
+    /// # Ok::<(), Refusal>(())
+    /// ```
+    pub fn from_bytes(bytes: impl Into<Vec<u8>>) -> Result<Table, Refusal> {
+        let bytes = bytes.into();
+        crate::check_table(&bytes)?;
+        Ok(Table { bytes })
+    }
+
+    /// The bytes of the table: 4 + 2N + 8M.
+    pub fn as_bytes(&self) -> &[u8] {
+        &self.bytes
+    }
+
+    /// The bytes of the table, and the table is gone.
+    pub fn into_bytes(self) -> Vec<u8> {
+        self.bytes
+    }
+
+    /// N, the number of processes.
+    pub fn processes(&self) -> u16 {
+        run_table::processes(&self.bytes)
+    }
+
+    /// How many checkpoints the process has, numbered from 0; 0 where there is
+    /// no such process.
+    pub fn count(&self, process: u16) -> u16 {
+        run_table::count(&self.bytes, process.into())
+    }
+
+    /// The counts of all processes, by process.
+    pub fn counts(&self) -> impl ExactSizeIterator<Item = u16> + '_ {
+        (0..self.processes()).map(|process| self.count(process))
+    }
+
+    /// The message at a position, where there is one.
+    ///
+    /// ```
+    /// # use keeper::{Refusal, Table};
+    /// # let example_a: Vec<u8> = [2u16, 5, 3, 3, 0, 0, 1, 0, 1, 1, 0, 2, 1, 2, 1, 2, 0, 1, 0, 2, 1, 2, 0, 0]
+    /// #     .iter().flat_map(|number| number.to_le_bytes()).collect();
+    /// let table = Table::from_bytes(&example_a[..])?;
+    /// // Message 3 of example A was sent by process 0 after its checkpoint 2,
+    /// // and received by process 1 before its checkpoint 2.
+    /// let message = table.message(3).unwrap();
+    /// assert_eq!((message.sender, message.sent), (0, 2));
+    /// assert_eq!((message.receiver, message.received.unwrap().get()), (1, 2));
+    /// assert!(table.message(4).unwrap().is_waiting());
+    /// assert_eq!(table.message(5), None);
+    /// # Ok::<(), Refusal>(())
+    /// ```
+    pub fn message(&self, position: u16) -> Option<Message> {
+        (position < run_table::messages(&self.bytes)).then(|| self.message_there(position))
+    }
+
+    /// All messages, by position: as many as `len` of it says.
+    pub fn messages(&self) -> impl ExactSizeIterator<Item = Message> + '_ {
+        (0..run_table::messages(&self.bytes)).map(|position| self.message_there(position))
+    }
+
+    fn message_there(&self, position: u16) -> Message {
+        let k = usize::from(position);
+        Message {
+            sender: run_table::sender(&self.bytes, k),
+            sent: run_table::sent(&self.bytes, k),
+            receiver: run_table::receiver(&self.bytes, k),
+            received: NonZeroU16::new(run_table::received(&self.bytes, k)),
+        }
+    }
+
+    /// The recovery line of the run, as [`recovery_line`](crate::recovery_line).
+    pub fn recovery_line(&self) -> Line {
+        line(|answer| crate::recovery_line(&self.bytes, answer)).expect(NEVER_REFUSED)
+    }
+
+    /// The line of a set of processes that hold, in which process p is bit p, as
+    /// [`line_of_set`](crate::line_of_set). Refused by 12 where the set has a bit
+    /// at N or above.
+    ///
+    /// ```
+    /// # use keeper::{Refusal, Table};
+    /// # let example_a: Vec<u8> = [2u16, 5, 3, 3, 0, 0, 1, 0, 1, 1, 0, 2, 1, 2, 1, 2, 0, 1, 0, 2, 1, 2, 0, 0]
+    /// #     .iter().flat_map(|number| number.to_le_bytes()).collect();
+    /// let table = Table::from_bytes(&example_a[..])?;
+    /// assert_eq!(*table.line_of_set(0b10)?, [3, 2]); // process 1 of example A holds
+    /// assert_eq!(table.line_of_set(0b11)?, table.recovery_line());
+    /// assert_eq!(table.line_of_set(0b100), Err(Refusal::UnknownProcessInSet));
+    /// # Ok::<(), Refusal>(())
+    /// ```
+    pub fn line_of_set(&self, set: u32) -> Result<Line, Refusal> {
+        line(|answer| crate::line_of_set(&self.bytes, set, answer))
+    }
+
+    /// Sends a message from one process to another, and answers its position.
+    /// Refused by 10, 11 and 14, as [`send`](crate::send).
+    ///
+    /// ```
+    /// # use keeper::{Refusal, Table};
+    /// # let example_a: Vec<u8> = [2u16, 5, 3, 3, 0, 0, 1, 0, 1, 1, 0, 2, 1, 2, 1, 2, 0, 1, 0, 2, 1, 2, 0, 0]
+    /// #     .iter().flat_map(|number| number.to_le_bytes()).collect();
+    /// let mut table = Table::from_bytes(&example_a[..])?;
+    /// assert_eq!(table.send(0, 1), Ok(5));
+    /// assert!(table.message(5).unwrap().is_waiting());
+    /// assert_eq!(table.send(0, 0), Err(Refusal::SendToItself));
+    /// # Ok::<(), Refusal>(())
+    /// ```
+    pub fn send(&mut self, from: u16, to: u16) -> Result<u16, Refusal> {
+        let position = run_table::messages(&self.bytes);
+        let room = self.bytes.len() + 8;
+        self.step(room, |table, answer| crate::send(table, from, to, answer))?;
+        Ok(position)
+    }
+
+    /// A checkpoint (save) of the process, which first receives the messages at
+    /// the positions listed; answers the number of the checkpoint. The positions
+    /// rise strictly, and each is that of a message that waits for the process.
+    /// Refused by 10, 13 and 14, as [`save`](crate::save).
+    ///
+    /// ```
+    /// # use keeper::{Refusal, Table};
+    /// # let example_a: Vec<u8> = [2u16, 5, 3, 3, 0, 0, 1, 0, 1, 1, 0, 2, 1, 2, 1, 2, 0, 1, 0, 2, 1, 2, 0, 0]
+    /// #     .iter().flat_map(|number| number.to_le_bytes()).collect();
+    /// let mut table = Table::from_bytes(&example_a[..])?;
+    /// assert_eq!(table.save(1, &[4]), Err(Refusal::BadList)); // it waits for process 0
+    /// assert_eq!(table.save(0, &[4]), Ok(3));
+    /// assert_eq!(table.message(4).unwrap().received.unwrap().get(), 3);
+    /// # Ok::<(), Refusal>(())
+    /// ```
+    pub fn save(&mut self, process: u16, received: &[u16]) -> Result<u16, Refusal> {
+        let number = self.count(process);
+        let room = self.bytes.len();
+        self.step(room, |table, answer| {
+            crate::save(table, process, received, answer)
+        })?;
+        Ok(number)
+    }
+
+    /// The whole run falls back to its recovery line, as
+    /// [`fall_back`](crate::fall_back). Answers the line and where each message
+    /// went.
+    ///
+    /// **Numbers and positions are used again after a fall back.** A number then
+    /// names another checkpoint, and a position another message. Whoever stores
+    /// contents by number or position can mix up what the keeper protects: a
+    /// file of the old checkpoint 3 is taken for that of the new one, or is
+    /// discarded or written over in its place. Store contents by an identity of
+    /// your own that is never used again, such as a serial number, and carry it
+    /// along with [`FellBack`]:
+    ///
+    /// ```
+    /// # use keeper::{Refusal, Table};
+    /// # let example_a: Vec<u8> = [2u16, 5, 3, 3, 0, 0, 1, 0, 1, 1, 0, 2, 1, 2, 1, 2, 0, 1, 0, 2, 1, 2, 0, 0]
+    /// #     .iter().flat_map(|number| number.to_le_bytes()).collect();
+    /// let mut table = Table::from_bytes(&example_a[..])?;
+    /// // The identities of what is stored: by process and number, and by position.
+    /// let mut checkpoints = vec![vec![100, 102, 105], vec![101, 103, 104]];
+    /// let mut messages = vec![200, 201, 202, 203, 204];
+    ///
+    /// let fell_back = table.fall_back();
+    /// assert_eq!(*fell_back.line, [1, 1]);
+    /// assert_eq!(fell_back.messages, [Some(0), Some(1), None, None, None]);
+    ///
+    /// for (identities, number) in checkpoints.iter_mut().zip(fell_back.line.iter()) {
+    ///     identities.truncate(usize::from(*number) + 1);
+    /// }
+    /// let mut stayed = fell_back.messages.iter().map(Option::is_some);
+    /// messages.retain(|_| stayed.next().unwrap());
+    /// assert_eq!(checkpoints, [[100, 102], [101, 103]]);
+    /// assert_eq!(messages, [200, 201]);
+    /// # Ok::<(), Refusal>(())
+    /// ```
+    pub fn fall_back(&mut self) -> FellBack {
+        let line = self.recovery_line();
+        // A message stays where it was sent before the line, and order is kept.
+        let mut next = 0..;
+        let messages = self
+            .messages()
+            .map(
+                |message| match message.sent < line[usize::from(message.sender)] {
+                    true => next.next(),
+                    false => None,
+                },
+            )
+            .collect();
+        let room = self.bytes.len();
+        self.step(room, crate::fall_back).expect(NEVER_REFUSED);
+        debug_assert_eq!(next.start, run_table::messages(&self.bytes));
+        FellBack { line, messages }
+    }
+
+    /// The keep sheet: exactly the checkpoints and messages that some future of
+    /// the run needs. The contents of all others can be discarded; no entry of
+    /// the table may be dropped for that.
+    ///
+    /// It is the sheet of the table as it is now. What is saved or sent after it
+    /// was made is not on it, and stays until a later sheet leaves it out.
+    ///
+    /// ```
+    /// # use keeper::{Checkpoint, Refusal, Table};
+    /// # let example_a: Vec<u8> = [2u16, 5, 3, 3, 0, 0, 1, 0, 1, 1, 0, 2, 1, 2, 1, 2, 0, 1, 0, 2, 1, 2, 0, 0]
+    /// #     .iter().flat_map(|number| number.to_le_bytes()).collect();
+    /// let sheet = Table::from_bytes(&example_a[..])?.keep_sheet();
+    /// let kept: Vec<_> = sheet.checkpoints().map(|kept| (kept.process, kept.number)).collect();
+    /// assert_eq!(kept, [(0, 1), (1, 1), (1, 2)]);
+    /// assert_eq!(sheet.messages().collect::<Vec<_>>(), [0, 4]);
+    /// # Ok::<(), Refusal>(())
+    /// ```
+    pub fn keep_sheet(&self) -> Sheet {
+        Sheet::of_accepted(&self.bytes)
+    }
+
+    /// The listing: the text that the program `listing` prints for the table.
+    /// With the feature `listing_text`.
+    ///
+    /// ```
+    /// let listing = keeper::Table::new(1)?.listing();
+    /// assert_eq!(listing, "line 0\nhold 0 0\ncheckpoint 0 0\nshare 100\n");
+    /// # Ok::<(), keeper::Refusal>(())
+    /// ```
+    #[cfg(feature = "listing_text")]
+    pub fn listing(&self) -> String {
+        let mut text = vec![0; crate::LISTING_ROOM];
+        let written = crate::listing(&self.bytes, &mut text).expect(NEVER_REFUSED);
+        text.truncate(written);
+        String::from_utf8(text).expect("a listing is of ASCII characters")
+    }
+
+    /// Puts the answer of a step in the table's place; on a refusal nothing
+    /// changes.
+    fn step(
+        &mut self,
+        room: usize,
+        call: impl FnOnce(&[u8], &mut [u8]) -> Result<usize, Refusal>,
+    ) -> Result<(), Refusal> {
+        let mut answer = vec![0; room];
+        let written = call(&self.bytes, &mut answer)?;
+        answer.truncate(written);
+        self.bytes = answer;
+        Ok(())
+    }
+}
+
+/// The line that a call answers.
+fn line(call: impl FnOnce(&mut [u8]) -> Result<usize, Refusal>) -> Result<Line, Refusal> {
+    let mut answer = [0; LARGEST_LINE];
+    let written = call(&mut answer)?;
+    Ok(Line(numbers(&answer[..written])))
+}
+
+/// 16-bit numbers, low byte first.
+pub(crate) fn numbers(bytes: &[u8]) -> Vec<u16> {
+    bytes
+        .chunks_exact(2)
+        .map(|pair| u16::from_le_bytes([pair[0], pair[1]]))
+        .collect()
+}
+
+/// The counts and the messages, and not the bytes.
+impl fmt::Debug for Table {
+    fn fmt(&self, to: &mut fmt::Formatter<'_>) -> fmt::Result {
+        to.debug_struct("Table")
+            .field("counts", &self.counts().collect::<Vec<_>>())
+            .field("messages", &self.messages().collect::<Vec<_>>())
+            .finish()
+    }
+}
+
+impl AsRef<[u8]> for Table {
+    fn as_ref(&self) -> &[u8] {
+        &self.bytes
+    }
+}
+
+impl TryFrom<Vec<u8>> for Table {
+    type Error = Refusal;
+
+    fn try_from(bytes: Vec<u8>) -> Result<Table, Refusal> {
+        Table::from_bytes(bytes)
+    }
+}
+
+impl TryFrom<&[u8]> for Table {
+    type Error = Refusal;
+
+    fn try_from(bytes: &[u8]) -> Result<Table, Refusal> {
+        Table::from_bytes(bytes)
+    }
+}
+
+impl Deref for Line {
+    type Target = [u16];
+
+    fn deref(&self) -> &[u16] {
+        &self.0
+    }
+}
+
+impl fmt::Display for Line {
+    fn fmt(&self, to: &mut fmt::Formatter<'_>) -> fmt::Result {
+        for (process, number) in self.0.iter().enumerate() {
+            if process > 0 {
+                to.write_str(" ")?;
+            }
+            write!(to, "{number}")?;
+        }
+        Ok(())
+    }
+}
