@@ -166,10 +166,13 @@ rust-lint: archives need-cargo
 	    echo "clippy has no warning in $(words $(RUST_FOLDERS)) Rust folders"; \
 	else echo "cargo clippy is missing: it did not look at the Rust code"; fi
 
-# The Rust binding: its doc tests on example A, with all its features; and that it builds with none of them.
+# The Rust binding: its doc tests on example A and its tests on the corpus, with all its features; and that it builds
+# with none of them, and with each alone.
 binding-tests: archives need-cargo
 	@mkdir -p target/tests
-	@cd bindings/rust && $(CARGO) build --release --target-dir ../../target/cargo
+	@for features in '' run_table listing_text; do \
+	    (cd bindings/rust && $(CARGO) build --release --no-default-features --features "$$features" --target-dir ../../target/cargo) || exit 1; \
+	done
 	@cd bindings/rust && $(CARGO) test --release --all-features --target-dir ../../target/cargo >../../target/tests/binding.log 2>&1 || { cat ../../target/tests/binding.log; exit 1; }
 	@awk '/^test result/ { n += $$4 } END { print n " tests of the Rust binding passed" }' target/tests/binding.log
 

@@ -1,0 +1,93 @@
+//! The corpus, tables by chance, and 16-bit numbers as bytes.
+#![allow(dead_code)]
+
+use std::fs;
+use std::path::Path;
+
+use keeper::Table;
+
+/// Example A of the format's document.
+pub const EXAMPLE_A: [u16; 24] = [
+    2, 5, 3, 3, 0, 0, 1, 0, 1, 1, 0, 2, 1, 2, 1, 2, 0, 1, 0, 2, 1, 2, 0, 0,
+];
+
+pub fn bytes(numbers: &[u16]) -> Vec<u8> {
+    numbers.iter().copied().flat_map(u16::to_le_bytes).collect()
+}
+
+/// The 16-bit number at a place that counts numbers, not bytes.
+pub fn number_at(bytes: &[u8], place: usize) -> u16 {
+    u16::from_le_bytes([bytes[2 * place], bytes[2 * place + 1]])
+}
+
+pub fn example_a() -> Table {
+    Table::from_bytes(bytes(&EXAMPLE_A)).expect("example A is accepted")
+}
+
+pub struct Case {
+    pub name: String,
+    pub table: Vec<u8>,
+    pub listing: String,
+}
+
+impl Case {
+    /// The rows of the listing that begin with that word, without it.
+    pub fn rows<'a>(&'a self, word: &'a str) -> impl Iterator<Item = &'a str> + 'a {
+        self.listing
+            .lines()
+            .filter_map(move |line| line.strip_prefix(word)?.strip_prefix(' '))
+    }
+
+    /// The number that the listing refuses the table with.
+    pub fn refused(&self) -> Option<u32> {
+        self.rows("refused")
+            .next()
+            .map(|number| number.parse().expect("a number"))
+    }
+}
+
+/// The tables of the corpus with their listings.
+pub fn corpus() -> Vec<Case> {
+    let folder = Path::new(env!("CARGO_MANIFEST_DIR")).join("../../tests/corpus");
+    let mut cases = Vec::new();
+    for entry in fs::read_dir(folder).expect("the corpus is there") {
+        let path = entry.expect("readable").path();
+        if path.extension().is_some_and(|ending| ending == "table") {
+            cases.push(Case {
+                name: path.display().to_string(),
+                table: fs::read(&path).expect("readable"),
+                listing: fs::read_to_string(path.with_extension("listing")).expect("a listing"),
+            });
+        }
+    }
+    assert!(cases.len() >= 132, "{} tables", cases.len());
+    cases
+}
+
+/// The accepted tables of the corpus, by name.
+pub fn accepted() -> Vec<(String, Table)> {
+    let cases = corpus().into_iter();
+    let accepted: Vec<_> = cases
+        .filter(|case| case.refused().is_none())
+        .map(|case| {
+            (
+                case.name,
+                Table::from_bytes(case.table).expect("it is accepted"),
+            )
+        })
+        .collect();
+    assert!(accepted.len() >= 60, "{} accepted tables", accepted.len());
+    accepted
+}
+
+/// A small generator (xorshift).
+pub struct Chance(pub u64);
+
+impl Chance {
+    pub fn below(&mut self, bound: usize) -> usize {
+        self.0 ^= self.0 << 13;
+        self.0 ^= self.0 >> 7;
+        self.0 ^= self.0 << 17;
+        (self.0 >> 11) as usize % bound
+    }
+}
