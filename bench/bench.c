@@ -1,9 +1,10 @@
 /* The benchmark, over the tables that the file ROWS names. `bench compare ROWS` ends with 1 where two
    implementations differ, and is run before anything is timed. `bench instructions ROWS` makes each call
    once, for callgrind to count. `bench measure ROWS FIGURES` measures every call of every implementation and
-   leaves what it found in the file FIGURES: once for each place at which the code is linked. `bench report
-   ROWS INSTRUCTIONS TEXT REPORT FIGURES...` takes these together and writes the report: TEXT with the tables
-   of the run in their places. Times are of the processor, not of the clock. */
+   leaves what it found in the file FIGURES: once for each place at which the code is linked. `bench stack
+   ROWS` measures the stack of every exported call and prints the table of it. `bench report ROWS
+   INSTRUCTIONS TEXT REPORT FIGURES...` takes all together and writes the report: TEXT with the tables of the
+   run in their places. Times are of the processor, not of the clock. */
 #define _GNU_SOURCE
 #include <stdarg.h>
 #include <stdbool.h>
@@ -13,6 +14,8 @@
 #include <time.h>
 
 #include "calls.h"
+#include "listing_text.h"
+#include "run_table.h"
 
 #if __has_include(<valgrind/callgrind.h>)
 #include <valgrind/callgrind.h>
@@ -92,6 +95,11 @@ static size_t row_count;
 static uint8_t answer[MOST_ANSWER];
 static uint16_t scratch[KEEPER_SCRATCH_NUMBERS];
 static size_t written;
+
+/* Where the report goes. */
+static FILE *report;
+
+#define SAY(...) fprintf(report, __VA_ARGS__)
 
 static void stop(const char *format, ...)
 {
@@ -384,15 +392,34 @@ static void take_together(char **paths, int places)
 
 enum { PAINTED = 32768 };
 
-enum { CHECK_EXPORT, LINE_EXPORT, SET_EXPORT, SEND_EXPORT, SAVE_EXPORT, FALL_BACK_EXPORT, SHEET_EXPORT, EXPORTS };
+enum {
+    CHECK_EXPORT, LINE_EXPORT, SET_EXPORT, SEND_EXPORT, SAVE_EXPORT, FALL_BACK_EXPORT, SHEET_EXPORT, LISTING_EXPORT,
+    TABLE_CHECK_EXPORT, PROCESSES_EXPORT, MESSAGES_EXPORT, COUNT_EXPORT, SENDER_EXPORT, SENT_EXPORT, RECEIVER_EXPORT,
+    RECEIVED_EXPORT, EXPORTS
+};
 
 static const char *const export_names[EXPORTS] = {
     "keeper_check_table", "keeper_recovery_line", "keeper_line_of_set", "keeper_send", "keeper_save",
-    "keeper_fall_back", "keeper_keep_sheet",
+    "keeper_fall_back", "keeper_keep_sheet", "keeper_listing", "run_table_check", "run_table_processes",
+    "run_table_messages", "run_table_count", "run_table_sender", "run_table_sent", "run_table_receiver",
+    "run_table_received",
 };
 
-__attribute__((noinline)) static size_t stack_of(int export, const uint8_t *table, size_t length, uint16_t process, const uint16_t *list, size_t entries, uint8_t paint)
+static uint8_t listing[KEEPER_LISTING_ROOM];
+
+/* The arguments of a call: of a save its process and list, of a lookup its index. */
+struct arguments {
+    const uint8_t *table;
+    size_t length;
+    uint16_t process;
+    const uint16_t *list;
+    size_t entries, index;
+};
+
+__attribute__((noinline)) static size_t stack_of(int export, const struct arguments *with, uint8_t paint)
 {
+    const uint8_t *table = with->table;
+    size_t length = with->length;
     volatile uint8_t *top;
     __asm__ volatile("mov %%rsp, %0" : "=r"(top) : : "memory");
     for (size_t a = 1; a <= PAINTED; a++)
@@ -403,9 +430,19 @@ __attribute__((noinline)) static size_t stack_of(int export, const uint8_t *tabl
     case LINE_EXPORT: sink = keeper_recovery_line(table, length, answer, sizeof answer, &written); break;
     case SET_EXPORT: sink = keeper_line_of_set(table, length, 1, answer, sizeof answer, &written); break;
     case SEND_EXPORT: sink = keeper_send(table, length, 0, 1, answer, sizeof answer, &written); break;
-    case SAVE_EXPORT: sink = keeper_save(table, length, process, list, entries, answer, sizeof answer, &written); break;
+    case SAVE_EXPORT: sink = keeper_save(table, length, with->process, with->list, with->entries, answer, sizeof answer, &written); break;
     case FALL_BACK_EXPORT: sink = keeper_fall_back(table, length, answer, sizeof answer, &written); break;
-    default: sink = keeper_keep_sheet(table, length, scratch, sizeof scratch / 2, answer, sizeof answer, &written);
+    case SHEET_EXPORT: sink = keeper_keep_sheet(table, length, scratch, sizeof scratch / 2, answer, sizeof answer, &written); break;
+    case LISTING_EXPORT: sink = keeper_listing(table, length, listing, sizeof listing, &written); break;
+    case TABLE_CHECK_EXPORT: sink = run_table_check(table, length); break;
+    case PROCESSES_EXPORT: sink = run_table_processes(table, length); break;
+    case MESSAGES_EXPORT: sink = run_table_messages(table, length); break;
+    case COUNT_EXPORT: sink = run_table_count(table, length, with->index); break;
+    case SENDER_EXPORT: sink = run_table_sender(table, length, with->index); break;
+    case SENT_EXPORT: sink = run_table_sent(table, length, with->index); break;
+    case RECEIVER_EXPORT: sink = run_table_receiver(table, length, with->index); break;
+    case RECEIVED_EXPORT: sink = run_table_received(table, length, with->index); break;
+    default: stop("no call %d", export);
     }
     __asm__ volatile("" : : : "memory");
     size_t depth = PAINTED;
@@ -414,26 +451,48 @@ __attribute__((noinline)) static size_t stack_of(int export, const uint8_t *tabl
     return depth;
 }
 
-/* The least and the most over the rows, the rows cut by a message, a table of one process, and a refused
-   one. */
+/* Tables for the stack alone: one process; the highest counts, whose listing has the longest numbers; a refused one. */
+static const struct {
+    size_t length;
+    uint8_t bytes[8];
+} small_tables[] = {
+    {6, {1, 0, 0, 0, 1, 0}},
+    {8, {2, 0, 0, 0, 0, 16, 0, 16}},
+    {3, {0}},
+};
+
+static void stack_over(int export, const struct arguments *with, size_t *least, size_t *most)
+{
+    size_t a = stack_of(export, with, 0xA5), b = stack_of(export, with, 0x5A), depth = a > b ? a : b;
+    if (depth == PAINTED)
+        stop("%s uses more stack than was painted", export_names[export]);
+    *least = depth < *least ? depth : *least;
+    *most = depth > *most ? depth : *most;
+}
+
+/* The least and the most over the rows, the rows cut by a message, and the small tables. */
 static void measure_stack(size_t least[EXPORTS], size_t most[EXPORTS])
 {
-    static const uint8_t one[6] = {1, 0, 0, 0, 1, 0}, refused[3];
     for (int e = 0; e < EXPORTS; e++) {
         least[e] = SIZE_MAX;
         most[e] = 0;
-        for (size_t r = 0; r < row_count + 2; r++)
-            for (int cut = 0; cut < 2; cut++) {
-                const struct row *row = &rows[r < row_count ? r : 0];
-                const uint8_t *table = r == row_count ? one : r > row_count ? refused : cut ? row->shorter : row->table;
-                size_t length = r == row_count ? sizeof one : r > row_count ? sizeof refused : cut ? row->shorter_length : row->length;
-                size_t a = stack_of(e, table, length, row->saver, row->list, cut ? 0 : row->entries, 0xA5);
-                size_t b = stack_of(e, table, length, row->saver, row->list, cut ? 0 : row->entries, 0x5A);
-                size_t depth = a > b ? a : b;
-                least[e] = depth < least[e] ? depth : least[e];
-                most[e] = depth > most[e] ? depth : most[e];
-            }
+        for (size_t r = 0; r < row_count; r++) {
+            const struct row *row = &rows[r];
+            stack_over(e, &(struct arguments){row->table, row->length, row->saver, row->list, row->entries, 0}, &least[e], &most[e]);
+            stack_over(e, &(struct arguments){row->shorter, row->shorter_length, row->saver, row->list, 0, row->m}, &least[e], &most[e]);
+        }
+        for (size_t t = 0; t < sizeof small_tables / sizeof small_tables[0]; t++)
+            stack_over(e, &(struct arguments){small_tables[t].bytes, small_tables[t].length, 0, NULL, 0, 0}, &least[e], &most[e]);
     }
+}
+
+static void say_stack(void)
+{
+    size_t least[EXPORTS], most[EXPORTS];
+    measure_stack(least, most);
+    SAY("| call | least, bytes | most, bytes |\n|---|---|---|\n");
+    for (int e = 0; e < EXPORTS; e++)
+        SAY("| `%s` | %zu | %zu |\n", export_names[e], least[e], most[e]);
 }
 
 /* ------------------------------------------------------------------------------------------------- */
@@ -514,10 +573,6 @@ static bool measure_networkx(const char *command)
 
 /* ------------------------------------------------------------------------------------------------- */
 /* The report. */
-
-static FILE *report;
-
-#define SAY(...) fprintf(report, __VA_ARGS__)
 
 static const char *fact(const char *name)
 {
@@ -747,8 +802,6 @@ static void say_report(const char *text, bool instructions, bool networkx)
     FILE *file = fopen(text, "r");
     if (file == NULL)
         stop("%s can't be read", text);
-    size_t least[EXPORTS], most[EXPORTS];
-    measure_stack(least, most);
     static char line[4096];
     while (fgets(line, sizeof line, file) != NULL) {
         if (line[0] != '@') {
@@ -784,11 +837,9 @@ static void say_report(const char *text, bool instructions, bool networkx)
                 SAY("| %s | Rust |", call_titles[c]);
                 say_goal(c, RUST, false, false);
             }
-        } else if (strcmp(name, "stack") == 0) {
-            SAY("| call | least, bytes | most, bytes |\n|---|---|---|\n");
-            for (int e = 0; e < EXPORTS; e++)
-                SAY("| `%s` | %zu | %zu |\n", export_names[e], least[e], most[e]);
-        } else
+        } else if (strcmp(name, "stack") == 0)
+            say_stack();
+        else
             stop("%s: no such place in the report", name);
     }
     fclose(file);
@@ -835,6 +886,12 @@ int main(int argc, char **argv)
         fprintf(stderr, "bench: all implementations agree on %zu tables\n", row_count);
         return 0;
     }
+    if (argc == 3 && strcmp(argv[1], "stack") == 0) {
+        read_rows(argv[2]);
+        report = stdout;
+        say_stack();
+        return 0;
+    }
     if (argc == 4 && strcmp(argv[1], "measure") == 0) {
         read_rows(argv[2]);
         FILE *file = fopen(argv[3], "wb");
@@ -849,7 +906,7 @@ int main(int argc, char **argv)
         return 0;
     }
     if (argc < 7 || strcmp(argv[1], "report") != 0)
-        stop("usage: bench compare ROWS, bench instructions ROWS, bench measure ROWS FIGURES, or bench report ROWS INSTRUCTIONS TEXT REPORT FIGURES...");
+        stop("usage: bench compare ROWS, bench instructions ROWS, bench measure ROWS FIGURES, bench stack ROWS, or bench report ROWS INSTRUCTIONS TEXT REPORT FIGURES...");
     read_rows(argv[2]);
     compare_rows();
     take_together(argv + 6, argc - 6);

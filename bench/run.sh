@@ -1,7 +1,9 @@
 #!/bin/sh
 # The benchmark: makes the tables, builds what is compared, counts instructions where valgrind is there,
-# measures, and writes docs/BENCHMARKS.md. Run from the repository's root, with the archive in place.
+# measures, and writes docs/BENCHMARKS.md. Run from the repository's root, with the archives in place.
+# `sh bench/run.sh stack` only measures the stack of the calls, and prints the report's table of it.
 set -eu
+case "${1-}" in '' | stack) ;; *) echo "usage: sh bench/run.sh [stack]" >&2; exit 2;; esac
 out=target/bench
 rm -rf "$out"
 mkdir -p "$out/tables" "$out/callgrind"
@@ -19,7 +21,8 @@ place() {
     gcc -c -DPAD="$2" -o "$out/pad-c-$1.o" bench/pad.S
     gcc -c -DPAD="$3" -o "$out/pad-archive-$1.o" bench/pad.S
     gcc -o "$out/bench-$1" "$out/bench.o" "$out/pad-c-$1.o" "$out/plain.o" "$out/worklist.o" "$out/pad-archive-$1.o" \
-        target/staticlib/libkeeper.a target/cargo/release/libpasses.a -lpthread -ldl -lm
+        target/staticlib/libkeeper.a target/staticlib/liblisting_text.a target/staticlib/librun_table.a \
+        target/cargo/release/libpasses.a -lpthread -ldl -lm
 }
 place 1 0 0
 place 2 16 16
@@ -55,6 +58,12 @@ row 'ring domino, reverse' 0 ring-reverse 1 32 4096
 row 'ring domino, by sender' 0 ring-by-sender 1 32 4096
 row 'ring domino, every second' 0 ring-every-second 1 32 4096
 row 'ring domino, shuffled' 0 ring-shuffled 1 32 4096
+
+if [ "${1-}" = stack ]; then
+    say "measuring the stack"
+    "$out/bench-1" stack "$out/rows"
+    exit 0
+fi
 
 say "comparing the answers"
 "$out/bench-1" compare "$out/rows"
