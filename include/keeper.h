@@ -1,5 +1,6 @@
 /* keeper.h: recovery lines, steps and keep sheets of checkpointed runs. Link libkeeper.a (-lkeeper);
-   nothing else is needed. Tables have the format that run_table.h describes.
+   nothing else is needed. Tables have the format that run_table.h describes. That header is included for
+   the words of the table's checks; its own calls are in librun_table.a (-lrun_table).
 
    What holds of every call:
 
@@ -25,16 +26,28 @@
    What a call returns and writes, that it touches nothing else and that it always returns: all this is
    proved, for any contents and lengths, given that what is lent is there, does not overlap and is left
    alone until the call returns. A call allocates nothing and keeps nothing from one call to the next, so
-   that several threads may call at once, each with memory of its own to write to. */
+   that several threads may call at once, each with memory of its own to write to. What is static inline
+   here stands in no archive, and is tested and not proved.
+
+   Stack. At each call stands the most that it was measured to use on x86-64, in bytes, its return address
+   included. */
 #ifndef KEEPER_H
 #define KEEPER_H
 
 #include <stddef.h>
 #include <stdint.h>
 
+#include "run_table.h"
+
 #ifdef __cplusplus
 extern "C" {
 #endif
+
+/* The version of this header and of its archive; the three numbers are for the preprocessor too. */
+#define KEEPER_VERSION "0.1.0"
+#define KEEPER_VERSION_MAJOR 0
+#define KEEPER_VERSION_MINOR 1
+#define KEEPER_VERSION_PATCH 0
 
 /* What a call returns, in checking order. Later versions may return further numbers, whose checks stand
    anywhere in that order. */
@@ -62,6 +75,24 @@ enum keeper_refusal {
     KEEPER_ANSWER_TOO_SHORT = 16           /* the answer buffer is shorter than the answer */
 };
 
+/* The check of a refusal in words, for a message to people. Any number may be given: of 0, and of one that
+   this header does not know, the text says so. It is never NULL, and is not to be freed. */
+static inline const char *keeper_refusal_words(uint32_t refusal)
+{
+    switch (refusal) {
+    case KEEPER_UNKNOWN_PROCESS: return "a process named in a send or save is N or above";
+    case KEEPER_SEND_TO_ITSELF: return "a send names one process twice";
+    case KEEPER_UNKNOWN_PROCESS_IN_SET: return "a set has a bit at N or above";
+    case KEEPER_BAD_LIST:
+        return "a save's list has a position of M or above, or not above the one before it, "
+               "or of a message not waiting for that process";
+    case KEEPER_TABLE_FULL: return "a send meets M = 4,096, or a save meets a count of 4,096";
+    case KEEPER_SCRATCH_TOO_SHORT: return "the scratch is shorter than N * N numbers";
+    case KEEPER_ANSWER_TOO_SHORT: return "the answer buffer is shorter than the answer";
+    default: return run_table_refusal_words(refusal); /* the table's checks, 0, and what is not known */
+    }
+}
+
 /* The limits of a table. */
 #define KEEPER_MOST_PROCESSES 32
 #define KEEPER_MOST_MESSAGES 4096
@@ -80,7 +111,31 @@ enum keeper_refusal {
 #define KEEPER_SCRATCH_SIZE(n) ((size_t)(n) * (size_t)(n))
 #define KEEPER_SHEET_SIZE(k, q) (4 + 4 * (size_t)(k) + 2 * (size_t)(q))
 
-/* The refusal of a table. Checks: the table's. Nothing is written. */
+/* The 16-bit numbers of tables, lines and sheets, low byte first on every machine. `place` counts bytes, as
+   the formats do: the low byte is bytes[place] and the high byte bytes[place + 1], which both have to be
+   there. So the number of process p in a line is keeper_u16_at(line, 2 * p), and a first table, of two
+   processes with one checkpoint each and no messages, is made by
+
+       uint8_t table[KEEPER_TABLE_SIZE(2, 0)];
+       keeper_put_u16(table, 0, 2);    N
+       keeper_put_u16(table, 2, 0);    M
+       keeper_put_u16(table, 4, 1);    the count of process 0
+       keeper_put_u16(table, 6, 1);    the count of process 1 */
+
+/* The number at a place. */
+static inline uint16_t keeper_u16_at(const uint8_t *bytes, size_t place)
+{
+    return (uint16_t)(bytes[place] | (bytes[place + 1] << 8));
+}
+
+/* Puts a number at a place. */
+static inline void keeper_put_u16(uint8_t *bytes, size_t place, uint16_t number)
+{
+    bytes[place] = (uint8_t)(number & 0xFF);
+    bytes[place + 1] = (uint8_t)(number >> 8);
+}
+
+/* The refusal of a table. Checks: the table's. Nothing is written. Stack: 80. */
 uint32_t keeper_check_table(const uint8_t *table, size_t length);
 
 /* Lines. A line is one number for each process: that of one of its checkpoints, or its count, which
@@ -90,14 +145,14 @@ uint32_t keeper_check_table(const uint8_t *table, size_t length);
    consistent. Of the consistent lines under a ceiling one is the latest, at every process. */
 
 /* The recovery line of the run: the latest consistent line at whose every process stands a checkpoint
-   that the table has. Checks: the table's, 16. The answer is N numbers by process, 2N bytes. */
+   that the table has. Checks: the table's, 16. The answer is N numbers by process, 2N bytes. Stack: 368. */
 uint32_t keeper_recovery_line(const uint8_t *table, size_t length, uint8_t *answer, size_t room,
                               size_t *written);
 
 /* The line of a set of processes that hold (take no checkpoint now), process p being bit p of `set`:
    the latest consistent line with no holding process above its last checkpoint; the others may stand at
    their counts. For the set of all N it is the recovery line, for the empty one it is the counts.
-   Checks: the table's, 12, 16. The answer is N numbers by process, 2N bytes. */
+   Checks: the table's, 12, 16. The answer is N numbers by process, 2N bytes. Stack: 432. */
 uint32_t keeper_line_of_set(const uint8_t *table, size_t length, uint32_t set, uint8_t *answer,
                             size_t room, size_t *written);
 
@@ -106,27 +161,40 @@ uint32_t keeper_line_of_set(const uint8_t *table, size_t length, uint32_t set, u
 
 /* The table after a send: one message more, at position M, sent by `from` at its latest checkpoint (its
    count less one) and waiting for `to`. Checks: the table's, 10, 11, 14, 16. The answer has 8 bytes more
-   than the table. */
+   than the table. Stack: 224. */
 uint32_t keeper_send(const uint8_t *table, size_t length, uint16_t from, uint16_t to, uint8_t *answer,
                      size_t room, size_t *written);
 
 /* The table after a save: `process` takes a checkpoint, having received the messages at the listed
    positions. Their receipt number becomes its old count, and its count grows by one. The list has
    `list_length` positions, strictly rising, each of a message that waits for the process; it may be
-   empty, and then NULL. Checks: the table's, 10, 13, 14, 16. The answer is as long as the table. */
+   empty, and then NULL. Checks: the table's, 10, 13, 14, 16. The answer is as long as the table.
+   Stack: 224. */
 uint32_t keeper_save(const uint8_t *table, size_t length, uint16_t process, const uint16_t *list,
                      size_t list_length, uint8_t *answer, size_t room, size_t *written);
 
 /* The table after the run has fallen back to its recovery line L: each count becomes L + 1; a message
    stays where its send number is below L at its sender, and if its receipt number is above L at its
    receiver it waits again. Those that stay keep their order and move up. Checks: the table's, 16. The
-   answer is as long as the table or shorter, by 8 bytes for each message that goes. */
+   answer is as long as the table or shorter, by 8 bytes for each message that goes. Stack: 624.
+
+   Numbers and positions are used again afterwards: a number above L names another checkpoint than before,
+   and a position another message, since messages have gone and others have moved up. Contents that are
+   stored by number or by position would be mixed up then, those that the keep sheet protects too. So store
+   them by an identity of your own that is never used twice, and carry it along, with L from
+   keeper_recovery_line before this call: checkpoint c of i is still there, by the same number, where c is
+   at or below L at i; a message is still there where its send number is below L at its sender, and its
+   position is now the number of such messages before it. */
 uint32_t keeper_fall_back(const uint8_t *table, size_t length, uint8_t *answer, size_t room,
                           size_t *written);
 
 /* The keep sheet: the checkpoints and messages whose contents must be kept, since some future of the run
    (any list of sends, saves and fall backs) needs them; the contents of all others can be discarded. No
    entry of the table may be dropped for that.
+
+   The sheet is about the checkpoints and messages of this table. Those that come later are not on it, and
+   their contents are kept until the next sheet. After a fall back make a new one: the numbers and positions
+   of the old one may name others then.
 
    What is kept comes from the N lines with one holding process each. Checkpoint c of i is kept where it
    exists and one of these lines has c at i. A message is kept where it is waiting, and where its send
@@ -145,7 +213,8 @@ uint32_t keeper_fall_back(const uint8_t *table, size_t length, uint8_t *answer, 
 
    Under KEEPER_OK, and under KEEPER_ANSWER_TOO_SHORT too, the first N * N numbers of the scratch are the
    N lines, N numbers each, that of holding process 0 first, as numbers of this machine. Under any other
-   refusal, and beyond N * N always, the scratch is unchanged. `numbers` counts its 16-bit numbers. */
+   refusal, and beyond N * N always, the scratch is unchanged. `numbers` counts its 16-bit numbers.
+   Stack: 1008. */
 uint32_t keeper_keep_sheet(const uint8_t *table, size_t length, uint16_t *scratch, size_t numbers,
                            uint8_t *answer, size_t room, size_t *written);
 

@@ -1,6 +1,6 @@
 /* listing_text.h: the text that the program `listing` prints. Link liblisting_text.a (-llisting_text);
-   nothing else is needed. It has a header of its own, as it has an archive of its own: what is included
-   says what is to be linked. The names of refusals are those of keeper.h. */
+   nothing else is needed. It has a header of its own, as it has an archive of its own. The names of
+   refusals and the version are those of keeper.h. */
 #ifndef LISTING_TEXT_H
 #define LISTING_TEXT_H
 
@@ -23,13 +23,14 @@ extern "C" {
        share S                 100 * K divided by the sum of the counts, rounded down; K as on the sheet
 
    Where the table is refused, by one of the table's checks, there is one row, `refused` and the number,
-   and the call returns KEEPER_OK: such bytes have a listing too.
+   and the call returns KEEPER_OK: such bytes have a listing too. So a whole listing ends with a row of
+   `share` or is one row of `refused`, and its last byte is a line feed; a stored text that is not so was cut.
 
    Checks: 16. It returns KEEPER_ANSWER_TOO_SHORT where the text is longer than `room`, and then nothing
    is changed. On KEEPER_OK the text stands at the front of `text` and its length in `*written`; the bytes
    beyond it are unchanged. The rules at the head of keeper.h hold: `table` may be NULL where `length` is
    0 and `text` where `room` is 0, `written` never; none of the three may overlap another; `table` is only
-   read. */
+   read. Stack: 15464, most of it for a keep sheet and its lines. */
 uint32_t keeper_listing(const uint8_t *table, size_t length, uint8_t *text, size_t room,
                         size_t *written);
 

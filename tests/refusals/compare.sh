@@ -98,8 +98,8 @@ END {
 }' refusals="$work/refusals" calls="$work/calls" docs/refusals.txt || exit 1
 LC_ALL=C sort "$work/calls" >"$work/sorted" && mv "$work/sorted" "$work/calls" || exit 1
 
-# The refusals as a list is expected to have them: all or those of the table; in which language the names are (c, run_table,
-# rust, none); whether it is told what each is of, and in which words (yes, no).
+# The refusals as a list is expected to have them: all, or those of the table or of a call; in which language the names are
+# (c, run_table, rust, none); whether it is told what each is of, and in which words (yes, no).
 expected() {
     awk -F'|' -v which="$1" -v language="$2" -v told_of="$3" -v told_words="$4" "$shared"'
     function named(name,   n, i, part, text) {
@@ -110,7 +110,7 @@ expected() {
         for (i = 1; i <= n; i++) text = text substr(part[i], 1, 1) tolower(substr(part[i], 2))
         return text
     }
-    which == "table" && $2 != "table" { next }
+    which != "all" && $2 != which { next }
     { print row($1, named($3), told_of == "yes" ? $2 : "", told_words == "yes" ? $4 : "") }' "$work/refusals" >"$work/expected"
 }
 
@@ -179,6 +179,49 @@ expected table run_table no yes
 { echo "0 RUN_TABLE_OK"; cat "$work/expected"; } >"$work/with_ok" && mv "$work/with_ok" "$work/expected"
 same include/run_table.h
 
+# A function in C that gives the words: rows case NAME: return "words"; and a default, which is not looked at.
+in_words() {
+    reads "$1"
+    awk -v function_name="$2" "$shared"'
+    index($0, "static inline const char *" function_name "(") == 1 { inside = 1; next }
+    /^}/ { inside = 0 }
+    inside { body = body $0 "\n" }
+    END {
+        sub(/^[^{]*\{[^{]*\{/, "", body)
+        sub(/default:.*/, "", body)
+        while (match(body, /^[ \t\n]*case [A-Z_]+:[ \t\n]*return[ \t\n]+("[^"]*"[ \t\n]*)+;/)) {
+            entry = substr(body, 1, RLENGTH)
+            body = substr(body, RLENGTH + 1)
+            name = words = entry
+            sub(/^[ \t\n]*case /, "", name)
+            sub(/:.*/, "", name)
+            sub(/^[^"]*"/, "", words)
+            sub(/"[^"]*$/, "", words)
+            gsub(/"[ \t\n]*"/, "", words)
+            print name ": " plain(words)
+        }
+        gsub(/[ \t\n]+/, " ", body)
+        if (body !~ /^ ?$/) print body
+    }' "$1" >"$work/found"
+}
+
+# The words alone, with names and without numbers.
+without_numbers() {
+    sed 's/^[0-9]* //' "$work/expected" >"$work/named" && mv "$work/named" "$work/expected"
+}
+
+in_words include/run_table.h run_table_refusal_words
+expected table run_table no yes
+without_numbers
+{ echo "RUN_TABLE_OK: no refusal"; cat "$work/expected"; } >"$work/with_ok" && mv "$work/with_ok" "$work/expected"
+same "include/run_table.h, run_table_refusal_words"
+
+# The keeper's has those of the table from there.
+in_words include/keeper.h keeper_refusal_words
+expected call c no yes
+without_numbers
+same "include/keeper.h, keeper_refusal_words"
+
 # A section of a man page: items of a list that are numbers, each with its name beside it or below, and its words below.
 in_page() {
     reads "$1"
@@ -197,9 +240,9 @@ in_page man/keeper.3 "RETURN VALUES"
 expected all c no yes
 same man/keeper.3
 
-in_page man/run_table.3 "RETURN VALUES"
+in_page man/run_table_check.3 "RETURN VALUES"
 expected table run_table no no
-same man/run_table.3
+same man/run_table_check.3
 
 in_page man/run_table.5 "Checks"
 expected table none no yes

@@ -73,6 +73,16 @@ differs include/run_table.h 's/RUN_TABLE_TOO_SHORT = 1/RUN_TABLE_TOO_SHORT = 2/'
 differs include/run_table.h 's/N is 0 or above 32/N is 0 or above 31/' RUN_TABLE_PROCESSES_OUT_OF_RANGE
 differs include/run_table.h '/RUN_TABLE_COUNT_OUT_OF_RANGE = /d' RUN_TABLE_COUNT_OUT_OF_RANGE
 differs include/run_table.h '/RUN_TABLE_WRONG_LENGTH = /{h;d;};/RUN_TABLE_COUNT_OUT_OF_RANGE = /G' RUN_TABLE_WRONG_LENGTH
+differs include/run_table.h 's/return "a count is 0 or/return "a count is 1 or/' 'run_table_refusal_words.*COUNT_OUT_OF_RANGE'
+differs include/run_table.h '/case RUN_TABLE_WRONG_LENGTH: /d' 'run_table_refusal_words.*row 5'
+differs include/run_table.h '/case RUN_TABLE_TOO_SHORT: /{h;d;};/case RUN_TABLE_TOO_MANY_MESSAGES: /G' 'run_table_refusal_words.*row 2'
+differs include/run_table.h 's/return "no refusal"/return "nothing"/' 'run_table_refusal_words.*RUN_TABLE_OK'
+differs include/run_table.h 's/case RUN_TABLE_MESSAGE_TO_ITS_SENDER: return \(.*\);/case RUN_TABLE_MESSAGE_TO_ITS_SENDER: return (\1);/' 'run_table_refusal_words.*row 8'
+differs include/keeper.h 's/case KEEPER_TABLE_FULL: return "a send meets/case KEEPER_TABLE_FULL: return "a send has/' 'keeper_refusal_words.*KEEPER_TABLE_FULL'
+differs include/keeper.h 's/^ *"or of a message not waiting for that process";/"";/' 'keeper_refusal_words.*KEEPER_BAD_LIST'
+differs include/keeper.h '/case KEEPER_SEND_TO_ITSELF: /d' 'keeper_refusal_words.*row 2'
+differs include/keeper.h 's/case KEEPER_UNKNOWN_PROCESS: /case KEEPER_WRONG_LENGTH: /' 'keeper_refusal_words.*KEEPER_WRONG_LENGTH'
+differs include/keeper.h 's/    default: return run_table_refusal_words/    case KEEPER_OK: return "fine";\n&/' 'keeper_refusal_words.*KEEPER_OK'
 differs include/listing_text.h 's/Checks: 16/Checks: 15/' keeper_listing
 
 # The man pages.
@@ -82,9 +92,9 @@ differs man/keeper.3 's/^A set has a bit at N/A set has bits at N/' KEEPER_UNKNO
 differs man/keeper.3 '/^\.It 16 Dv/{N;d;}' KEEPER_ANSWER_TOO_SHORT
 differs man/keeper.3 '/^\.It 4 Dv/{N;h;d;};/^\.It 5 Dv/{N;G;}' KEEPER_WRONG_LENGTH
 differs man/keeper.3 "s/^Checks: the table's, 10, 13, 14/Checks: the table's, 10, 14/" keeper_save
-differs man/run_table.3 '/^\.It 3$/{N;d;}' RUN_TABLE_TOO_MANY_MESSAGES
-differs man/run_table.3 's/^\.Dv RUN_TABLE_WRONG_LENGTH/.Dv RUN_TABLE_LENGTH/' RUN_TABLE_WRONG_LENGTH
-differs man/run_table.3 '/^\.It 8$/{N;h;d;};/^\.It 9$/{N;G;}' RUN_TABLE_SEND_NUMBER_TOO_HIGH
+differs man/run_table_check.3 '/^\.It 3$/{N;d;}' RUN_TABLE_TOO_MANY_MESSAGES
+differs man/run_table_check.3 's/^\.Dv RUN_TABLE_WRONG_LENGTH/.Dv RUN_TABLE_LENGTH/' RUN_TABLE_WRONG_LENGTH
+differs man/run_table_check.3 '/^\.It 8$/{N;h;d;};/^\.It 9$/{N;G;}' RUN_TABLE_SEND_NUMBER_TOO_HIGH
 differs man/run_table.5 's/^\.It 7$/.It/' 'same sender and receiver'
 differs man/run_table.5 's/^A count is 0/A count is 1/' 'a count is 0'
 differs man/run_table.5 '/^\.It 2$/{N;d;}' 'N is 0 or above'
