@@ -3,10 +3,13 @@
 #
 # ARCHIVES is the folder of librun_table.a, libkeeper.a and liblisting_text.a. For each of the three:
 #   - its header compiles alone and twice over, as C99, C11 and (where g++ is there) C++11;
-#   - the functions that the header declares are those that the archive defines, both ways;
+#   - the functions that the header declares are those that the archive defines, both ways; static inline ones are
+#     no such functions;
 #   - each declaration is that of the source: result, types, names and order of the parameters;
-#   - the manual (docs/MANUAL.md) and the page of section 3 give the same functions with the same parameters;
+#   - the manual (docs/MANUAL.md) and the page of section 3 give the same functions with the same parameters, the
+#     static inline ones too;
 #   - the Rust binding (bindings/rust/src/archive.rs) declares the same functions with the same parameters;
+#   - the stack that the header and the page tell of a call is what docs/BENCHMARKS.md has as its most;
 #   - the archive needs nothing of others but the C library's memory functions, and has no data of its own
 #     that could change, which is what the headers say.
 # Stops at the first header that is not so, with the difference.
@@ -39,10 +42,12 @@ function laid(text) {
     return text
 }'
 
-# The declarations of a header.
+# The declarations of a header. A static inline function is none: it ends with a brace at the margin.
 declared() {
     awk "$layout"'
     /^[ \t]*#/ { next }
+    /^static inline / { inlined = 1 }
+    inlined { if (/^}/) inlined = 0; next }
     { text = text $0 "\n" }
     END {
         while ((at = index(text, "/*")) > 0) {
@@ -54,6 +59,24 @@ declared() {
         for (i = 1; i <= n; i++)
             if (part[i] ~ /\)[ \t\n]*$/)
                 print laid(part[i])
+    }' "$1" | sort
+}
+
+# The static inline functions of a header, as declarations; each head stands on one line.
+inlined() {
+    awk "$layout"' /^static inline / { sub(/^static inline /, ""); print laid($0) }' "$1" | sort
+}
+
+# What a header tells of the stack of its calls: "Stack: 48." in the last comment before each.
+stack_in_header() {
+    awk '
+    /^ *\/\*/ { comment = "" }
+    { comment = comment " " $0 }
+    /^uint[0-9]+_t [a-z_]+\(/ {
+        name = $2
+        sub(/\(.*/, "", name)
+        if (match(comment, /Stack: [0-9]+/)) print name, substr(comment, RSTART + 7, RLENGTH - 7)
+        comment = ""
     }' "$1" | sort
 }
 
@@ -112,7 +135,7 @@ in_c() {
 # The declarations of the synopsis of a page in mdoc, those whose name begins so.
 in_page() {
     awk -v prefix="$2" "$layout"'
-    $1 == ".Ft" { result = substr($0, 5) }
+    $1 == ".Ft" { result = substr($0, 5); gsub(/"/, "", result) }
     $1 == ".Fo" { name = $2; list = "" }
     $1 == ".Fa" { p = substr($0, 5); gsub(/"/, "", p); list = list (list == "" ? "" : ", ") p }
     $1 == ".Fc" { if (name ~ "^(" prefix ")$") print laid(result " " name "(" list ")") }
@@ -126,8 +149,11 @@ shortened() {
 }
 
 names_of() {
-    sed 's/(.*//; s/.* //' "$1" | sort
+    sed 's/(.*//; s/.* //; s/^\*//' "$1" | sort
 }
+
+sed -n 's/^| `\([a-z0-9_]*\)` | [0-9]* | \([0-9]*\) |$/\1 \2/p' "$root/docs/BENCHMARKS.md" | sort >"$work/stack"
+[ -s "$work/stack" ] || fail "docs/BENCHMARKS.md has no stack of a call"
 
 for crate in run_table keeper listing_text; do
     header=$root/include/$crate.h
@@ -158,17 +184,29 @@ $(cat "$work/diff")"
     diff "$work/declared" "$work/exported" >"$work/diff" || fail "$crate.h (<) and the source of $crate (>):
 $(cat "$work/diff")"
 
-    shortened "$work/declared" >"$work/short"
-    pattern=$(tr '\n' '|' <"$work/names" | sed 's/|$//')
-    sed -n 's/^| `\([a-z0-9_]* [a-z0-9_]*(.*)\)` |.*/\1/p' "$root/docs/MANUAL.md" | grep -E " ($pattern)\\(" | sort >"$work/manual"
+    # The manual and the page tell of the static inline functions too.
+    { cat "$work/declared"; inlined "$header"; } | sort >"$work/public"
+    shortened "$work/public" >"$work/short"
+    pattern=$(names_of "$work/public" | tr '\n' '|' | sed 's/|$//')
+    sed -n 's/^| `\([a-z0-9_ *]* \**[a-z0-9_]*(.*)\)` |.*/\1/p' "$root/docs/MANUAL.md" | grep -E "[ *]($pattern)\\(" | sort >"$work/manual"
     diff "$work/short" "$work/manual" >"$work/diff" || fail "$crate.h (<) and docs/MANUAL.md (>):
 $(cat "$work/diff")"
 
-    page=$root/man/$crate.3
-    [ -f "$page" ] || page=$root/man/keeper.3
+    page=$root/man/keeper.3
+    [ $crate != run_table ] || page=$root/man/run_table_check.3
     in_page "$page" "$pattern" >"$work/page"
-    diff "$work/declared" "$work/page" >"$work/diff" || fail "$crate.h (<) and man/$(basename "$page") (>):
+    diff "$work/public" "$work/page" >"$work/diff" || fail "$crate.h (<) and man/$(basename "$page") (>):
 $(cat "$work/diff")"
+
+    # A header may leave out the stack of a call, a page may not.
+    stack_in_header "$header" >"$work/told"
+    [ -s "$work/told" ] || fail "$crate.h tells of no stack"
+    diff "$work/stack" "$work/told" | grep '^>' >"$work/diff" && fail "$crate.h tells of another stack than docs/BENCHMARKS.md: $(cat "$work/diff")"
+    names_of "$work/declared" | join - "$work/stack" >"$work/measured"
+    sed -n 's/^\.It Fn \([a-z0-9_]*\) Ta \([0-9]*\)$/\1 \2/p' "$page" | sort | join - "$work/names" >"$work/told"
+    diff "$work/measured" "$work/told" >"$work/diff" || fail "the stack in docs/BENCHMARKS.md (<) and man/$(basename "$page") (>):
+$(cat "$work/diff")"
+    [ "$(wc -l <"$work/measured")" -eq "$(wc -l <"$work/names")" ] || fail "docs/BENCHMARKS.md does not have the stack of every call of $crate.h"
 done
 
 # The binding declares what the headers declare, all three.
@@ -177,14 +215,23 @@ in_c 'pub fn ' <"$root/bindings/rust/src/archive.rs" >"$work/binding"
 diff "$work/declared" "$work/binding" >"$work/diff" || fail "the headers (<) and bindings/rust/src/archive.rs (>):
 $(cat "$work/diff")"
 
-# Nothing stands in the manual or on a page that no header declares.
-names_of "$work/declared" >"$work/names"
+# Nothing stands in the manual or on a page that no header has.
+for crate in run_table keeper listing_text; do inlined "$root/include/$crate.h"; done | sort >"$work/inlined"
+{ names_of "$work/declared"; names_of "$work/inlined"; } | sort >"$work/names"
 {
-    sed -n 's/^| `[a-z0-9_]* \([a-z0-9_]*\)(.*/\1/p' "$root/docs/MANUAL.md"
+    sed -n 's/^| `[a-z0-9_ *]* \**\([a-z0-9_]*\)(.*/\1/p' "$root/docs/MANUAL.md"
     sed -n 's/^\.Fo \(.*\)/\1/p' "$root"/man/*.3
 } | sort -u >"$work/told"
 diff "$work/names" "$work/told" >"$work/diff" || fail "the headers (<), the manual and the pages (>):
 $(cat "$work/diff")"
 
+# Each page of section 3 names its functions at its head: links to the page are made of these names.
+for page in "$root"/man/*.3; do
+    sed -n 's/^\.Fo \(.*\)/\1/p' "$page" | sort >"$work/told"
+    sed -n '/^\.Sh NAME/,/^\.Nd/s/^\.Nm \([a-z0-9_]*\).*/\1/p' "$page" | sort | diff "$work/told" - >"$work/diff" ||
+        fail "man/$(basename "$page"), its synopsis (<) and its names (>):
+$(cat "$work/diff")"
+done
+
 command -v g++ >/dev/null 2>&1 || echo "headers: g++ is missing, so that they were not compiled as C++"
-echo "headers: $(wc -l <"$work/names" | tr -d ' ') functions declared as the archives define them, as the sources, the manual, the man pages and the Rust binding have them"
+echo "headers: $(wc -l <"$work/declared" | tr -d ' ') functions declared as the archives define them, as the sources, the manual, the man pages and the Rust binding have them, and $(wc -l <"$work/inlined" | tr -d ' ') static inline"
