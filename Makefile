@@ -4,6 +4,7 @@
 # make differential-tests  the library beside the second implementation: CALLS=n for more calls, SCOPES=more for larger scopes
 # make fuzz     runs the fuzzer for FUZZ_SECONDS (60); needs clang
 # make refusal-tests  every list of refusals against docs/refusals.txt
+# make version-tests  every place that says the version against the file VERSION
 # make rust-lint  the layout of all Rust code, and clippy's warnings
 # make check    proves what has changed and runs the test programs: quicker, and no verdict
 # make tools    builds the command keeper, target/cargo/release/keeper
@@ -16,7 +17,7 @@ SHELL := /bin/sh
 .PHONY: help list table-there program test check format reference-tests corpus-tests
 .PHONY: archives c-tests install uninstall install-test tools tools-tests
 .PHONY: refusal-tests rust-lint binding-tests differential-tests differential-faults fuzz fuzz-tools fuzz-replay bench
-.PHONY: change-report report-tests clean
+.PHONY: change-report report-tests version-tests clean
 
 help:
 	@sed -n 's/^# \(make .*\)/\1/p' Makefile
@@ -57,7 +58,7 @@ program: need-rt
 	    { line[++n] = $$0 } \
 	    /^rt: .* proved \([0-9]/ { print >"/dev/stderr" }'
 
-test: need-rt need-gcc need-cargo format refusal-tests reference-tests corpus-tests c-tests install-test rust-lint binding-tests tools-tests report-tests differential-tests fuzz-replay
+test: need-rt need-gcc need-cargo format version-tests refusal-tests reference-tests corpus-tests c-tests install-test rust-lint binding-tests tools-tests report-tests differential-tests fuzz-replay
 	@rt ci
 
 check: need-rt
@@ -91,6 +92,12 @@ refusal-tests:
 	@sh tests/refusals/compare.sh
 	@sh tests/refusals/must_fail.sh target/tests
 
+# Every place that says the version against the file VERSION; and that a difference is found.
+version-tests:
+	@mkdir -p target/tests
+	@sh tests/version.sh
+	@sh tests/version.sh must-fail target/tests
+
 # The archives of the libraries. Each is proved as it is written, every time, so it is done again only
 # where a source is newer. One rt at a time: it shares target/, and takes all processors itself.
 .NOTPARALLEL:
@@ -116,7 +123,11 @@ INCLUDEDIR = $(PREFIX)/include
 LIBDIR = $(PREFIX)/lib
 MANDIR = $(PREFIX)/share/man
 INSTALL = install
+VERSION := $(shell cat VERSION)
+# The names at the head of a page of section 3: each but the page's own gets a page of one line, which leads to it.
+NAMES_ON = sed -n '/^\.Sh NAME/,/^\.Nd/s/^\.Nm \([a-z0-9_]*\).*/\1/p'
 install: archives program tools
+	@mkdir -p target/tests
 	@case '$(DESTDIR)$(PREFIX)' in *[[:space:]]*) echo "DESTDIR and PREFIX can have no spaces" >&2; exit 1;; esac
 	@case '$(PREFIX)' in /*) ;; *) echo "PREFIX=$(PREFIX) is not a path from the root" >&2; exit 1;; esac
 	@$(INSTALL) -d $(addprefix '$(DESTDIR),$(addsuffix ',$(BINDIR) $(INCLUDEDIR) $(LIBDIR)/pkgconfig $(MANDIR)/man1 $(MANDIR)/man3 $(MANDIR)/man5))
@@ -126,12 +137,17 @@ install: archives program tools
 	    $(INSTALL) -m 644 include/$$a.h '$(DESTDIR)$(INCLUDEDIR)' && \
 	    $(INSTALL) -m 644 target/staticlib/lib$$a.a '$(DESTDIR)$(LIBDIR)' && \
 	    sed -e 's,@PREFIX@,$(PREFIX),' -e 's,@LIBDIR@,$(patsubst $(PREFIX)/%,$${prefix}/%,$(LIBDIR)),' \
-	        -e 's,@INCLUDEDIR@,$(patsubst $(PREFIX)/%,$${prefix}/%,$(INCLUDEDIR)),' pkgconfig/$$a.pc.in >target/tests/$$a.pc && \
+	        -e 's,@INCLUDEDIR@,$(patsubst $(PREFIX)/%,$${prefix}/%,$(INCLUDEDIR)),' -e 's,@VERSION@,$(VERSION),' \
+	        pkgconfig/$$a.pc.in >target/tests/$$a.pc && \
 	    $(INSTALL) -m 644 target/tests/$$a.pc '$(DESTDIR)$(LIBDIR)/pkgconfig' || exit 1; \
 	done
 	@for page in man/*.[135]; do \
 	    $(INSTALL) -m 644 $$page '$(DESTDIR)$(MANDIR)'/man$${page##*.} || exit 1; \
 	done
+	@for page in man/*.3; do for name in $$($(NAMES_ON) $$page); do \
+	    test man/$$name.3 = $$page || { echo ".so man3/$${page##*/}" >target/tests/link.3 && \
+	        $(INSTALL) -m 644 target/tests/link.3 '$(DESTDIR)$(MANDIR)'/man3/$$name.3; } || exit 1; \
+	done; done
 
 # Takes the files away and leaves the folders.
 uninstall:
@@ -142,6 +158,7 @@ uninstall:
 	@for page in man/*.[135]; do \
 	    rm -f '$(DESTDIR)$(MANDIR)'/man$${page##*.}/$${page##*/} || exit 1; \
 	done
+	@for name in $$($(NAMES_ON) man/*.3); do rm -f '$(DESTDIR)$(MANDIR)'/man3/$$name.3 || exit 1; done
 
 # Installs into a temporary folder, uses what stands there, and uninstalls.
 install-test: need-gcc archives program tools
