@@ -3,8 +3,9 @@
 #
 # Installs into a temporary folder by `make install` (MAKE names another make), and there: compiles the
 # examples of the man pages by the flags of the pkg-config files and runs them, runs the programs and
-# the examples of their pages, has the pages formatted with all warnings on, and uninstalls. Then the same with
-# DESTDIR. Says which tools were missing.
+# the examples of their pages, asks everything for its version, has the pages formatted with all warnings on,
+# follows the pages that lead to another, and uninstalls. Then the same with DESTDIR. Says which tools were
+# missing.
 
 root=$(cd "$(dirname "$0")/../.." && pwd) || exit 1
 make=${MAKE:-make}
@@ -46,9 +47,34 @@ lib/pkgconfig/run_table.pc
 share/man/man1/keeper.1
 share/man/man1/listing.1
 share/man/man3/keeper.3
-share/man/man3/run_table.3
+share/man/man3/run_table_check.3
 share/man/man5/run_table.5
 END
+
+# Pages of one line, which lead to another: each call, and where it is told of.
+cat >"$work/leads" <<'END'
+keeper_check_table keeper
+keeper_fall_back keeper
+keeper_keep_sheet keeper
+keeper_line_of_set keeper
+keeper_listing keeper
+keeper_put_u16 keeper
+keeper_recovery_line keeper
+keeper_refusal_words keeper
+keeper_save keeper
+keeper_send keeper
+keeper_u16_at keeper
+run_table_count run_table_check
+run_table_messages run_table_check
+run_table_processes run_table_check
+run_table_received run_table_check
+run_table_receiver run_table_check
+run_table_refusal_words run_table_check
+run_table_sender run_table_check
+run_table_sent run_table_check
+END
+cp "$work/expected" "$work/pages"
+{ cat "$work/pages"; sed 's,\(.*\) .*,share/man/man3/\1.3,' "$work/leads"; } | LC_ALL=C sort >"$work/expected"
 
 # ---- into a prefix
 prefix=$work/prefix
@@ -81,9 +107,9 @@ flags() {
     fi
 }
 
-# The C program that stands on a man page.
+# What a page has in its display of that number, from 1: a C program, or what it prints.
 example_of() {
-    awk '/^\.Bd -literal/ { inside = 1; next } /^\.Ed/ { inside = 0 } inside { gsub(/\\e/, "\\"); print }' "$prefix/share/man/man3/$1.3"
+    awk -v number="$2" '/^\.Bd -literal/ { inside = ++n == number; next } /^\.Ed/ { inside = 0 } inside { gsub(/\\e/, "\\"); print }' "$prefix/share/man/man3/$1.3"
 }
 
 # Compiles a program by the flags of a package, and runs it on example A.
@@ -94,12 +120,18 @@ compile_and_run() {
         PKG_CONFIG_PATH=$prefix/lib/pkgconfig pkg-config --validate "$package" || fail "$package.pc is not valid"
     fi
     # Not quoted: the flags are several words.
-    (cd "$work" && gcc -std=c11 -Wall -Wextra -Werror -pedantic -o "$package" "$package.c" $(flags "$package")) || fail "$package does not compile by its flags: $(flags "$package")"
+    for standard in c99 c11; do
+        (cd "$work" && gcc -std=$standard -Wall -Wextra -Werror -pedantic -o "$package" "$package.c" $(flags "$package")) || fail "$package does not compile by its flags: $(flags "$package")"
+    done
     "$work/$package" <"$root/tests/corpus/example_a.table" >"$work/$package.out" || fail "$package: failed on example A"
     diff "$work/$package.expected" "$work/$package.out" || fail "$package: not the expected output (<: expected)"
 }
 
-example_of keeper >"$work/keeper.c"
+example_of keeper 1 >"$work/keeper.c"
+example_of keeper 2 >"$work/keeper.expected"
+grep -q '^message blue is at position 0$' "$work/keeper.expected" || fail "keeper.3: its second display is not what its first example prints"
+compile_and_run keeper
+example_of keeper 3 >"$work/keeper.c"
 cat >"$work/keeper.expected" <<'END'
 keep checkpoint 1 of process 0
 keep checkpoint 1 of process 1
@@ -108,9 +140,13 @@ keep message 0
 keep message 4
 END
 compile_and_run keeper
-example_of run_table >"$work/run_table.c"
+printf 'xy' | "$work/keeper" >"$work/keeper.out" && fail "keeper: took two bytes for a table"
+[ "$(cat "$work/keeper.out")" = "refused 1: the table has fewer than 4 bytes" ] || fail "keeper: told of two bytes: $(cat "$work/keeper.out")"
+example_of run_table_check 1 >"$work/run_table.c"
 echo "message 4 waits for process 0" >"$work/run_table.expected"
 compile_and_run run_table
+printf 'xy' | "$work/run_table" >"$work/run_table.out" && fail "run_table: took two bytes for a table"
+[ "$(cat "$work/run_table.out")" = "refused 1: the table has fewer than 4 bytes" ] || fail "run_table: told of two bytes: $(cat "$work/run_table.out")"
 cat >"$work/listing_text.c" <<'END'
 #include <listing_text.h>
 #include <stdio.h>
@@ -143,9 +179,25 @@ for program in listing keeper; do
     diff "$work/session" "$work/session.run" || fail "$program.1: its examples are not what happens (>)"
 done
 
+# ---- the version
+version=$(cat "$root/VERSION")
+[ "$("$prefix/bin/keeper" --version)" = "keeper $version" ] || fail "keeper --version says $("$prefix/bin/keeper" --version), and VERSION $version"
+for package in keeper listing_text run_table; do
+    [ "$(sed -n 's/^Version: //p' "$prefix/lib/pkgconfig/$package.pc")" = "$version" ] || fail "$package.pc: not the version $version"
+    ! has pkg-config || [ "$(PKG_CONFIG_PATH=$prefix/lib/pkgconfig pkg-config --modversion $package)" = "$version" ] || fail "$package.pc: pkg-config does not say $version"
+done
+grep -l '@[A-Z]*@' "$prefix"/lib/pkgconfig/*.pc && fail "something was not filled in"
+
+# ---- a listing that was cut: its end tells, and `keeper list` tells by its status
+if [ -c /dev/full ]; then
+    "$prefix/bin/listing" <"$root/tests/corpus/example_a.table" >/dev/full || fail "listing: a status is told, other than listing.1 says"
+    "$prefix/bin/keeper" list "$root/tests/corpus/example_a.table" >/dev/full 2>"$work/full" && fail "keeper list: a full device is not told"
+    [ -s "$work/full" ] || fail "keeper list: nothing is said of a full device"
+fi
+
 # ---- the man pages
 formatters=
-for page in $(grep '^share/man/' "$work/expected"); do
+for page in $(grep '^share/man/' "$work/pages"); do
     if has groff; then
         groff -mandoc -ww -Tascii -z "$prefix/$page" >"$work/lint" 2>&1 && [ ! -s "$work/lint" ] || { cat "$work/lint"; fail "$page: groff -ww warns"; }
         formatters="groff $formatters"
@@ -161,6 +213,24 @@ for page in $(grep '^share/man/' "$work/expected"); do
         formatters="man $formatters"
     fi
 done
+
+# Those that lead to another show it; `man run_table` shows the format, and `man keeper` the command.
+while read -r name page; do
+    [ "$(cat "$prefix/share/man/man3/$name.3")" = ".so man3/$page.3" ] || fail "$name.3 does not lead to $page.3"
+    [ -f "$prefix/share/man/man3/$page.3" ] || fail "$name.3 leads nowhere"
+    if has man && man --version 2>/dev/null | grep -q '^man 2'; then
+        LC_ALL=C.UTF-8 man -M "$prefix/share/man" 3 "$name" 2>/dev/null </dev/null >"$work/shown" || fail "man 3 $name finds nothing"
+        LC_ALL=C.UTF-8 man -M "$prefix/share/man" 3 "$page" 2>/dev/null </dev/null | cmp -s - "$work/shown" || fail "man 3 $name does not show $page(3)"
+        grep -q "$name" "$work/shown" || fail "man 3 $name shows a page without that name"
+    fi
+done <"$work/leads"
+if has man && man --version 2>/dev/null | grep -q '^man 2'; then
+    for found in run_table.5 keeper.1 listing.1 keeper_send.3 run_table_sent.3; do
+        LC_ALL=C.UTF-8 man -M "$prefix/share/man" "${found%.*}" 2>/dev/null </dev/null >"$work/shown" || fail "man ${found%.*} finds nothing"
+        LC_ALL=C.UTF-8 man -M "$prefix/share/man" "${found##*.}" "${found%.*}" 2>/dev/null </dev/null | cmp -s - "$work/shown" ||
+            fail "man ${found%.*} does not show $found"
+    done
+fi
 
 # ---- uninstalling takes what was installed and nothing else
 echo other >"$prefix/lib/pkgconfig/other.pc"
