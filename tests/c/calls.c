@@ -1,6 +1,7 @@
 /* Calls every function of libkeeper.a and liblisting_text.a and compares what each returns and all that
-   it was lent, before and after, with what the headers say. Every buffer stands between guard bytes.
-   C and C++. */
+   it was lent, before and after, with what the headers say. Every buffer stands between guard bytes. Then
+   what the headers have beside the calls: sizes, numbers, words, the version. refusals.inc is made of
+   docs/refusals.txt by refusals.awk. C and C++. */
 #include "keeper.h"
 #include "listing_text.h"
 
@@ -514,10 +515,108 @@ static void sizes(void)
     same("KEEPER_SHEET_SIZE", KEEPER_SHEET_SIZE(1 + 2, 1 + 1), 20);
 }
 
+/* ---- numbers */
+
+/* A number put at a place among bytes of a fill: these two change and no others, and it is read again. */
+static void one_number(size_t place, uint16_t number, uint8_t fill)
+{
+    uint8_t bytes[16];
+    size_t i;
+    memset(bytes, fill, sizeof bytes);
+    keeper_put_u16(bytes, place, number);
+    for (i = 0; i < sizeof bytes; i++)
+        if (bytes[i] != (i == place ? number % 256 : i == place + 1 ? number / 256 : fill))
+            failed("keeper_put_u16", "the bytes are not what they should be");
+    same("keeper_u16_at", keeper_u16_at(bytes, place), number);
+}
+
+static void numbers(void)
+{
+    static const uint8_t bytes[] = { 0x34, 0x12, 0xFF, 0x00, 0xFF, 0xFF };
+    uint8_t table[KEEPER_TABLE_SIZE(2, 0)], by_hand[] = { 2, 0, 0, 0, 1, 0, 1, 0 };
+    uint32_t number;
+    size_t place;
+    same("the number at 0", keeper_u16_at(bytes, 0), 0x1234);
+    same("the number at 1", keeper_u16_at(bytes, 1), 0xFF12);
+    same("the number at 2", keeper_u16_at(bytes, 2), 0x00FF);
+    same("the number at 3", keeper_u16_at(bytes, 3), 0xFF00);
+    same("the number at 4", keeper_u16_at(bytes, 4), 65535);
+    for (number = 0; number < 65536; number++)
+        one_number(number % 15, (uint16_t)number, (uint8_t)(number % 3 * 0x55));
+    /* In example A a place in bytes is twice the place of the number. */
+    for (place = 0; place < A_NUMBERS; place++)
+        same("a number of A", keeper_u16_at(a_bytes, 2 * place), example_a[place]);
+    /* The first table of the header. */
+    keeper_put_u16(table, 0, 2);
+    keeper_put_u16(table, 2, 0);
+    keeper_put_u16(table, 4, 1);
+    keeper_put_u16(table, 6, 1);
+    same("a first table, as bytes", memcmp(table, by_hand, sizeof by_hand) != 0 || sizeof table != sizeof by_hand, 0);
+    same("a first table", keeper_check_table(table, sizeof table), KEEPER_OK);
+}
+
+/* ---- the words of refusals */
+#define KEEPER_REFUSAL(name, number, words) { name, number, words },
+#define RUN_TABLE_REFUSAL(name, number, words)
+static const struct {
+    uint32_t named, number;
+    const char *words;
+} refusals[] = {
+#include "refusals.inc"
+};
+#define REFUSALS (sizeof refusals / sizeof refusals[0])
+
+static void same_text(const char *what, const char *got, const char *expected)
+{
+    if (got == NULL || strcmp(got, expected) != 0) {
+        printf("calls: %s: got \"%s\", expected \"%s\"\n", what, got == NULL ? "(NULL)" : got, expected);
+        failures++;
+    }
+}
+
+static void words(void)
+{
+    static const uint32_t far[] = { 65536, 65537, 0x10000 + 16, 0x7FFFFFFF, 0x80000000u, 0xFFFFFFFFu };
+    uint32_t number;
+    size_t i;
+    for (number = 0; number < 300; number++) {
+        const char *expected = number == 0 ? "no refusal" : "a refusal that this version does not know";
+        for (i = 0; i < REFUSALS; i++)
+            if (refusals[i].number == number)
+                expected = refusals[i].words;
+        same_text("keeper_refusal_words", keeper_refusal_words(number), expected);
+    }
+    for (i = 0; i < REFUSALS; i++) {
+        same("the number of a name", refusals[i].named, refusals[i].number);
+        same_text("keeper_refusal_words by a name", keeper_refusal_words(refusals[i].named), refusals[i].words);
+    }
+    for (i = 0; i < sizeof far / sizeof far[0]; i++)
+        same_text("keeper_refusal_words of a large number", keeper_refusal_words(far[i]), "a refusal that this version does not know");
+}
+
+/* ---- the version: the text is that of the numbers, and the preprocessor can compare them */
+#define TEXT_OF(x) #x
+#define TEXT(x) TEXT_OF(x)
+
+static void version(void)
+{
+    same_text("KEEPER_VERSION", KEEPER_VERSION,
+              TEXT(KEEPER_VERSION_MAJOR) "." TEXT(KEEPER_VERSION_MINOR) "." TEXT(KEEPER_VERSION_PATCH));
+#if KEEPER_VERSION_MAJOR < 0 || KEEPER_VERSION_MINOR < 0 || KEEPER_VERSION_PATCH < 0
+    failed("KEEPER_VERSION", "its numbers can't be compared");
+#elif KEEPER_VERSION_MAJOR == 0 && KEEPER_VERSION_MINOR == 0 && KEEPER_VERSION_PATCH == 0
+    failed("KEEPER_VERSION", "it is not set");
+#endif
+    same_text("RUN_TABLE_VERSION", RUN_TABLE_VERSION, KEEPER_VERSION);
+}
+
 int main(void)
 {
     put_numbers(a_bytes, example_a, A_NUMBERS);
     sizes();
+    numbers();
+    words();
+    version();
     example_a_lines();
     example_a_steps();
     example_a_sheet();

@@ -162,10 +162,10 @@ for crate in run_table keeper listing_text; do
 
     printf '#include "%s.h"\n#include "%s.h"\nint main(void) { return 0; }\n' $crate $crate >"$work/alone.c"
     for standard in c99 c11; do
-        gcc -std=$standard -Wall -Wextra -Werror -pedantic -I"$root/include" -fsyntax-only "$work/alone.c" || fail "$crate.h is not $standard"
+        gcc -std=$standard -Wall -Wextra -Werror -pedantic -I"$root/include" -c -o "$work/alone.o" "$work/alone.c" || fail "$crate.h is not $standard"
     done
     if command -v g++ >/dev/null 2>&1; then
-        g++ -x c++ -std=c++11 -Wall -Wextra -Werror -pedantic -I"$root/include" -fsyntax-only "$work/alone.c" || fail "$crate.h is not C++"
+        g++ -x c++ -std=c++11 -Wall -Wextra -Werror -pedantic -I"$root/include" -c -o "$work/alone.o" "$work/alone.c" || fail "$crate.h is not C++"
     fi
 
     declared "$header" >"$work/declared"

@@ -1,8 +1,9 @@
 #!/bin/sh
 # sh tests/c/must_fail.sh ARCHIVES WORK
 #
-# That the tests of this folder can fail. calls.c is run over calls with one fault each (faulty.c), and
-# headers.sh over copies of the repository's texts with one change each; every one must be found.
+# That the tests of this folder can fail. calls.c is run over calls with one fault each (faulty.c); calls.c and
+# run_table_link.c are compiled with headers of one fault each; and headers.sh is run over copies of the repository's
+# texts with one change each. Every one must be found.
 
 if [ $# -ne 2 ] || [ ! -d "$1" ] || [ ! -d "$2" ]; then
     echo "usage: sh tests/c/must_fail.sh ARCHIVES WORK" >&2
@@ -21,7 +22,8 @@ renamed=
 for call in check_table recovery_line line_of_set send save fall_back keep_sheet listing; do
     renamed="$renamed -Dkeeper_$call=faulty_$call"
 done
-gcc -std=c11 -O1 -I"$root/include" $renamed -c -o "$work/calls_faulty.o" "$here/calls.c" || exit 1
+awk -f "$here/refusals.awk" "$root/docs/refusals.txt" >"$work/refusals.inc" || exit 1
+gcc -std=c11 -O1 -I"$root/include" -I"$work" $renamed -c -o "$work/calls_faulty.o" "$here/calls.c" || exit 1
 gcc -std=c11 -Wall -Wextra -O1 -I"$root/include" -o "$work/calls_faulty" "$work/calls_faulty.o" "$here/faulty.c" \
     "$archives/libkeeper.a" "$archives/liblisting_text.a" || exit 1
 FAULT=0 "$work/calls_faulty" >"$work/must_fail.out" || { cat "$work/must_fail.out"; fail "calls.c fails without a fault"; }
@@ -33,11 +35,48 @@ for number in $faults; do
 done
 echo "must_fail: $found faulty calls found by calls.c"
 
+# ---- headers whose helpers, words or version have a fault: found by a program that is compiled with them
+program_finds() {
+    program=$1
+    rm -rf "$copy"
+    mkdir -p "$copy" && cp -r "$root/include" "$copy" || exit 1
+    sed "$3" "$root/include/$2" >"$copy/include/$2" || fail "sed can't make the edit: $2, $3"
+    cmp -s "$root/include/$2" "$copy/include/$2" && fail "the edit changes nothing: $2, $3"
+    gcc -std=c11 -O1 -I"$copy/include" -I"$work" -o "$work/header_faulty" "$here/$program.c" "$archives"/lib*.a || fail "does not compile: $2, $3"
+    "$work/header_faulty" >"$work/must_fail.out" 2>&1
+    [ $? -eq 1 ] || fail "not found by $program.c: $2, $3"
+    found=$((found + 1))
+}
+found=0
+program_finds calls keeper.h 's/bytes\[place\] | (bytes\[place + 1\] << 8)/bytes[place + 1] | (bytes[place] << 8)/'
+program_finds calls keeper.h 's/(bytes\[place + 1\] << 8)/(bytes[place + 1] << 7)/'
+program_finds calls keeper.h 's/bytes\[place\] | (bytes\[place + 1\]/bytes[2 * place] | (bytes[2 * place + 1]/'
+program_finds calls keeper.h 's/bytes\[place\] = (uint8_t)(number & 0xFF)/bytes[place] = (uint8_t)(number \& 0x7F)/'
+program_finds calls keeper.h 's/bytes\[place + 1\] = (uint8_t)(number >> 8);/&\n    bytes[place + 2] = 0;/'
+program_finds calls keeper.h 's/bytes\[place + 1\] = (uint8_t)(number >> 8);//'
+program_finds calls keeper.h 's/return "a set has a bit/return "the set has a bit/'
+program_finds calls keeper.h 's/before it, "$/before it,"/'
+program_finds calls keeper.h '/case KEEPER_BAD_LIST:/d'
+program_finds calls keeper.h 's/    default: return run_table_refusal_words(refusal);/    default: return 0;/'
+program_finds calls keeper.h 's/    switch (refusal) {/    switch ((uint16_t)refusal) {/'
+program_finds calls keeper.h 's/KEEPER_TABLE_FULL = 14/KEEPER_TABLE_FULL = 17/'
+program_finds calls keeper.h 's/#define KEEPER_VERSION "/&1/'
+program_finds calls keeper.h 's/#define KEEPER_VERSION_PATCH .*/#define KEEPER_VERSION_PATCH x/'
+program_finds calls run_table.h 's/return "a count is 0/return "a count of 0/'
+program_finds calls run_table.h 's/return "no refusal"/return ""/'
+program_finds calls run_table.h 's/return "a refusal that/return "refusal that/'
+program_finds run_table_link run_table.h 's/return "a count is 0/return "a count of 0/'
+program_finds run_table_link run_table.h 's/return "no refusal"/return ""/'
+program_finds run_table_link run_table.h 's/return "a refusal that/return "refusal that/'
+program_finds run_table_link run_table.h 's/RUN_TABLE_WRONG_LENGTH = 4/RUN_TABLE_WRONG_LENGTH = 17/'
+program_finds run_table_link run_table.h 's/#define RUN_TABLE_VERSION_MINOR .*/#define RUN_TABLE_VERSION_MINOR 99/'
+echo "must_fail: $found headers with a fault found by calls.c and run_table_link.c"
+
 # ---- headers, sources, manual, pages, binding or archives that have changed
 fresh() {
     rm -rf "$copy"
     mkdir -p "$copy/docs" "$copy/tests/c" "$copy/archives" "$copy/bindings/rust" || exit 1
-    cp -r "$root/include" "$root/man" "$copy" && cp "$root/docs/MANUAL.md" "$copy/docs" && cp "$here/headers.sh" "$copy/tests/c" &&
+    cp -r "$root/include" "$root/man" "$copy" && cp "$root/docs/MANUAL.md" "$root/docs/BENCHMARKS.md" "$copy/docs" && cp "$here/headers.sh" "$copy/tests/c" &&
         cp -r "$root/bindings/rust/src" "$copy/bindings/rust" && cp "$archives"/*.a "$copy/archives" || exit 1
     for crate in run_table keeper listing_text; do
         mkdir -p "$copy/crates/$crate" && cp -r "$root/crates/$crate/src" "$copy/crates/$crate" || exit 1
@@ -58,11 +97,32 @@ changed include/keeper.h 's/uint16_t from, uint16_t to/uint32_t from, uint16_t t
 changed include/keeper.h 's/uint32_t keeper_save(/uint16_t keeper_save(/'
 changed include/keeper.h 's/const uint16_t \*list/uint16_t *list/'
 changed include/keeper.h 's/uint16_t \*scratch, size_t numbers/uint16_t *scratch, uint32_t numbers/'
-changed include/keeper.h 's/#include <stdint.h>//'
+changed include/run_table.h 's/#include <stdint.h>//'
+changed include/keeper.h 's/#include "run_table.h"//'
 ! command -v g++ >/dev/null 2>&1 || changed include/keeper.h 's/extern "C" {/extern "C" {{/'
 changed include/run_table.h 's/size_t p)/uint16_t p)/'
 changed include/listing_text.h 's/uint8_t \*text, size_t room/size_t room, uint8_t *text/'
 changed include/listing_text.h 's/#include "keeper.h"//'
+# A static inline function is told of, and is no call of the archive.
+changed include/keeper.h 's/^static inline uint16_t keeper_u16_at/uint16_t keeper_u16_at(const uint8_t *bytes, size_t place);\n&/'
+changed include/keeper.h 's/^uint32_t keeper_check_table.*/&\nstatic inline void keeper_more(void)\n{\n}\n/'
+changed include/keeper.h 's/^\(static inline void keeper_put_u16.*size_t\) place/\1 at/'
+changed include/keeper.h '/^static inline uint16_t keeper_u16_at/,/^}/d'
+changed include/run_table.h 's/^static inline /static /'
+changed man/keeper.3 's/^\.Fa "uint16_t number"/.Fa "uint32_t number"/'
+changed man/keeper.3 '/^\.Nm keeper_put_u16/d'
+changed man/keeper.3 's/^\.Nm keeper_send ,/.Nm keeper_sent ,/'
+changed docs/MANUAL.md '/^| `const char \*keeper_refusal_words/d'
+changed docs/MANUAL.md 's/^| `void keeper_put_u16(bytes, /| `void keeper_put_u16(/'
+# The stack that is told of a call.
+changed include/keeper.h 's/Stack: 1008/Stack: 1000/'
+changed include/listing_text.h 's/Stack: 15464/Stack: 1546/'
+changed include/run_table.h 's/Stack: 48/Stack: 49/'
+changed man/keeper.3 's/^\.It Fn keeper_save Ta 224/.It Fn keeper_save Ta 225/'
+changed man/keeper.3 '/^\.It Fn keeper_listing Ta /d'
+changed man/run_table_check.3 's/^\(\.It Fn run_table_sent Ta\) 8/\1 9/'
+changed docs/BENCHMARKS.md '/^| `keeper_send` | [0-9]* | [0-9]* |$/d'
+changed docs/BENCHMARKS.md 's/^\(| `run_table_count` | [0-9]* |\) 8/\1 16/'
 changed crates/keeper/src/lib.rt 's/set: u32/set: u64/'
 changed crates/keeper/src/lib.rt 's/    process: u16,/    saver: u16,/'
 changed crates/keeper/src/lib.rt 's/    list: &\[u16\],//'
@@ -73,7 +133,7 @@ changed docs/MANUAL.md '/^| `uint16_t run_table_sent/d'
 changed docs/MANUAL.md 's/^\(| `uint16_t run_table_\)sent\(.*\)/&\n\1lost\2/'
 changed man/keeper.3 's/^\.Fa "uint16_t to"/.Fa "uint32_t to"/'
 changed man/keeper.3 's/^\.Fo keeper_listing/.Fo keeper_text/'
-changed man/run_table.3 '/^\.Fa "size_t p"/d'
+changed man/run_table_check.3 '/^\.Fa "size_t p"/d'
 changed bindings/rust/src/archive.rs 's/set: u32/set: u64/'
 changed bindings/rust/src/archive.rs 's/list: \*const u16/list: *mut u16/'
 changed bindings/rust/src/archive.rs 's/        to: u16,/        target: u16,/'

@@ -15,15 +15,16 @@ here=$(dirname "$0")
 flags="-Wall -Wextra -Werror -pedantic -O1"
 
 sh "$here/headers.sh" "$archives" || exit 1
+awk -f "$here/refusals.awk" "$here/../../docs/refusals.txt" >"$work/refusals.inc" && [ -s "$work/refusals.inc" ] || exit 1
 
 # The program, and the archives that it takes and no others.
 run() {
     program=$1
     shift
-    gcc -std=c11 $flags -I"$here/../../include" -o "$work/$program" "$here/$program.c" "$@" || exit 1
+    gcc -std=c11 $flags -I"$here/../../include" -I"$work" -o "$work/$program" "$here/$program.c" "$@" || exit 1
     "$work/$program" || exit 1
     command -v g++ >/dev/null 2>&1 || return 0
-    g++ -std=c++11 $flags -I"$here/../../include" -o "$work/$program.cxx" -x c++ "$here/$program.c" -x none "$@" || exit 1
+    g++ -std=c++11 $flags -I"$here/../../include" -I"$work" -o "$work/$program.cxx" -x c++ "$here/$program.c" -x none "$@" || exit 1
     "$work/$program.cxx" >"$work/$program.out" || { cat "$work/$program.out"; exit 1; }
     echo "$program: ok as C++ too"
 }

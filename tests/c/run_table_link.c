@@ -1,5 +1,6 @@
 /* Links librun_table.a alone and calls each of its functions, on example A and on refused tables, with
-   guard bytes round the table. C and C++. */
+   guard bytes round the table; and asks for the words of refusals, by refusals.inc, which is made of
+   docs/refusals.txt by refusals.awk. C and C++. */
 #include "run_table.h"
 
 #include "tables.h"
@@ -39,6 +40,44 @@ static void no_table(const uint8_t *table, size_t length, unsigned n, unsigned m
     same("received of no table", run_table_received(table, length, 0), 0);
 }
 
+#define KEEPER_REFUSAL(name, number, words)
+#define RUN_TABLE_REFUSAL(name, number, words) { name, number, words },
+static const struct {
+    uint32_t named, number;
+    const char *words;
+} refusals[] = {
+#include "refusals.inc"
+};
+#define REFUSALS (sizeof refusals / sizeof refusals[0])
+
+static void words(void)
+{
+    uint32_t number;
+    size_t i;
+    for (number = 0; number < 300; number++) {
+        const char *expected = number == 0 ? "no refusal" : "a refusal that this version does not know";
+        for (i = 0; i < REFUSALS; i++)
+            if (refusals[i].number == number)
+                expected = refusals[i].words;
+        same("run_table_refusal_words", strcmp(run_table_refusal_words(number), expected) != 0, 0);
+    }
+    for (i = 0; i < REFUSALS; i++)
+        same("the number of a name", refusals[i].named, refusals[i].number);
+    same("run_table_refusal_words of the largest number",
+         strcmp(run_table_refusal_words(0xFFFFFFFFu), "a refusal that this version does not know") != 0, 0);
+}
+
+#define TEXT_OF(x) #x
+#define TEXT(x) TEXT_OF(x)
+
+static void version(void)
+{
+    same("RUN_TABLE_VERSION", strcmp(RUN_TABLE_VERSION, TEXT(RUN_TABLE_VERSION_MAJOR) "." TEXT(RUN_TABLE_VERSION_MINOR) "." TEXT(RUN_TABLE_VERSION_PATCH)) != 0, 0);
+#if RUN_TABLE_VERSION_MAJOR < 0 || RUN_TABLE_VERSION_MINOR < 0 || RUN_TABLE_VERSION_PATCH < 0
+    same("the preprocessor's RUN_TABLE_VERSION", 1, 0);
+#endif
+}
+
 int main(void)
 {
     uint8_t bytes[17 + 64 + 16], kept[64];
@@ -49,6 +88,8 @@ int main(void)
     put_numbers(table, example_a, A_NUMBERS);
     put_numbers(kept, example_a, A_NUMBERS);
     sizes();
+    words();
+    version();
     same("check", run_table_check(table, 48), RUN_TABLE_OK);
     same("processes", run_table_processes(table, 48), 2);
     same("messages", run_table_messages(table, 48), 5);
