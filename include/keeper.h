@@ -182,7 +182,7 @@ uint32_t keeper_save(const uint8_t *table, size_t length, uint16_t process, cons
    and a position another message, since messages have gone and others have moved up. Contents that are
    stored by number or by position would be mixed up then, those that the keep sheet protects too. So store
    them by an identity of your own that is never used twice, and carry it along, with L from
-   keeper_recovery_line before this call: checkpoint c of i is still there, by the same number, where c is
+   keeper_recovery_line before this call: checkpoint c of i is still there, under the same number, where c is
    at or below L at i; a message is still there where its send number is below L at its sender, and its
    position is now the number of such messages before it. */
 uint32_t keeper_fall_back(const uint8_t *table, size_t length, uint8_t *answer, size_t room,
