@@ -2,6 +2,8 @@
 # make test     everything that is checked; ends in `rt ci`, whose last line is the last line printed
 # make archives the static libraries: target/staticlib/libkeeper.a, librun_table.a and liblisting_text.a
 # make differential-tests  the library beside the second implementation: CALLS=n for more calls, SCOPES=more for larger scopes
+# make examples-tests  the programs of examples/: builds and runs them
+# make soak     runs that discard by their keep sheets, with ever new seeds, for SOAK_SECONDS (60)
 # make fuzz     runs the fuzzer for FUZZ_SECONDS (60); needs clang
 # make refusal-tests  every list of refusals against docs/refusals.txt
 # make version-tests  every place that says the version against the file VERSION
@@ -17,7 +19,7 @@ SHELL := /bin/sh
 .PHONY: help list table-there program test check format reference-tests corpus-tests
 .PHONY: archives c-tests install uninstall install-test tools tools-tests
 .PHONY: refusal-tests rust-lint binding-tests differential-tests differential-faults fuzz fuzz-tools fuzz-replay bench
-.PHONY: change-report report-tests version-tests clean
+.PHONY: change-report report-tests version-tests examples-tests discarding soak clean
 
 help:
 	@sed -n 's/^# \(make .*\)/\1/p' Makefile
@@ -58,7 +60,8 @@ program: need-rt
 	    { line[++n] = $$0 } \
 	    /^rt: .* proved \([0-9]/ { print >"/dev/stderr" }'
 
-test: need-rt need-gcc need-cargo format version-tests refusal-tests reference-tests corpus-tests c-tests install-test rust-lint binding-tests tools-tests report-tests differential-tests fuzz-replay
+test: need-rt need-gcc need-cargo format version-tests refusal-tests reference-tests corpus-tests c-tests install-test
+test: rust-lint binding-tests tools-tests examples-tests report-tests differential-tests fuzz-replay
 	@rt ci
 
 check: need-rt
@@ -170,7 +173,7 @@ corpus-tests: program
 	@MAKE='$(MAKE)' sh tests/corpus/list.sh
 
 # The layout of all Rust code, and clippy with no warning let through. Each is left out, in a line, where it is not there.
-RUST_FOLDERS := $(patsubst %/Cargo.toml,%,$(sort $(shell find bench bindings fuzz tests tools -name target -prune -o -name Cargo.toml -print)))
+RUST_FOLDERS := $(patsubst %/Cargo.toml,%,$(sort $(shell find bench bindings examples fuzz tests tools -name target -prune -o -name Cargo.toml -print)))
 rust-lint: archives need-cargo
 	@if cargo fmt --version >/dev/null 2>&1; then \
 	    for f in $(RUST_FOLDERS); do (cd $$f && cargo fmt --check) || { echo "$$f: cargo fmt lays it out otherwise"; exit 1; }; done; \
@@ -231,6 +234,29 @@ tools-tests: tools
 	@mkdir -p target/tests
 	@cd tools/keeper && $(CARGO) test --release --target-dir ../../target/cargo >../../target/tests/tools.log 2>&1 || { cat ../../target/tests/tools.log; exit 1; }
 	@awk '/^test result/ { n += $$4 } END { print n " tests of the command keeper passed" }' target/tests/tools.log
+
+# The examples. first_run.c: its output is the expected one. The run that discards: its tests, in which every store
+# that deletes too much is found, and then further seeds.
+DISCARDING = target/cargo/release/discarding --steps 20000
+examples-tests: archives need-gcc need-cargo discarding
+	@mkdir -p target/tests
+	@gcc -std=c11 -Wall -Wextra -Werror -pedantic -Iinclude -o target/tests/first_run examples/first_run.c target/staticlib/libkeeper.a
+	@target/tests/first_run >target/tests/first_run.output
+	@diff examples/first_run.expected target/tests/first_run.output || { echo "examples/first_run.c prints something else than expected (<)"; exit 1; }
+	@echo "examples/first_run.c prints what is expected"
+	@cd examples/discarding && $(CARGO) test --release --target-dir ../../target/cargo >../../target/tests/discarding.log 2>&1 || { cat ../../target/tests/discarding.log; exit 1; }
+	@awk '/^test result/ { n += $$4 } END { print n " tests of the run that discards passed" }' target/tests/discarding.log
+	@$(in_folder) $(DISCARDING) --seed 11 --seeds 4 --folder "$$folder"
+
+SOAK_SECONDS = 60
+soak: archives need-cargo discarding
+	@$(in_folder) $(DISCARDING) --seed "$$(date +%s)" --seconds '$(SOAK_SECONDS)' --folder "$$folder"
+
+discarding: archives need-cargo
+	@cd examples/discarding && $(CARGO) build --release --target-dir ../../target/cargo
+
+# Before a command: a temporary folder, $$folder, that is removed whatever happens.
+in_folder = folder=$$(mktemp -d) || exit 1; trap 'rm -rf "$$folder"' EXIT; trap 'exit 1' HUP INT TERM;
 
 # What changed from the commit BASE to HEAD, in Markdown. Both are proved RUNS times from nothing, a quarter of an
 # hour for two times; TIMES=no leaves that out, and CRATES="a b" proves these alone, with the crates below them.

@@ -10,7 +10,7 @@ use std::time::{Duration, Instant};
 use discarding::{drive, BySheet, Tally};
 
 const USAGE: &str = "\
-usage: discarding --steps N --seed S [--seconds T] [--folder DIR]
+usage: discarding --steps N --seed S [--seeds K] [--seconds T] [--folder DIR]
 
 Makes N steps (sends, saves, receipts, fall backs) in runs by the seed S. The
 contents of checkpoints and messages are files; what the keep sheet does not
@@ -19,6 +19,7 @@ status 1 and a message where something is missing or wrong.
 
   --steps N     1 or more
   --seed S      the same seed makes the same steps
+  --seeds K     goes on with the seeds after S until K are done
   --seconds T   goes on with the seeds after S until T seconds have passed
   --folder DIR  where the folders of the runs are made, and left after a
                 failure; else a temporary folder
@@ -27,7 +28,8 @@ status 1 and a message where something is missing or wrong.
 struct Arguments {
     steps: u64,
     seed: u64,
-    seconds: Option<u64>,
+    seeds: u64,
+    seconds: u64,
     folder: Option<PathBuf>,
 }
 
@@ -63,7 +65,8 @@ fn written(text: &str) -> ExitCode {
 }
 
 fn read(given: &[String]) -> Result<Arguments, String> {
-    let (mut steps, mut seed, mut seconds, mut folder) = (None, None, None, None);
+    let (mut steps, mut seed, mut folder) = (None, None, None);
+    let (mut seeds, mut seconds) = (1, 0);
     let mut given = given.iter();
     while let Some(option) = given.next() {
         let Some(value) = given.next() else {
@@ -77,7 +80,8 @@ fn read(given: &[String]) -> Result<Arguments, String> {
         match option.as_str() {
             "--steps" => steps = Some(number()?),
             "--seed" => seed = Some(number()?),
-            "--seconds" => seconds = Some(number()?),
+            "--seeds" => seeds = number()?,
+            "--seconds" => seconds = number()?,
             "--folder" => folder = Some(PathBuf::from(value)),
             _ => return Err(format!("{option}: there is no such option")),
         }
@@ -89,6 +93,7 @@ fn read(given: &[String]) -> Result<Arguments, String> {
             Some(steps) => steps,
         },
         seed: seed.ok_or("--seed is missing")?,
+        seeds,
         seconds,
         folder,
     })
@@ -108,22 +113,28 @@ fn done(arguments: &Arguments) -> Result<String, String> {
     Ok(text)
 }
 
-/// One seed, or as many as the time is long.
+/// One seed after another, until as many are done and as much time has passed as
+/// is asked for.
 fn driven(arguments: &Arguments, folder: &Path) -> Result<String, String> {
     let begin = Instant::now();
     let mut tally = Tally::default();
-    let mut last = arguments.seed;
-    loop {
-        let made = drive(arguments.steps, last, folder, BySheet::default)
+    let mut done = 0;
+    while done == 0
+        || done < arguments.seeds
+        || begin.elapsed() < Duration::from_secs(arguments.seconds)
+    {
+        let seed = arguments.seed.wrapping_add(done);
+        let made = drive(arguments.steps, seed, folder, BySheet::default)
             .map_err(|failed| failed.to_string())?;
         tally.add(&made);
-        let Some(seconds) = arguments.seconds else {
-            return Ok(format!("seed {last}: {tally}\n"));
-        };
-        if begin.elapsed() >= Duration::from_secs(seconds) {
-            let first = arguments.seed;
-            return Ok(format!("seeds {first} to {last}: {tally}\n"));
-        }
-        last = last.wrapping_add(1);
+        done += 1;
     }
+    let first = arguments.seed;
+    Ok(match done {
+        1 => format!("seed {first}: {tally}\n"),
+        _ => {
+            let last = first.wrapping_add(done - 1);
+            format!("seeds {first} to {last}: {tally}\n")
+        }
+    })
 }

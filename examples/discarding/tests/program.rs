@@ -4,6 +4,7 @@ use std::env;
 use std::fs;
 use std::path::{Path, PathBuf};
 use std::process::{Command, Output};
+use std::time::{Duration, Instant};
 
 fn discarding(arguments: &[&str]) -> Output {
     Command::new(env!("CARGO_BIN_EXE_discarding"))
@@ -58,27 +59,27 @@ fn the_temporary_folder_is_removed() {
     fs::remove_dir(&temporary).unwrap();
 }
 
-#[test]
-fn further_seeds_until_the_time_is_over() {
-    let folder = new_folder("seconds");
-    let named = folder.to_str().unwrap();
-    let arguments = [
-        "--steps",
-        "20",
-        "--seed",
-        "5",
-        "--seconds",
-        "1",
-        "--folder",
-        named,
-    ];
-    let (status, output, _) = texts(&discarding(&arguments));
-    assert_eq!(status, Some(0));
+/// The last seed of an output whose first is 5, each of 20 steps.
+fn last_seed(arguments: &[&str]) -> u64 {
+    let (status, output, errors) = texts(&discarding(arguments));
+    assert_eq!((status, errors.as_str()), (Some(0), ""));
     let seeds = output.strip_prefix("seeds 5 to ").expect("seeds");
     let last: u64 = seeds.split(':').next().unwrap().parse().unwrap();
-    assert!(last > 5, "{output}");
     let steps = 20 * (last - 5 + 1);
     assert!(output.contains(&format!(": {steps} steps in ")), "{output}");
+    last
+}
+
+#[test]
+fn further_seeds() {
+    let folder = new_folder("seeds");
+    let named = folder.to_str().unwrap();
+    let common = ["--steps", "20", "--seed", "5", "--folder", named];
+    let with = |options: &[&'static str]| last_seed(&[&common[..], options].concat());
+    assert_eq!(with(&["--seeds", "3"]), 7);
+    let begin = Instant::now();
+    assert!(with(&["--seconds", "1"]) > 5);
+    assert!(begin.elapsed() >= Duration::from_secs(1));
     assert!(is_empty(&folder));
     fs::remove_dir(&folder).unwrap();
 }

@@ -1,0 +1,189 @@
+/* A first run over keeper.h: a table of two processes is made and stepped, its keep sheets say what must
+   be kept, and the run falls back. Contents are not stored here; the prints say what a store would do.
+
+   cc -Iinclude -o first_run examples/first_run.c target/staticlib/libkeeper.a */
+#include <stdint.h>
+#include <stdio.h>
+#include <stdlib.h>
+
+#include "keeper.h"
+
+/* The numbers of tables and answers have 16 bits, low byte first. A place counts numbers, not bytes. */
+static uint16_t number_at(const uint8_t *bytes, size_t place)
+{
+    return (uint16_t)(bytes[2 * place] | bytes[2 * place + 1] << 8);
+}
+
+static void put_number(uint8_t *bytes, size_t place, uint16_t number)
+{
+    bytes[2 * place] = (uint8_t)(number & 0xff);
+    bytes[2 * place + 1] = (uint8_t)(number >> 8);
+}
+
+/* A run: its table, and a second buffer, since a step reads one table and writes another. */
+struct run {
+    uint8_t buffer[2][KEEPER_LARGEST_TABLE];
+    int now; /* which of the two has the table */
+    size_t length;
+};
+
+static const uint8_t *table(const struct run *run) { return run->buffer[run->now]; }
+
+static uint8_t *other(struct run *run) { return run->buffer[1 - run->now]; }
+
+/* Every call answers a number, and every number is looked at. */
+static void must(const char *call, uint32_t number)
+{
+    if (number != KEEPER_OK) {
+        fprintf(stderr, "first_run: %s was refused: %u\n", call, (unsigned)number);
+        exit(1);
+    }
+}
+
+/* What a step wrote is the run's table from here on. A refused step wrote nothing. */
+static void stepped(struct run *run, const char *call, uint32_t number, size_t written)
+{
+    must(call, number);
+    run->now = 1 - run->now;
+    run->length = written;
+}
+
+/* The table of a run that begins: n processes with one checkpoint each, and no messages. */
+static void begin(struct run *run, uint16_t n)
+{
+    uint8_t *first;
+    uint16_t p;
+
+    run->now = 0;
+    run->length = KEEPER_TABLE_SIZE(n, 0);
+    first = run->buffer[0];
+    put_number(first, 0, n); /* N */
+    put_number(first, 1, 0); /* M */
+    for (p = 0; p < n; p++)
+        put_number(first, 2 + (size_t)p, 1); /* the counts */
+    must("keeper_check_table", keeper_check_table(table(run), run->length));
+}
+
+static void send_message(struct run *run, uint16_t from, uint16_t to)
+{
+    size_t written = 0;
+    unsigned position = number_at(table(run), 1);
+    uint32_t number = keeper_send(table(run), run->length, from, to, other(run), KEEPER_LARGEST_TABLE, &written);
+
+    stepped(run, "keeper_send", number, written);
+    printf("process %u sends to process %u: message %u\n", (unsigned)from, (unsigned)to, position);
+}
+
+/* A save of a process that has received the messages at these positions. */
+static void save_checkpoint(struct run *run, uint16_t process, const uint16_t *list, size_t list_length)
+{
+    size_t k, written = 0;
+    unsigned checkpoint = number_at(table(run), 2 + (size_t)process);
+    uint32_t number = keeper_save(table(run), run->length, process, list, list_length, other(run),
+                                  KEEPER_LARGEST_TABLE, &written);
+
+    stepped(run, "keeper_save", number, written);
+    printf("process %u saves: checkpoint %u", (unsigned)process, checkpoint);
+    for (k = 0; k < list_length; k++)
+        printf("%s %u", k == 0 ? ", having received" : " and", (unsigned)list[k]);
+    printf("\n");
+}
+
+static int is_kept_checkpoint(const uint8_t *sheet, unsigned process, unsigned number)
+{
+    size_t at, k = number_at(sheet, 0);
+
+    for (at = 0; at < k; at++)
+        if (number_at(sheet, 2 + at) == process && number_at(sheet, 2 + k + at) == number)
+            return 1;
+    return 0;
+}
+
+static int is_kept_message(const uint8_t *sheet, unsigned position)
+{
+    size_t at, k = number_at(sheet, 0), q = number_at(sheet, 1);
+
+    for (at = 0; at < q; at++)
+        if (number_at(sheet, 2 + 2 * k + at) == position)
+            return 1;
+    return 0;
+}
+
+/* Makes the keep sheet and prints for each checkpoint and message whether its contents must be kept. What
+   may be discarded are contents alone: no entry of the table is dropped. */
+static void print_sheet(const struct run *run)
+{
+    static uint16_t scratch[KEEPER_SCRATCH_NUMBERS];
+    static uint8_t sheet[KEEPER_SHEET_ROOM];
+    size_t written = 0;
+    unsigned process, number, position;
+    unsigned n = number_at(table(run), 0), m = number_at(table(run), 1);
+
+    must("keeper_keep_sheet", keeper_keep_sheet(table(run), run->length, scratch, KEEPER_SCRATCH_NUMBERS, sheet,
+                                                sizeof sheet, &written));
+    printf("the sheet, %u bytes:\n", (unsigned)written);
+    for (process = 0; process < n; process++)
+        for (number = 0; number < number_at(table(run), 2 + (size_t)process); number++)
+            printf("    %s checkpoint %u of process %u\n",
+                   is_kept_checkpoint(sheet, process, number) ? "keep   " : "discard", number, process);
+    for (position = 0; position < m; position++)
+        printf("    %s message %u\n", is_kept_message(sheet, position) ? "keep   " : "discard", position);
+}
+
+/* The whole run falls back to its recovery line. From here on, numbers above the line and positions are
+   used again: contents are best stored under names that never are. */
+static void fall_back(struct run *run)
+{
+    uint8_t line[KEEPER_LARGEST_LINE];
+    size_t written = 0;
+    unsigned process, position, n = number_at(table(run), 0), m;
+    uint32_t number;
+
+    must("keeper_recovery_line", keeper_recovery_line(table(run), run->length, line, sizeof line, &written));
+    number = keeper_fall_back(table(run), run->length, other(run), KEEPER_LARGEST_TABLE, &written);
+    stepped(run, "keeper_fall_back", number, written);
+
+    printf("the run falls back:\n");
+    for (process = 0; process < n; process++)
+        printf("    process %u is restored from its checkpoint %u\n", process, (unsigned)number_at(line, process));
+    m = number_at(table(run), 1);
+    for (position = 0; position < m; position++) {
+        size_t receipt = 2 + n + 2 * (size_t)m + 2 * (size_t)position;
+        if (number_at(table(run), receipt + 1) == 0)
+            printf("    message %u is delivered again to process %u\n", position,
+                   (unsigned)number_at(table(run), receipt));
+    }
+}
+
+int main(void)
+{
+    static struct run run;
+    static const uint16_t first[] = {0}, later[] = {1, 2};
+    size_t written = 0;
+    uint32_t number;
+
+    begin(&run, 2);
+    printf("a run of two processes begins, with checkpoint 0 of each\n");
+    send_message(&run, 0, 1);
+    save_checkpoint(&run, 1, first, 1);
+    save_checkpoint(&run, 0, NULL, 0);
+    print_sheet(&run);
+
+    send_message(&run, 1, 0);
+    save_checkpoint(&run, 1, NULL, 0);
+    send_message(&run, 1, 0);
+    save_checkpoint(&run, 0, later, 2);
+    print_sheet(&run);
+
+    /* A step that can't be made: the number says why, and nothing is changed. */
+    number = keeper_send(table(&run), run.length, 0, 0, other(&run), KEEPER_LARGEST_TABLE, &written);
+    if (number != KEEPER_SEND_TO_ITSELF) {
+        fprintf(stderr, "first_run: a send of process 0 to itself answered %u\n", (unsigned)number);
+        return 1;
+    }
+    printf("process 0 can't send to itself: refused by %u\n", (unsigned)number);
+
+    fall_back(&run);
+    print_sheet(&run);
+    return 0;
+}
