@@ -236,8 +236,9 @@ tools-tests: tools
 	@awk '/^test result/ { n += $$4 } END { print n " tests of the command keeper passed" }' target/tests/tools.log
 
 # The examples. first_run.c: its output is the expected one. The run that discards: its tests, in which every store
-# that deletes too much is found, and then further seeds.
+# that deletes too much is found, and then further seeds, in a temporary folder that is removed whatever happens.
 DISCARDING = target/cargo/release/discarding --steps 20000
+in_folder = folder=$$(mktemp -d) || exit 1; trap 'rm -rf "$$folder"' EXIT; trap 'exit 1' HUP INT TERM;
 examples-tests: archives need-gcc need-cargo discarding
 	@mkdir -p target/tests
 	@gcc -std=c11 -Wall -Wextra -Werror -pedantic -Iinclude -o target/tests/first_run examples/first_run.c target/staticlib/libkeeper.a
@@ -254,9 +255,6 @@ soak: archives need-cargo discarding
 
 discarding: archives need-cargo
 	@cd examples/discarding && $(CARGO) build --release --target-dir ../../target/cargo
-
-# Before a command: a temporary folder, $$folder, that is removed whatever happens.
-in_folder = folder=$$(mktemp -d) || exit 1; trap 'rm -rf "$$folder"' EXIT; trap 'exit 1' HUP INT TERM;
 
 # What changed from the commit BASE to HEAD, in Markdown. Both are proved RUNS times from nothing, a quarter of an
 # hour for two times; TIMES=no leaves that out, and CRATES="a b" proves these alone, with the crates below them.

@@ -120,7 +120,7 @@ struct Sweep {
     steps: usize,
 }
 
-/// Of one run, by identity.
+/// Of one run, by identity: what a sheet listed, and what a fall back read.
 #[derive(Default)]
 struct Needs {
     listed: HashSet<u64>,

@@ -2,7 +2,7 @@
 
 use std::path::Path;
 
-use keeper::{Refusal, Table};
+use keeper::Table;
 
 use crate::chance::{mixed, Chance};
 use crate::failure::Failure;
@@ -109,7 +109,8 @@ impl<P: Policy> Run<P> {
         };
         for process in 0..processes as u16 {
             run.processes.push(Process::default());
-            run.store_checkpoint(process, 0)?;
+            let (identity, contents) = run.write_checkpoint(process, 0)?;
+            run.note_checkpoint(process, identity, &contents);
         }
         Ok(run)
     }
@@ -137,9 +138,10 @@ impl<P: Policy> Run<P> {
         self.stock.next - 1
     }
 
-    /// Stores the process's state as it is, under the number of the table's next
-    /// checkpoint of it. Contents are stored before the table has their entry.
-    fn store_checkpoint(&mut self, process: u16, number: u16) -> Result<(), Failure> {
+    /// Writes the file of a checkpoint of the process as it is: its identity and
+    /// contents. Contents are written before the table has their entry, so that
+    /// no entry is ever without them.
+    fn write_checkpoint(&mut self, process: u16, number: u16) -> Result<(u64, Vec<u8>), Failure> {
         let identity = self.new_identity();
         let head = format!("run {} process {process} checkpoint {identity}", self.name);
         let contents = self.processes[usize::from(process)].state.contents(head);
@@ -149,9 +151,13 @@ impl<P: Policy> Run<P> {
             identity,
         };
         self.store.write(thing, &contents)?;
+        Ok((identity, contents))
+    }
+
+    /// The table has the checkpoint.
+    fn note_checkpoint(&mut self, process: u16, identity: u64, contents: &[u8]) {
         self.stock.checkpoints[usize::from(process)].push(identity);
-        self.record.saved(process, identity, &contents);
-        Ok(())
+        self.record.saved(process, identity, contents);
     }
 
     pub fn send(&mut self, from: u16, to: u16) -> Result<(), Failure> {
@@ -189,10 +195,6 @@ impl<P: Policy> Run<P> {
     }
 
     pub fn save(&mut self, process: u16) -> Result<(), Failure> {
-        let number = self.stock.table.count(process);
-        if usize::from(number) == keeper::MOST_CHECKPOINTS {
-            return Err(Refusal::TableFull.into());
-        }
         let saver = &mut self.processes[usize::from(process)];
         let taken = std::mem::take(&mut saver.taken);
         saver.has_just_saved = true;
@@ -201,8 +203,10 @@ impl<P: Policy> Run<P> {
             .filter(|(_, identity)| taken.contains(identity))
             .map(|(position, _)| position)
             .collect();
-        self.store_checkpoint(process, number)?;
+        let number = self.stock.table.count(process);
+        let (identity, contents) = self.write_checkpoint(process, number)?;
         self.stock.table.save(process, &positions)?;
+        self.note_checkpoint(process, identity, &contents);
         Ok(())
     }
 
