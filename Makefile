@@ -247,7 +247,7 @@ examples-tests: archives need-gcc need-cargo discarding
 	@echo "examples/first_run.c prints what is expected"
 	@cd examples/discarding && $(CARGO) test --release --target-dir ../../target/cargo >../../target/tests/discarding.log 2>&1 || { cat ../../target/tests/discarding.log; exit 1; }
 	@awk '/^test result/ { n += $$4 } END { print n " tests of the run that discards passed" }' target/tests/discarding.log
-	@$(in_folder) $(DISCARDING) --seed 11 --seeds 4 --folder "$$folder"
+	@$(in_folder) $(DISCARDING) --seed 11 --seeds 2 --folder "$$folder"
 
 SOAK_SECONDS = 60
 soak: archives need-cargo discarding
