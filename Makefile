@@ -21,6 +21,9 @@ SHELL := /bin/sh
 .PHONY: refusal-tests rust-lint binding-tests differential-tests differential-faults fuzz fuzz-tools fuzz-replay bench
 .PHONY: change-report report-tests version-tests examples-tests discarding soak clean
 
+# make by another name: lines that name $(MAKE) itself are run by `make -n` too.
+THIS_MAKE := $(MAKE)
+
 help:
 	@sed -n 's/^# \(make .*\)/\1/p' Makefile
 
@@ -165,12 +168,12 @@ uninstall:
 
 # Installs into a temporary folder, uses what stands there, and uninstalls.
 install-test: need-gcc archives program tools
-	@MAKE='$(MAKE)' sh tests/install/run.sh
+	@MAKE='$(THIS_MAKE)' sh tests/install/run.sh
 
 # The listing program over the corpus of tables, whose listings are the second implementation's.
 corpus-tests: program
 	@sh tests/corpus/run.sh target/bin/listing
-	@MAKE='$(MAKE)' sh tests/corpus/list.sh
+	@MAKE='$(THIS_MAKE)' sh tests/corpus/list.sh
 
 # The layout of all Rust code, and clippy with no warning let through. Each is left out, in a line, where it is not there.
 RUST_FOLDERS := $(patsubst %/Cargo.toml,%,$(sort $(shell find bench bindings examples fuzz tests tools -name target -prune -o -name Cargo.toml -print)))

@@ -8,17 +8,10 @@
 
 #include "keeper.h"
 
-/* The numbers of tables and answers have 16 bits, low byte first. A place counts numbers, not bytes. */
-static uint16_t number_at(const uint8_t *bytes, size_t place)
-{
-    return (uint16_t)(bytes[2 * place] | bytes[2 * place + 1] << 8);
-}
+/* Places in a table and a sheet, in bytes (docs/MANUAL.md, "The run table", "The keep sheet"). */
+static size_t count_at(size_t process) { return 4 + 2 * process; }
 
-static void put_number(uint8_t *bytes, size_t place, uint16_t number)
-{
-    bytes[2 * place] = (uint8_t)(number & 0xff);
-    bytes[2 * place + 1] = (uint8_t)(number >> 8);
-}
+static size_t receipt_at(size_t n, size_t m, size_t position) { return 4 + 2 * n + 4 * m + 4 * position; }
 
 /* A run: its table, and a second buffer, since a step reads one table and writes another. */
 struct run {
@@ -35,7 +28,7 @@ static uint8_t *other(struct run *run) { return run->buffer[1 - run->now]; }
 static void must(const char *call, uint32_t number)
 {
     if (number != KEEPER_OK) {
-        fprintf(stderr, "first_run: %s was refused: %u\n", call, (unsigned)number);
+        fprintf(stderr, "first_run: %s: refused %u: %s\n", call, (unsigned)number, keeper_refusal_words(number));
         exit(1);
     }
 }
@@ -57,17 +50,17 @@ static void begin(struct run *run, uint16_t n)
     run->now = 0;
     run->length = KEEPER_TABLE_SIZE(n, 0);
     first = run->buffer[0];
-    put_number(first, 0, n); /* N */
-    put_number(first, 1, 0); /* M */
+    keeper_put_u16(first, 0, n); /* N */
+    keeper_put_u16(first, 2, 0); /* M */
     for (p = 0; p < n; p++)
-        put_number(first, 2 + (size_t)p, 1); /* the counts */
+        keeper_put_u16(first, count_at(p), 1);
     must("keeper_check_table", keeper_check_table(table(run), run->length));
 }
 
 static void send_message(struct run *run, uint16_t from, uint16_t to)
 {
     size_t written = 0;
-    unsigned position = number_at(table(run), 1);
+    unsigned position = keeper_u16_at(table(run), 2);
     uint32_t number = keeper_send(table(run), run->length, from, to, other(run), KEEPER_LARGEST_TABLE, &written);
 
     stepped(run, "keeper_send", number, written);
@@ -78,7 +71,7 @@ static void send_message(struct run *run, uint16_t from, uint16_t to)
 static void save_checkpoint(struct run *run, uint16_t process, const uint16_t *list, size_t list_length)
 {
     size_t k, written = 0;
-    unsigned checkpoint = number_at(table(run), 2 + (size_t)process);
+    unsigned checkpoint = keeper_u16_at(table(run), count_at(process));
     uint32_t number = keeper_save(table(run), run->length, process, list, list_length, other(run),
                                   KEEPER_LARGEST_TABLE, &written);
 
@@ -91,20 +84,20 @@ static void save_checkpoint(struct run *run, uint16_t process, const uint16_t *l
 
 static int is_kept_checkpoint(const uint8_t *sheet, unsigned process, unsigned number)
 {
-    size_t at, k = number_at(sheet, 0);
+    size_t at, k = keeper_u16_at(sheet, 0);
 
-    for (at = 0; at < k; at++)
-        if (number_at(sheet, 2 + at) == process && number_at(sheet, 2 + k + at) == number)
+    for (at = 4; at < 4 + 2 * k; at += 2)
+        if (keeper_u16_at(sheet, at) == process && keeper_u16_at(sheet, at + 2 * k) == number)
             return 1;
     return 0;
 }
 
 static int is_kept_message(const uint8_t *sheet, unsigned position)
 {
-    size_t at, k = number_at(sheet, 0), q = number_at(sheet, 1);
+    size_t at, k = keeper_u16_at(sheet, 0), q = keeper_u16_at(sheet, 2);
 
-    for (at = 0; at < q; at++)
-        if (number_at(sheet, 2 + 2 * k + at) == position)
+    for (at = 4 + 4 * k; at < KEEPER_SHEET_SIZE(k, q); at += 2)
+        if (keeper_u16_at(sheet, at) == position)
             return 1;
     return 0;
 }
@@ -117,13 +110,13 @@ static void print_sheet(const struct run *run)
     static uint8_t sheet[KEEPER_SHEET_ROOM];
     size_t written = 0;
     unsigned process, number, position;
-    unsigned n = number_at(table(run), 0), m = number_at(table(run), 1);
+    unsigned n = keeper_u16_at(table(run), 0), m = keeper_u16_at(table(run), 2);
 
     must("keeper_keep_sheet", keeper_keep_sheet(table(run), run->length, scratch, KEEPER_SCRATCH_NUMBERS, sheet,
                                                 sizeof sheet, &written));
     printf("the sheet, %u bytes:\n", (unsigned)written);
     for (process = 0; process < n; process++)
-        for (number = 0; number < number_at(table(run), 2 + (size_t)process); number++)
+        for (number = 0; number < keeper_u16_at(table(run), count_at(process)); number++)
             printf("    %s checkpoint %u of process %u\n",
                    is_kept_checkpoint(sheet, process, number) ? "keep   " : "discard", number, process);
     for (position = 0; position < m; position++)
@@ -136,7 +129,7 @@ static void fall_back(struct run *run)
 {
     uint8_t line[KEEPER_LARGEST_LINE];
     size_t written = 0;
-    unsigned process, position, n = number_at(table(run), 0), m;
+    unsigned process, position, n = keeper_u16_at(table(run), 0), m;
     uint32_t number;
 
     must("keeper_recovery_line", keeper_recovery_line(table(run), run->length, line, sizeof line, &written));
@@ -145,13 +138,13 @@ static void fall_back(struct run *run)
 
     printf("the run falls back:\n");
     for (process = 0; process < n; process++)
-        printf("    process %u is restored from its checkpoint %u\n", process, (unsigned)number_at(line, process));
-    m = number_at(table(run), 1);
+        printf("    process %u is restored from its checkpoint %u\n", process, (unsigned)keeper_u16_at(line, 2 * (size_t)process));
+    m = keeper_u16_at(table(run), 2);
     for (position = 0; position < m; position++) {
-        size_t receipt = 2 + n + 2 * (size_t)m + 2 * (size_t)position;
-        if (number_at(table(run), receipt + 1) == 0)
+        size_t receipt = receipt_at(n, m, position);
+        if (keeper_u16_at(table(run), receipt + 2) == 0)
             printf("    message %u is delivered again to process %u\n", position,
-                   (unsigned)number_at(table(run), receipt));
+                   (unsigned)keeper_u16_at(table(run), receipt));
     }
 }
 
@@ -181,7 +174,7 @@ int main(void)
         fprintf(stderr, "first_run: a send of process 0 to itself answered %u\n", (unsigned)number);
         return 1;
     }
-    printf("process 0 can't send to itself: refused by %u\n", (unsigned)number);
+    printf("process 0 can't send to itself: refused %u: %s\n", (unsigned)number, keeper_refusal_words(number));
 
     fall_back(&run);
     print_sheet(&run);
