@@ -1,9 +1,15 @@
 //! The command `keeper`: run tables as text, steps, lines, listings and
 //! diagrams. All that is said of a table is the proved libraries' answer; here
 //! are its forms on paper: text, arguments and pictures.
+#![forbid(unsafe_code)]
 
+pub mod arguments;
 pub mod command;
 pub mod draw;
+pub mod explain;
+pub mod input;
 pub mod layout;
+pub mod output;
 pub mod run;
 pub mod text;
+pub mod usage;

@@ -1,4 +1,5 @@
 //! `keeper`: see `keeper --help`.
+#![forbid(unsafe_code)]
 
 use std::process::ExitCode;
 

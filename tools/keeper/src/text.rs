@@ -15,6 +15,8 @@ use std::fmt::{self, Write};
 
 use keeper::{run_table, Refusal};
 
+use crate::explain::{self, Culprit};
+
 /// Where a text leaves the form, and what the form has there.
 #[derive(Debug, PartialEq, Eq)]
 pub struct SyntaxError {
@@ -48,27 +50,10 @@ impl Read {
         match refusal {
             Refusal::ProcessesOutOfRange => Some(self.processes_line),
             Refusal::TooManyMessages => self.message_lines.get(keeper::MOST_MESSAGES).copied(),
-            Refusal::CountOutOfRange => Some(self.states_line),
-            Refusal::UnknownProcessInMessage
-            | Refusal::MessageToItsSender
-            | Refusal::SendNumberTooHigh
-            | Refusal::ReceiptNumberTooHigh => {
-                // The first message that the library refuses so where it
-                // stands alone.
-                let n = usize::from(run_table::processes(&self.table));
-                let head = &self.table[4..4 + 2 * n];
-                let (sends, receipts) =
-                    self.table[4 + 2 * n..].split_at(4 * self.message_lines.len());
-                let first = sends
-                    .chunks(4)
-                    .zip(receipts.chunks(4))
-                    .position(|(send, receipt)| {
-                        let alone = [&self.table[..2], &[1, 0], head, send, receipt].concat();
-                        keeper::check_table(&alone) == Err(refusal)
-                    });
-                first.map(|k| self.message_lines[k])
-            }
-            _ => None,
+            _ => match explain::culprit(&self.table, refusal)? {
+                Culprit::Process(_) => Some(self.states_line),
+                Culprit::Message(k) => self.message_lines.get(k).copied(),
+            },
         }
     }
 }
@@ -169,6 +154,23 @@ impl Line<'_> {
             false => self.error(format!("the end of the line after {after}")),
         }
     }
+}
+
+/// Whether bytes begin as a text does: with `processes`, after blanks and
+/// comments.
+pub fn looks_like_text(bytes: &[u8]) -> bool {
+    let bytes = bytes.strip_prefix(b"\xef\xbb\xbf").unwrap_or(bytes);
+    bytes
+        .split(|byte| *byte == b'\n')
+        .map(<[u8]>::trim_ascii)
+        .find(|line| !line.is_empty() && !line.starts_with(b"#"))
+        .is_some_and(|line| line.starts_with(b"processes"))
+}
+
+/// Whether bytes are a table rather than a text: an accepted one, or bytes of 0
+/// among them, which no text has outside of comments.
+pub fn looks_like_table(bytes: &[u8]) -> bool {
+    keeper::check_table(bytes).is_ok() || bytes.contains(&0)
 }
 
 /// Reads a text.

@@ -7,7 +7,7 @@ mod xml;
 use std::fs;
 use std::path::PathBuf;
 
-use common::{bytes, corpus, done, example_a, fails, refused, Random};
+use common::{bytes, corpus, done, example_a, fails, refused, refuses, Random};
 use keeper_command::draw::draw;
 use keeper_command::layout::{self, Scale};
 use keeper_command::run::Run;
@@ -353,13 +353,13 @@ fn draw_as_a_subcommand() {
         &["draw", "--hold", "2"],
         &a,
         1,
-        "refused 12: a set has a bit at N or above",
+        "refused 12: there is no process 2 (N is 2)",
     );
     fails(
         &["draw"],
         &a[..47],
         1,
-        "(standard input): refused 4: the length differs from 4 + 2N + 8M",
+        "(standard input): refused 4: the table has 47 bytes, and 48 are needed for N = 2 and M = 5",
     );
     let message = "`32`: a process that holds is numbered 0 to 31 (see `keeper draw --help`)";
     fails(&["draw", "--hold", "32"], &a, 2, message);
@@ -367,7 +367,7 @@ fn draw_as_a_subcommand() {
         &["draw", "--hold"],
         &a,
         2,
-        "--hold needs a process (see `keeper draw --help`)",
+        "--hold needs PROCESS (see `keeper draw --help`)",
     );
     fails(
         &["draw", "--hold", "x"],
@@ -385,7 +385,7 @@ fn draw_as_a_subcommand() {
         &["draw", "--title"],
         &a,
         2,
-        "--title needs a title (see `keeper draw --help`)",
+        "--title needs TITLE (see `keeper draw --help`)",
     );
     fails(
         &["draw", "--text-out"],
@@ -401,13 +401,7 @@ fn draw_as_a_subcommand() {
     );
     for case in corpus() {
         if let Some(number) = refused(&case.listing) {
-            let refusal = keeper::Refusal::from_number(number).expect("a refusal's number");
-            fails(
-                &["draw", &case.path],
-                b"",
-                1,
-                &format!("{}: {refusal}", case.path),
-            );
+            refuses(&["draw", &case.path], b"", number, &case.path);
         }
     }
     // The largest run is drawn, too.

@@ -2,7 +2,7 @@
 
 mod common;
 
-use common::{bytes, corpus, done, example_a, fails, keeper, refused, Random};
+use common::{bytes, corpus, done, example_a, fails, keeper, refused, refuses, Random};
 use keeper_command::text;
 
 const TEXT_OF_A: &str = "\
@@ -93,24 +93,19 @@ fn errors_with_line_and_column() {
 #[test]
 fn refused_texts_and_their_lines() {
     let cases = [
-        ("# none\nprocesses 0\nstates\n", ":2", 2),
-        (&format!("processes 33\nstates{}\n", " 1".repeat(33)), ":1", 2),
-        (&format!("processes 2\nstates 1 1\n\n{}", "message 0.0 -> 1 waiting\n".repeat(4097)), ":4100", 3),
-        ("processes 2\n\nstates 3 0\n", ":3", 5),
-        ("processes 1\nstates 4097\n", ":2", 5),
-        ("processes 2\nstates 3 3\nmessage 0.0 -> 1.1\n#\nmessage 0.0 -> 2.1\nmessage 3.0 -> 1.1\n", ":5", 6),
-        ("processes 2\nstates 3 3\nmessage 0.3 -> 1.1\nmessage 1.0 -> 1 waiting\n", ":4", 7),
-        ("processes 2\nstates 3 3\nmessage 0.0 -> 1.3\nmessage 0.3 -> 1.1\n", ":4", 8),
-        ("processes 2\nstates 3 4\nmessage 0.0 -> 1.3\nmessage 0.2 -> 1.4\nmessage 0.2 -> 1.5\n", ":4", 9),
+        ("# none\nprocesses 0\nstates\n", ":2", "2: N is 0, and must be 1 to 32"),
+        (&format!("processes 33\nstates{}\n", " 1".repeat(33)), ":1", "2: N is 33, and must be 1 to 32"),
+        (&format!("processes 2\nstates 1 1\n\n{}", "message 0.0 -> 1 waiting\n".repeat(4097)), ":4100", "3: M is 4097, and 4096 at most"),
+        ("processes 2\n\nstates 3 0\n", ":3", "5: process 1 has 0 checkpoints, and must have 1 to 4096"),
+        ("processes 1\nstates 4097\n", ":2", "5: process 0 has 4097 checkpoints, and must have 1 to 4096"),
+        ("processes 2\nstates 3 3\nmessage 0.0 -> 1.1\n#\nmessage 0.0 -> 2.1\nmessage 3.0 -> 1.1\n", ":5", "6: message 1 is for process 2, and N is 2"),
+        ("processes 2\nstates 3 3\nmessage 0.3 -> 1.1\nmessage 1.0 -> 1 waiting\n", ":4", "7: message 1 is from process 1 to itself"),
+        ("processes 2\nstates 3 3\nmessage 0.0 -> 1.3\nmessage 0.3 -> 1.1\n", ":4", "8: message 1 has send number 3, and process 0 has 3 checkpoints"),
+        ("processes 2\nstates 3 4\nmessage 0.0 -> 1.3\nmessage 0.2 -> 1.4\nmessage 0.2 -> 1.5\n", ":4", "9: message 1 has receipt number 4, and process 1 has 4 checkpoints"),
     ];
-    for (text, place, number) in cases {
-        let refusal = keeper::Refusal::from_number(number).expect("a refusal's number");
-        fails(
-            &["encode"],
-            text.as_bytes(),
-            1,
-            &format!("(standard input){place}: {refusal}"),
-        );
+    for (text, place, words) in cases {
+        let message = format!("(standard input){place}: refused {words}");
+        fails(&["encode"], text.as_bytes(), 1, &message);
     }
     // More messages than a table can count.
     let text = format!(
@@ -127,13 +122,7 @@ fn decode_then_encode_over_the_corpus() {
     for case in corpus() {
         match refused(&case.listing) {
             Some(number) => {
-                let refusal = keeper::Refusal::from_number(number).expect("a refusal's number");
-                fails(
-                    &["decode", &case.path],
-                    b"",
-                    1,
-                    &format!("{}: {refusal}", case.path),
-                );
+                refuses(&["decode", &case.path], b"", number, &case.path);
             }
             None => {
                 let text = done(&["decode", &case.path], b"");

@@ -62,6 +62,19 @@ pub fn fails(arguments: &[&str], input: &[u8], status: i32, message: &str) {
     assert_eq!((ran.status, ran.output), (status, vec![]), "{arguments:?}");
 }
 
+/// Runs the command and wants the table refused by that number, with words, and
+/// no output.
+pub fn refuses(arguments: &[&str], input: &[u8], number: u32, place: &str) {
+    let ran = keeper(arguments, input);
+    let message = format!("keeper: {place}: refused {number}: ");
+    let words = ran.errors.strip_prefix(&message);
+    assert!(
+        words.is_some_and(|words| words.len() > 5),
+        "{arguments:?}: {ran:?}"
+    );
+    assert_eq!((ran.status, ran.output), (1, vec![]), "{arguments:?}");
+}
+
 pub fn corpus_folder() -> PathBuf {
     PathBuf::from(env!("CARGO_MANIFEST_DIR")).join("../../tests/corpus")
 }

@@ -1,0 +1,304 @@
+//! Arguments, read by the rows of `usage`.
+
+use std::ffi::{OsStr, OsString};
+use std::fmt::Display;
+use std::os::unix::ffi::{OsStrExt, OsStringExt};
+
+use crate::command::Failure;
+use crate::usage::{self, Opt, Subcommand, Takes, Times};
+
+#[derive(Debug)]
+enum Value {
+    Nothing,
+    File(OsString),
+    Text(String),
+    Number(u16),
+    Numbers(Vec<u16>),
+    Word(&'static str),
+}
+
+/// The arguments of a subcommand. An option is asked for by its first name, an
+/// argument by the name that its row has.
+pub struct Arguments {
+    pub subcommand: &'static Subcommand,
+    values: Vec<(&'static str, Value)>,
+    pub file: Option<OsString>,
+}
+
+impl Arguments {
+    fn value(&self, name: &str) -> Option<&Value> {
+        let mut named = self.values.iter().filter(|(own, _)| *own == name);
+        named.next().map(|(_, value)| value)
+    }
+
+    /// Whether it was given.
+    pub fn has(&self, name: &str) -> bool {
+        self.value(name).is_some()
+    }
+
+    pub fn number(&self, name: &str) -> Option<u16> {
+        match self.value(name) {
+            Some(Value::Number(number)) => Some(*number),
+            _ => None,
+        }
+    }
+
+    /// What may be given any number of times, or with commas.
+    pub fn numbers(&self, name: &str) -> &[u16] {
+        match self.value(name) {
+            Some(Value::Numbers(numbers)) => numbers,
+            _ => &[],
+        }
+    }
+
+    /// One of the words that the row names.
+    pub fn word(&self, name: &str) -> Option<&'static str> {
+        match self.value(name) {
+            Some(Value::Word(word)) => Some(word),
+            _ => None,
+        }
+    }
+
+    pub fn text(&self, name: &str) -> Option<&str> {
+        match self.value(name) {
+            Some(Value::Text(text)) => Some(text),
+            _ => None,
+        }
+    }
+
+    /// The file behind an option.
+    pub fn file(&self, name: &str) -> Option<&OsStr> {
+        match self.value(name) {
+            Some(Value::File(file)) => Some(file),
+            _ => None,
+        }
+    }
+
+    /// An argument that its row has once.
+    pub fn the_number(&self, name: &str) -> u16 {
+        self.number(name).expect("the row has it once")
+    }
+
+    pub fn text_in(&self) -> bool {
+        self.has("--text-in") || self.has("--text")
+    }
+
+    pub fn text_out(&self) -> bool {
+        self.has("--text-out") || self.has("--text")
+    }
+}
+
+/// A failure of usage.
+pub fn wrong(subcommand: &Subcommand, what: impl Display) -> Failure {
+    Failure::trouble(format!("{what} (see `keeper {} --help`)", subcommand.name))
+}
+
+/// The arguments, or `None` where help is asked for.
+pub fn parse(
+    subcommand: &'static Subcommand,
+    arguments: Vec<OsString>,
+) -> Result<Option<Arguments>, Failure> {
+    let mut parsed = Arguments {
+        subcommand,
+        values: Vec::new(),
+        file: None,
+    };
+    let mut plain = Vec::new();
+    let mut rest = arguments.into_iter();
+    while let Some(argument) = rest.next() {
+        if argument == "--" {
+            plain.extend(rest.by_ref());
+            break;
+        }
+        if argument == "-" || !argument.as_bytes().starts_with(b"-") {
+            plain.push(argument);
+            continue;
+        }
+        let (name, attached) = split(argument);
+        let option = subcommand.option(&name).ok_or_else(|| {
+            let what = format_args!("{} has no option `{name}`", subcommand.name);
+            wrong(subcommand, what)
+        })?;
+        if option.names[0] == "--help" {
+            return Ok(None);
+        }
+        take(subcommand, &mut parsed, option, &name, attached, &mut rest)?;
+    }
+    positions(subcommand, &mut parsed, plain)?;
+    Ok(Some(parsed))
+}
+
+/// An option's name and what is attached to it: `--hold=1`, `-oFILE`.
+fn split(argument: OsString) -> (String, Option<OsString>) {
+    let bytes = argument.as_bytes();
+    let (name, attached) = if bytes.starts_with(b"--") {
+        match bytes.iter().position(|byte| *byte == b'=') {
+            Some(at) => (&bytes[..at], Some(&bytes[at + 1..])),
+            None => (bytes, None),
+        }
+    } else {
+        // A letter, of one byte or more.
+        let rest = &bytes[2.min(bytes.len())..];
+        let more = rest.iter().take_while(|next| **next & 0xc0 == 0x80).count();
+        let (name, rest) = bytes.split_at(bytes.len() - rest.len() + more);
+        (name, (!rest.is_empty()).then_some(rest))
+    };
+    (
+        String::from_utf8_lossy(name).into_owned(),
+        attached.map(|bytes| OsString::from_vec(bytes.to_vec())),
+    )
+}
+
+/// Takes an option with its value.
+fn take(
+    subcommand: &Subcommand,
+    parsed: &mut Arguments,
+    option: &Opt,
+    name: &str,
+    attached: Option<OsString>,
+    rest: &mut impl Iterator<Item = OsString>,
+) -> Result<(), Failure> {
+    if option.takes == Takes::Nothing {
+        if attached.is_some() {
+            return Err(match name.starts_with("--") {
+                true => wrong(subcommand, format_args!("{name} takes no value")),
+                false => wrong(subcommand, format_args!("{name} stands alone")),
+            });
+        }
+        parsed.values.push((option.names[0], Value::Nothing));
+        return Ok(());
+    }
+    let given = attached
+        .or_else(|| rest.next())
+        .ok_or_else(|| wrong(subcommand, format_args!("{name} needs {}", option.value)))?;
+    if parsed.has(option.names[0]) {
+        return Err(wrong(subcommand, format_args!("{name} stands twice")));
+    }
+    let value = value(subcommand, option.takes, given)?;
+    parsed.values.push((option.names[0], value));
+    Ok(())
+}
+
+fn value(subcommand: &Subcommand, takes: Takes, given: OsString) -> Result<Value, Failure> {
+    let text = |given: OsString| match given.into_string() {
+        Ok(text) => text,
+        Err(given) => given.to_string_lossy().into_owned(),
+    };
+    let one_of = |words: &[&'static str]| words.iter().copied().find(|word| given == *word);
+    Ok(match takes {
+        Takes::Nothing => Value::Nothing,
+        Takes::File => Value::File(given),
+        Takes::Text => Value::Text(text(given)),
+        Takes::Number => Value::Number(number(subcommand, &given)?),
+        Takes::Numbers => {
+            let parts = given.as_bytes().split(|byte| *byte == b',');
+            let numbers = parts.map(|part| number(subcommand, OsStr::from_bytes(part)));
+            Value::Numbers(numbers.collect::<Result<_, _>>()?)
+        }
+        Takes::NumberOr(words) => match one_of(words) {
+            Some(word) => Value::Word(word),
+            None if is_number(&given) => Value::Number(number(subcommand, &given)?),
+            None => {
+                let what = format_args!(
+                    "`{}` is neither a number nor {}",
+                    given.to_string_lossy(),
+                    listed(words)
+                );
+                return Err(wrong(subcommand, what));
+            }
+        },
+        Takes::OneOf(words) => Value::Word(one_of(words).ok_or_else(|| {
+            let shown = given.to_string_lossy();
+            wrong(
+                subcommand,
+                format_args!("`{shown}` is not {}", listed(words)),
+            )
+        })?),
+        Takes::Subcommand => {
+            let row = usage::subcommand(&given).ok_or_else(|| unknown(&given))?;
+            Value::Word(row.name)
+        }
+    })
+}
+
+/// The failure of a subcommand that is not there.
+pub fn unknown(name: &OsStr) -> Failure {
+    Failure::trouble(format!(
+        "there is no subcommand `{}` (see `keeper --help`)",
+        name.to_string_lossy()
+    ))
+}
+
+/// Words as they stand in a sentence: `bash` or `zsh`.
+fn listed(words: &[&str]) -> String {
+    let quoted: Vec<String> = words.iter().map(|word| format!("`{word}`")).collect();
+    quoted.join(" or ")
+}
+
+/// The arguments by their places, and FILE behind them.
+fn positions(
+    subcommand: &Subcommand,
+    parsed: &mut Arguments,
+    plain: Vec<OsString>,
+) -> Result<(), Failure> {
+    let mut plain = plain.into_iter().peekable();
+    for argument in subcommand.arguments {
+        match argument.times {
+            Times::Once => {
+                let given = plain.next().ok_or_else(|| missing(subcommand))?;
+                let value = value(subcommand, argument.takes, given)?;
+                parsed.values.push((argument.name, value));
+            }
+            Times::AtMostOnce => {
+                if let Some(given) = plain.next() {
+                    let value = value(subcommand, argument.takes, given)?;
+                    parsed.values.push((argument.name, value));
+                }
+            }
+            // FILE may stand next: an argument of digits alone is a number.
+            Times::Any => {
+                let mut numbers = Vec::new();
+                while let Some(given) = plain.next_if(|next| is_number(next)) {
+                    numbers.push(number(subcommand, &given)?);
+                }
+                parsed.values.push((argument.name, Value::Numbers(numbers)));
+            }
+        }
+    }
+    if subcommand.file {
+        parsed.file = plain.next();
+    }
+    match plain.next() {
+        None => Ok(()),
+        Some(argument) => {
+            let what = format_args!("one argument too many: `{}`", argument.to_string_lossy());
+            Err(wrong(subcommand, what))
+        }
+    }
+}
+
+/// The failure where an argument is missing.
+fn missing(subcommand: &Subcommand) -> Failure {
+    let needed = subcommand
+        .arguments
+        .iter()
+        .filter(|argument| argument.times == Times::Once)
+        .map(|argument| argument.name);
+    let needed: Vec<&str> = needed.collect();
+    let what = format_args!("{} needs {}", subcommand.name, needed.join(" and "));
+    wrong(subcommand, what)
+}
+
+fn is_number(argument: &OsStr) -> bool {
+    let bytes = argument.as_bytes();
+    !bytes.is_empty() && bytes.iter().all(u8::is_ascii_digit)
+}
+
+fn number(subcommand: &Subcommand, argument: &OsStr) -> Result<u16, Failure> {
+    let shown = argument.to_string_lossy();
+    let parsed = is_number(argument).then(|| shown.parse().ok()).flatten();
+    parsed.ok_or_else(|| {
+        let what = format_args!("`{shown}` is not a number from 0 to 65535");
+        wrong(subcommand, what)
+    })
+}

@@ -1,0 +1,217 @@
+//! Refusals in the words of the caller: which process, which message, which
+//! numbers. That a call is refused, and by which number, is the library's
+//! answer; here is looked up what caught.
+
+use keeper::{run_table, Refusal};
+
+/// A call on a table, with its arguments as the caller named them.
+pub enum Call<'a> {
+    /// One that has no others.
+    Table,
+    Send {
+        from: u16,
+        to: u16,
+    },
+    Save {
+        process: u16,
+        list: &'a [u16],
+    },
+    /// The line of these processes.
+    Hold(&'a [u16]),
+}
+
+/// `refused`, the number, and what caught.
+pub fn refusal(table: &[u8], call: &Call, refusal: Refusal) -> String {
+    format!(
+        "refused {}: {}",
+        refusal.number(),
+        words(table, call, refusal)
+    )
+}
+
+/// What caught; the words of the refusal where nothing more is known.
+pub fn words(table: &[u8], call: &Call, refusal: Refusal) -> String {
+    let found = match refusal.is_of_table() {
+        true => in_table(table, refusal),
+        false => in_call(table, call, refusal),
+    };
+    found.unwrap_or_else(|| refusal.words().to_string())
+}
+
+/// What in a table is to blame for a refusal by one of the table's checks.
+#[derive(Debug, PartialEq, Eq)]
+pub enum Culprit {
+    Process(usize),
+    Message(usize),
+}
+
+/// The first process or message that the library refuses so where it stands
+/// alone.
+pub fn culprit(table: &[u8], refusal: Refusal) -> Option<Culprit> {
+    let (n, m) = sizes(table);
+    let counts_at = 4;
+    let (sends_at, receipts_at) = (counts_at + 2 * n, counts_at + 2 * n + 4 * m);
+    match refusal {
+        Refusal::CountOutOfRange => {
+            let mut counts = table.get(counts_at..sends_at)?.chunks(2);
+            let alone = |count: &[u8]| [&[1, 0, 0, 0], count].concat();
+            counts
+                .position(|count| keeper::check_table(&alone(count)) == Err(refusal))
+                .map(Culprit::Process)
+        }
+        Refusal::UnknownProcessInMessage
+        | Refusal::MessageToItsSender
+        | Refusal::SendNumberTooHigh
+        | Refusal::ReceiptNumberTooHigh => {
+            let (n_and_counts, entries) = (&table[..2], table.get(counts_at..sends_at)?);
+            let sends = table.get(sends_at..receipts_at)?.chunks(4);
+            let receipts = table.get(receipts_at..)?.chunks(4);
+            let alone = |send: &[u8], receipt: &[u8]| {
+                [n_and_counts, &[1, 0], entries, send, receipt].concat()
+            };
+            sends
+                .zip(receipts)
+                .position(|(send, receipt)| {
+                    keeper::check_table(&alone(send, receipt)) == Err(refusal)
+                })
+                .map(Culprit::Message)
+        }
+        _ => None,
+    }
+}
+
+fn sizes(table: &[u8]) -> (usize, usize) {
+    (
+        run_table::processes(table).into(),
+        run_table::messages(table).into(),
+    )
+}
+
+fn in_table(table: &[u8], refusal: Refusal) -> Option<String> {
+    let ((n, m), length) = (sizes(table), table.len());
+    match refusal {
+        Refusal::TableTooShort if length == 0 => return Some("the table is empty".to_string()),
+        Refusal::TableTooShort => {
+            let bytes = plural(length, "byte");
+            return Some(format!("the table has {bytes}, and needs 4 at least"));
+        }
+        Refusal::ProcessesOutOfRange => return Some(format!("N is {n}, and must be 1 to 32")),
+        Refusal::TooManyMessages => return Some(format!("M is {m}, and 4096 at most")),
+        Refusal::WrongLength => {
+            let has = match length > keeper::LARGEST_TABLE {
+                true => format!("more than {} bytes", keeper::LARGEST_TABLE),
+                false => plural(length, "byte"),
+            };
+            let needed = 4 + 2 * n + 8 * m;
+            return Some(format!(
+                "the table has {has}, and {needed} are needed for N = {n} and M = {m}"
+            ));
+        }
+        _ => (),
+    }
+    Some(match culprit(table, refusal)? {
+        Culprit::Process(p) => {
+            let count = usize::from(run_table::count(table, p));
+            let has = plural(count, "checkpoint");
+            format!("process {p} has {has}, and must have 1 to 4096")
+        }
+        Culprit::Message(k) => {
+            let (sender, sent) = (run_table::sender(table, k), run_table::sent(table, k));
+            let (receiver, received) =
+                (run_table::receiver(table, k), run_table::received(table, k));
+            let has = |process: u16| {
+                let count = run_table::count(table, process.into());
+                format!(
+                    "process {process} has {}",
+                    plural(count.into(), "checkpoint")
+                )
+            };
+            match refusal {
+                Refusal::UnknownProcessInMessage if usize::from(sender) >= n => {
+                    format!("message {k} is from process {sender}, and N is {n}")
+                }
+                Refusal::UnknownProcessInMessage => {
+                    format!("message {k} is for process {receiver}, and N is {n}")
+                }
+                Refusal::MessageToItsSender => {
+                    format!("message {k} is from process {sender} to itself")
+                }
+                Refusal::SendNumberTooHigh => {
+                    format!("message {k} has send number {sent}, and {}", has(sender))
+                }
+                Refusal::ReceiptNumberTooHigh => {
+                    format!(
+                        "message {k} has receipt number {received}, and {}",
+                        has(receiver)
+                    )
+                }
+                _ => return None,
+            }
+        }
+    })
+}
+
+fn in_call(table: &[u8], call: &Call, refusal: Refusal) -> Option<String> {
+    let (n, m) = sizes(table);
+    let unknown = |named: &[u16]| {
+        let process = named.iter().find(|process| usize::from(**process) >= n)?;
+        Some(format!("there is no process {process} (N is {n})"))
+    };
+    match (refusal, call) {
+        (Refusal::UnknownProcess, Call::Send { from, to }) => unknown(&[*from, *to]),
+        (Refusal::UnknownProcess, Call::Save { process, .. }) => unknown(&[*process]),
+        (Refusal::UnknownProcessInSet, Call::Hold(processes)) => unknown(processes),
+        (Refusal::SendToItself, Call::Send { from, .. }) => {
+            Some(format!("process {from} does not send to itself"))
+        }
+        (Refusal::BadList, Call::Save { process, list }) => in_list(table, *process, list),
+        (Refusal::TableFull, Call::Send { .. }) => {
+            Some(format!("the table has {m} messages, and takes no more"))
+        }
+        (Refusal::TableFull, Call::Save { process, .. }) => {
+            let count = run_table::count(table, (*process).into());
+            Some(format!(
+                "process {process} has {count} checkpoints, and takes no more"
+            ))
+        }
+        _ => None,
+    }
+}
+
+/// What is the matter with a save's list: the first position that is not right.
+fn in_list(table: &[u8], process: u16, list: &[u16]) -> Option<String> {
+    let (_, m) = sizes(table);
+    for (place, position) in list.iter().enumerate() {
+        let k = usize::from(*position);
+        if k >= m {
+            return Some(match m {
+                0 => format!("message {k}: there are none (M is 0)"),
+                _ => format!("message {k}: there are only {m} (M is {m})"),
+            });
+        }
+        if let Some(before) = list[..place].last().filter(|before| *before >= position) {
+            return Some(format!("positions rise: {k} does not follow {before}"));
+        }
+        let receiver = run_table::receiver(table, k);
+        if receiver != process {
+            return Some(format!(
+                "message {k} does not wait for process {process}: it is for process {receiver}"
+            ));
+        }
+        let received = run_table::received(table, k);
+        if received != 0 {
+            return Some(format!(
+                "message {k} does not wait for process {process}: it was received before checkpoint {received}"
+            ));
+        }
+    }
+    None
+}
+
+/// A number of things.
+pub fn plural(number: usize, what: &str) -> String {
+    match number {
+        1 => format!("1 {what}"),
+        _ => format!("{number} {what}s"),
+    }
+}
