@@ -6,6 +6,7 @@ use std::os::unix::ffi::{OsStrExt, OsStringExt};
 
 use crate::command::Failure;
 use crate::usage::{self, Opt, Subcommand, Takes, Times};
+use crate::why::Item;
 
 #[derive(Debug)]
 enum Value {
@@ -15,6 +16,7 @@ enum Value {
     Number(u16),
     Numbers(Vec<u16>),
     Word(&'static str),
+    Item(Item),
 }
 
 /// The arguments of a subcommand. An option is asked for by its first name, an
@@ -66,7 +68,7 @@ impl Arguments {
         }
     }
 
-    /// The file behind an option.
+    /// A file that is no FILE: an option's, or an argument.
     pub fn file(&self, name: &str) -> Option<&OsStr> {
         match self.value(name) {
             Some(Value::File(file)) => Some(file),
@@ -77,6 +79,14 @@ impl Arguments {
     /// An argument that its row has once.
     pub fn the_number(&self, name: &str) -> u16 {
         self.number(name).expect("the row has it once")
+    }
+
+    /// An item that its row has once.
+    pub fn item(&self, name: &str) -> Item {
+        match self.value(name) {
+            Some(Value::Item(item)) => *item,
+            _ => unreachable!("the row has it once"),
+        }
     }
 
     pub fn text_in(&self) -> bool {
@@ -214,6 +224,16 @@ fn value(subcommand: &Subcommand, takes: Takes, given: OsString) -> Result<Value
                 format_args!("`{shown}` is not {}", listed(words)),
             )
         })?),
+        Takes::Item => {
+            let item = given.to_str().and_then(Item::read);
+            Value::Item(item.ok_or_else(|| {
+                let shown = given.to_string_lossy();
+                let what = format_args!(
+                    "`{shown}` is neither a checkpoint, such as 1.2, nor a message, such as m4"
+                );
+                wrong(subcommand, what)
+            })?)
+        }
         Takes::Subcommand => {
             let row = usage::subcommand(&given).ok_or_else(|| unknown(&given))?;
             Value::Word(row.name)

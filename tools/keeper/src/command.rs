@@ -1,10 +1,11 @@
 //! The subcommands, their failures and exit statuses.
 
-use std::ffi::OsString;
+use std::ffi::{OsStr, OsString};
+use std::fmt;
 use std::io::{self, Write};
 use std::process::ExitCode;
 
-use keeper::Refusal;
+use keeper::{FellBack, Refusal, Table};
 
 use crate::arguments::{self, Arguments};
 use crate::explain::Call;
@@ -12,7 +13,7 @@ use crate::input::Input;
 use crate::output::put;
 use crate::run::Run;
 use crate::usage::{self, Subcommand, Work};
-use crate::{draw, text};
+use crate::{completion, draw, json, text};
 
 /// Why nothing, or not all, was done.
 pub struct Failure {
@@ -48,6 +49,14 @@ impl Failure {
             status: 141,
             message: None,
             answer: None,
+        }
+    }
+
+    /// Behind the place where it happened.
+    pub fn at(self, place: impl fmt::Display) -> Failure {
+        Failure {
+            message: self.message.map(|message| format!("{place}: {message}")),
+            ..self
         }
     }
 
@@ -95,58 +104,78 @@ fn dispatch(mut arguments: Vec<OsString>) -> Result<(), Failure> {
     }
 }
 
+/// What a step left.
+pub struct Stepped {
+    pub table: Table,
+    /// What is said of it, where that was asked for.
+    pub said: Option<String>,
+}
+
 fn perform(subcommand: &Subcommand, arguments: &Arguments) -> Result<(), Failure> {
     let output = arguments.file("-o");
-    let answer = match subcommand.work {
-        Work::Alone(work) => return work(arguments),
+    match subcommand.work {
+        Work::Alone(work) => work(arguments),
+        Work::Start(start) => put_table(output, &start(arguments)?, arguments),
         Work::Step(step) => {
-            step(&Input::read(arguments)?, arguments).map(|table| match arguments.text_out() {
-                true => text::write(&table).into_bytes(),
-                false => table,
-            })
-        }
-        Work::Answer(answer) => answer(&Input::read(arguments)?, arguments),
-    };
-    match answer {
-        Ok(answer) => put(output, &answer),
-        Err(mut failure) => {
-            if let Some(answer) = failure.answer.take() {
-                put(output, &answer)?;
+            let Stepped { table, said } = step(&Input::read(arguments)?, arguments)?;
+            match said {
+                None => put_table(output, &table, arguments),
+                // The table is written just where -o names a place for it.
+                Some(said) => {
+                    put(None, said.as_bytes())?;
+                    output.map_or(Ok(()), |_| put_table(output, &table, arguments))
+                }
             }
-            Err(failure)
         }
+        Work::Answer(answer) => match answer(&Input::read(arguments)?, arguments) {
+            Ok(answer) => put(output, &answer),
+            Err(mut failure) => {
+                if let Some(answer) = failure.answer.take() {
+                    put(output, &answer)?;
+                }
+                Err(failure)
+            }
+        },
     }
 }
 
-/// What a call writes into so much room.
-fn answered(
-    room: usize,
-    call: impl FnOnce(&mut [u8]) -> Result<usize, Refusal>,
-) -> Result<Vec<u8>, Refusal> {
-    let mut answer = vec![0; room];
-    let written = call(&mut answer)?;
-    answer.truncate(written);
-    Ok(answer)
+pub fn put_table(
+    output: Option<&OsStr>,
+    table: &Table,
+    arguments: &Arguments,
+) -> Result<(), Failure> {
+    match arguments.text_out() {
+        true => put(output, text::write(table.as_bytes()).as_bytes()),
+        false => put(output, table.as_bytes()),
+    }
 }
 
 pub fn encode(arguments: &Arguments) -> Result<(), Failure> {
-    let input = Input::read_text(arguments)?;
-    input.check()?;
-    put(arguments.file("-o"), &input.table)
+    let table = Input::read_text(arguments)?.accepted()?;
+    put(arguments.file("-o"), table.as_bytes())
 }
 
 pub fn decode(input: &Input, _: &Arguments) -> Result<Vec<u8>, Failure> {
-    input.check()?;
-    Ok(text::write(&input.table).into_bytes())
+    let table = input.accepted()?;
+    Ok(text::write(table.as_bytes()).into_bytes())
 }
 
-pub fn list(input: &Input, _: &Arguments) -> Result<Vec<u8>, Failure> {
-    let listing = answered(keeper::LISTING_ROOM, |answer| {
-        keeper::listing(&input.table, answer)
-    });
-    let listing = listing.map_err(|refusal| input.refused(&Call::Table, refusal))?;
-    match input.check() {
-        Ok(()) => Ok(listing),
+pub fn check(input: &Input, _: &Arguments) -> Result<Vec<u8>, Failure> {
+    input.accepted().map(|_| Vec::new())
+}
+
+pub fn list(input: &Input, arguments: &Arguments) -> Result<Vec<u8>, Failure> {
+    if arguments.has("--json") {
+        let table = input.accepted_or_json(arguments)?;
+        return Ok(json::listing(&table).into_bytes());
+    }
+    // The library's text also where the table is refused.
+    let mut listing = vec![0; keeper::LISTING_ROOM];
+    let written = keeper::listing(&input.table, &mut listing)
+        .map_err(|refusal| input.refused(&Call::Table, refusal))?;
+    listing.truncate(written);
+    match input.accepted() {
+        Ok(_) => Ok(listing),
         Err(failure) => Err(failure.with(listing)),
     }
 }
@@ -166,12 +195,14 @@ pub fn line(input: &Input, arguments: &Arguments) -> Result<Vec<u8>, Failure> {
     for process in processes {
         set |= 1 << holder(arguments, *process)?;
     }
-    let line = answered(keeper::LARGEST_LINE, |answer| match processes {
-        [] => keeper::recovery_line(&input.table, answer),
-        _ => keeper::line_of_set(&input.table, set, answer),
-    });
-    let line = line.map_err(|refusal| input.refused(&Call::Hold(processes), refusal))?;
-    Ok(format!("{}\n", decimal(&numbers(&line))).into_bytes())
+    let table = input.accepted()?;
+    let line = match processes {
+        [] => table.recovery_line(),
+        _ => table
+            .line_of_set(set)
+            .map_err(|refusal| input.refused(&Call::Hold(processes), refusal))?,
+    };
+    Ok(format!("{line}\n").into_bytes())
 }
 
 /// The 16-bit numbers that stand in the bytes.
@@ -182,39 +213,57 @@ pub(crate) fn numbers(bytes: &[u8]) -> Vec<u16> {
         .collect()
 }
 
-/// Numbers with one blank between.
-pub(crate) fn decimal(numbers: &[u16]) -> String {
-    let fields: Vec<String> = numbers.iter().map(u16::to_string).collect();
-    fields.join(" ")
+pub fn new(arguments: &Arguments) -> Result<Table, Failure> {
+    let n = arguments.the_number("N");
+    Table::new(n.into()).map_err(|refusal| {
+        let words = match refusal {
+            Refusal::ProcessesOutOfRange => format!("N is {n}, and must be 1 to 32"),
+            _ => refusal.words().to_string(),
+        };
+        Failure::refused(format!("refused {}: {words}", refusal.number()))
+    })
 }
 
-/// A step: the table that the call writes.
-fn step(
+/// The table after a step, of which nothing is said.
+fn stepped<T>(
     input: &Input,
     call: &Call,
-    step: impl FnOnce(&[u8], &mut [u8]) -> Result<usize, Refusal>,
-) -> Result<Vec<u8>, Failure> {
-    answered(keeper::LARGEST_TABLE, |answer| step(&input.table, answer))
-        .map_err(|refusal| input.refused(call, refusal))
+    step: impl FnOnce(&mut Table) -> Result<T, Refusal>,
+) -> Result<Stepped, Failure> {
+    let mut table = input.accepted()?;
+    step(&mut table).map_err(|refusal| input.refused(call, refusal))?;
+    Ok(Stepped { table, said: None })
 }
 
-pub fn send(input: &Input, arguments: &Arguments) -> Result<Vec<u8>, Failure> {
+pub fn send(input: &Input, arguments: &Arguments) -> Result<Stepped, Failure> {
     let (from, to) = (arguments.the_number("FROM"), arguments.the_number("TO"));
-    step(input, &Call::Send { from, to }, |table, answer| {
-        keeper::send(table, from, to, answer)
+    stepped(input, &Call::Send { from, to }, |table| {
+        table.send(from, to)
     })
 }
 
-pub fn save(input: &Input, arguments: &Arguments) -> Result<Vec<u8>, Failure> {
+pub fn save(input: &Input, arguments: &Arguments) -> Result<Stepped, Failure> {
     let process = arguments.the_number("PROCESS");
     let list = arguments.numbers("POSITION");
-    step(input, &Call::Save { process, list }, |table, answer| {
-        keeper::save(table, process, list, answer)
+    stepped(input, &Call::Save { process, list }, |table| {
+        table.save(process, list)
     })
 }
 
-pub fn fall_back(input: &Input, _: &Arguments) -> Result<Vec<u8>, Failure> {
-    step(input, &Call::Table, keeper::fall_back)
+pub fn fall_back(input: &Input, arguments: &Arguments) -> Result<Stepped, Failure> {
+    let mut table = input.accepted()?;
+    let FellBack { line, messages } = table.fall_back();
+    let said = arguments.has("--moves").then(|| {
+        let moved = messages.iter().enumerate().map(|(old, new)| match new {
+            Some(new) => format!("message {old} {new}\n"),
+            None => format!("message {old} removed\n"),
+        });
+        [format!("line {line}\n")]
+            .into_iter()
+            .chain(moved)
+            .collect()
+    });
+    Ok(Stepped { table, said })
 }
 
 pub fn draw(input: &Input, arguments: &Arguments) -> Result<Vec<u8>, Failure> {
@@ -223,6 +272,14 @@ pub fn draw(input: &Input, arguments: &Arguments) -> Result<Vec<u8>, Failure> {
     let run = Run::read(&input.table, holder)
         .map_err(|refusal| input.refused(&Call::Hold(hold.as_slice()), refusal))?;
     Ok(draw::draw(&run, arguments.text("--title")).into_bytes())
+}
+
+pub fn completion(arguments: &Arguments) -> Result<(), Failure> {
+    let script = match arguments.word("SHELL") {
+        Some("bash") => completion::bash(),
+        _ => completion::zsh(),
+    };
+    put(None, script.as_bytes())
 }
 
 pub fn help(arguments: &Arguments) -> Result<(), Failure> {

@@ -3,21 +3,22 @@
 use std::fs::File;
 use std::io::{self, Read};
 
-use keeper::Refusal;
+use keeper::{Refusal, Table};
 
 use crate::arguments::Arguments;
 use crate::command::Failure;
 use crate::explain::{self, Call};
-use crate::text;
+use crate::{json, text};
 
 /// A text of more bytes is not read.
-const MOST_TEXT: usize = 16 << 20;
+pub const MOST_TEXT: usize = 16 << 20;
 
 /// A table, accepted or not, that was read or that a text gives.
 pub struct Input {
     pub table: Vec<u8>,
     name: String,
     text: Option<text::Read>,
+    of_script: bool,
     /// What is said where a text was given for a table.
     advice: &'static str,
 }
@@ -43,6 +44,7 @@ impl Input {
             table,
             name,
             text: None,
+            of_script: false,
             advice,
         })
     }
@@ -69,7 +71,46 @@ impl Input {
             table: text.table.clone(),
             name,
             text: Some(text),
+            of_script: false,
             advice: "",
+        })
+    }
+
+    /// The table that a step of a script left.
+    pub fn of_script(table: Table) -> Input {
+        Input {
+            table: table.into_bytes(),
+            name: String::new(),
+            text: None,
+            of_script: true,
+            advice: "",
+        }
+    }
+
+    /// Whether a script asks; its answers are all texts.
+    pub fn is_of_script(&self) -> bool {
+        self.of_script
+    }
+
+    /// What messages call it.
+    pub fn name(&self) -> &str {
+        &self.name
+    }
+
+    /// The table, where the library accepts it.
+    pub fn accepted(&self) -> Result<Table, Failure> {
+        Table::from_bytes(self.table.as_slice())
+            .map_err(|refusal| self.refused(&Call::Table, refusal))
+    }
+
+    /// The table; with `--json` a refusal is written so as well.
+    pub fn accepted_or_json(&self, arguments: &Arguments) -> Result<Table, Failure> {
+        Table::from_bytes(self.table.as_slice()).map_err(|refusal| {
+            let failure = self.refused(&Call::Table, refusal);
+            match arguments.has("--json") {
+                true => failure.with(json::refused(refusal, &self.table_words(refusal)).into()),
+                false => failure,
+            }
         })
     }
 
@@ -88,15 +129,11 @@ impl Input {
     }
 
     /// What is said of a refused table.
-    pub fn table_words(&self, refusal: Refusal) -> String {
+    fn table_words(&self, refusal: Refusal) -> String {
         match self.text.is_none() && text::looks_like_text(&self.table) {
             true => format!("this is a text, and no table: {}", self.advice),
             false => explain::words(&self.table, &Call::Table, refusal),
         }
-    }
-
-    pub fn check(&self) -> Result<(), Failure> {
-        keeper::check_table(&self.table).map_err(|refusal| self.refused(&Call::Table, refusal))
     }
 }
 

@@ -5,11 +5,17 @@
 
 pub mod arguments;
 pub mod command;
+pub mod completion;
 pub mod draw;
 pub mod explain;
 pub mod input;
+pub mod json;
 pub mod layout;
 pub mod output;
+pub mod page;
 pub mod run;
+pub mod script;
+pub mod sheet;
 pub mod text;
 pub mod usage;
+pub mod why;

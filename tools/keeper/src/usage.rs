@@ -6,9 +6,13 @@
 //! the lines of an example, backquotes around what is typed, and arguments in
 //! capitals as they are named in the row.
 
+use keeper::Table;
+
 use crate::arguments::Arguments;
-use crate::command::{self, Failure};
+use crate::command::{self, Failure, Stepped};
+use crate::completion::SHELLS;
 use crate::input::Input;
+use crate::{script, sheet, why};
 
 /// What an option or an argument takes.
 #[derive(Clone, Copy, Debug, PartialEq, Eq)]
@@ -26,6 +30,8 @@ pub enum Takes {
     OneOf(&'static [&'static str]),
     /// The name of a subcommand.
     Subcommand,
+    /// A checkpoint or a message: `1.2`, `m4`.
+    Item,
 }
 
 pub struct Opt {
@@ -51,13 +57,15 @@ pub struct Argument {
     pub times: Times,
 }
 
-/// What a subcommand does.
+/// What a subcommand does. All but the first are lines of scripts, too.
 #[derive(Clone, Copy)]
 pub enum Work {
     /// All by itself, reading and writing too.
     Alone(fn(&Arguments) -> Result<(), Failure>),
-    /// Reads a table and answers the next one.
-    Step(fn(&Input, &Arguments) -> Result<Vec<u8>, Failure>),
+    /// Makes a table of nothing.
+    Start(fn(&Arguments) -> Result<Table, Failure>),
+    /// Reads a table and leaves the next one.
+    Step(fn(&Input, &Arguments) -> Result<Stepped, Failure>),
     /// Reads a table and says something of it.
     Answer(fn(&Input, &Arguments) -> Result<Vec<u8>, Failure>),
 }
@@ -75,7 +83,7 @@ pub struct Subcommand {
     pub work: Work,
 }
 
-const HELP: Opt = Opt {
+pub const HELP: Opt = Opt {
     names: &["--help", "-h"],
     takes: Takes::Nothing,
     value: "",
@@ -96,7 +104,7 @@ const OUTPUT: Opt = Opt {
     names: &["-o"],
     takes: Takes::File,
     value: "FILE",
-    words: "write to FILE; to standard output where it is `-` or -o is missing",
+    words: "write to FILE, which is replaced as a whole or not at all; `-` is standard output",
 };
 
 /// Where only the input can be a text.
@@ -125,7 +133,7 @@ const TEXT: Opt = Opt {
     names: &["--text"],
     takes: Takes::Nothing,
     value: "",
-    words: "both",
+    words: "--text-in and --text-out in one",
 };
 
 const HOLD: Opt = Opt {
@@ -142,9 +150,63 @@ const TITLE: Opt = Opt {
     words: "a title",
 };
 
+const MOVES: Opt = Opt {
+    names: &["--moves"],
+    takes: Takes::Nothing,
+    value: "",
+    words: "\
+write what moved to standard output: the line, then for each message its position before and its position now, or \
+`removed`; the table goes to the file of -o, and nowhere without one",
+};
+
+const JSON: Opt = Opt {
+    names: &["--json"],
+    takes: Takes::Nothing,
+    value: "",
+    words: "write one object in JSON",
+};
+
+const DECODE: Opt = Opt {
+    names: &["--decode"],
+    takes: Takes::Nothing,
+    value: "",
+    words: "read the bytes of a sheet instead of a table, and write its rows",
+};
+
+const ROWS: Opt = Opt {
+    names: &["--text-out"],
+    takes: Takes::Nothing,
+    value: "",
+    words: "write the rows of the listing that say what is kept, instead of bytes",
+};
+
+const TABLES: Opt = Opt {
+    names: &["--text-out"],
+    takes: Takes::Nothing,
+    value: "",
+    words: "show the table after each step, as a text in comments",
+};
+
 const STEP_OPTIONS: &[&Opt] = &[&TEXT_IN, &TEXT_OUT, &TEXT, &OUTPUT];
 
+/// Those of several subcommands, which the man page explains once.
+pub const COMMON: &[&Opt] = STEP_OPTIONS;
+
 pub const SUBCOMMANDS: &[Subcommand] = &[
+    Subcommand {
+        name: "new",
+        arguments: &[Argument {
+            name: "N",
+            takes: Takes::Number,
+            times: Times::Once,
+        }],
+        file: false,
+        options: &[&TEXT_OUT, &OUTPUT],
+        short: "a first table: N processes with one checkpoint each",
+        words: "\
+Writes the table of a run that begins: N processes with one checkpoint each, and no messages. It reads nothing.",
+        work: Work::Start(command::new),
+    },
     Subcommand {
         name: "encode",
         arguments: &[],
@@ -176,14 +238,29 @@ Reads a run table and writes its text (`keeper encode --help` shows the form). `
         work: Work::Answer(command::decode),
     },
     Subcommand {
+        name: "check",
+        arguments: &[],
+        file: true,
+        options: &[&READ_TEXT],
+        short: "whether a table is accepted: nothing where it is",
+        words: "\
+Reads a run table and writes nothing. The exit status is 0 where the table is accepted. It is 1 where it is refused; \
+what caught stands on standard error then, with the number of the refusal.",
+        work: Work::Answer(command::check),
+    },
+    Subcommand {
         name: "list",
         arguments: &[],
         file: true,
-        options: &[&READ_TEXT, &OUTPUT],
+        options: &[&JSON, &READ_TEXT, &OUTPUT],
         short: "the listing of a table",
         words: "\
 Reads a run table and writes its listing: the recovery line, the lines of single holders, the kept checkpoints and \
-messages, the share that is kept. The listing of a refused table is `refused` and the number; the exit status is then 1.",
+messages, the share that is kept. The listing of a refused table is `refused` and the number; the exit status is then 1.
+
+In JSON it is an object with the keys `line` (the recovery line, an array of numbers), `hold` (an array of such lines, by \
+process), `checkpoints` (an array of objects with `process` and `number`), `messages` (an array of positions) and \
+`share`. That of a refused table has the keys `refused`, the number, and `words`.",
         work: Work::Answer(command::list),
     },
     Subcommand {
@@ -200,6 +277,42 @@ messages, the share that is kept. The listing of a refused table is `refused` an
 Reads a run table and writes a line, one decimal number for each process: the recovery line, or the line of each \
 PROCESS named, which hold (take no checkpoint). A file whose name is a number is written `./7`.",
         work: Work::Answer(command::line),
+    },
+    Subcommand {
+        name: "sheet",
+        arguments: &[],
+        file: true,
+        options: &[&JSON, &DECODE, &TEXT_IN, &ROWS, &TEXT, &OUTPUT],
+        short: "the keep sheet of a table",
+        words: "\
+Reads a run table and writes the bytes of its keep sheet. As rows it is what the listing has of it: `checkpoint`, process \
+and number, for each kept checkpoint, and `message` and position for each kept message. In JSON it has the keys \
+`checkpoints` and `messages` of `list`; a refused table gives an object here, too. A sheet that is read back and is not \
+whole and in order is refused with what is wrong, and exit status 2.",
+        work: Work::Answer(sheet::sheet),
+    },
+    Subcommand {
+        name: "why",
+        arguments: &[Argument {
+            name: "ITEM",
+            takes: Takes::Item,
+            times: Times::Once,
+        }],
+        file: true,
+        options: &[&TEXT_IN, &TABLES, &TEXT, &OUTPUT],
+        short: "why checkpoint 1.2, or message m4, is kept or not",
+        words: "\
+Reads a run table and says why ITEM is kept: `1.2` is checkpoint 2 of process 1, and `m4` the message at position 4. Of \
+what is kept it writes a future that needs it, as steps, which it has executed, and the recovery line at its end. Of what \
+is not kept it writes the lines of single holders, and how each passes it by.
+
+What it writes is a script: words are comments, and `run` makes the steps and answers the lines again:
+
+  keeper why 1.2 run.table | keeper run - run.table
+
+Where a process has 4,096 checkpoints the library saves no more of it, though futures know no such limit. A future that \
+saves there was not executed, and it says so; the line at its end is then had by the call for sets.",
+        work: Work::Answer(why::why),
     },
     Subcommand {
         name: "send",
@@ -249,15 +362,40 @@ POSITION, rising, that wait for it. Messages count from 0. A file whose name is 
         name: "fall-back",
         arguments: &[],
         file: true,
-        options: STEP_OPTIONS,
+        options: &[&MOVES, &TEXT_IN, &TEXT_OUT, &TEXT, &OUTPUT],
         short: "the table after the run fell back to its recovery line",
         words: "\
 Reads a run table and writes the table after the whole run has fallen back to its recovery line.
 
 Numbers and positions are used again afterwards: a number names another checkpoint then, and a position another \
 message, since the messages that stay move up. Whoever stores contents by number or position can mix up what the keeper \
-protects: store them by an identity of your own, and carry it along a fall back.",
+protects: store them by an identity of your own, and carry it along a fall back. --moves says what to carry where.",
         work: Work::Step(command::fall_back),
+    },
+    Subcommand {
+        name: "run",
+        arguments: &[Argument {
+            name: "SCRIPT",
+            takes: Takes::File,
+            times: Times::Once,
+        }],
+        file: true,
+        options: STEP_OPTIONS,
+        short: "the steps of a script, one after another",
+        words: "\
+Reads a script, and makes its steps on the table of FILE. A line is a subcommand with its arguments and options, without \
+FILE: `send 0 1`, `save 1 0`, `fall back`, `list`, `line`, `sheet`, `check`, `why 1.2`, `draw`; `text` is the text of the \
+table. What follows `#` is skipped. A script that begins with `new` reads no FILE. SCRIPT is standard input where it is `-`.
+
+  new 2
+  send 0 1
+  save 1 0   # process 1 receives message 0 before its checkpoint 1
+  list
+
+Answers go to standard output, as texts. The last table is written just where -o names a file for it. A line that fails \
+ends the run; it is named with its number and its words, and then nothing is written to that file. Words that are no step \
+are found before the first step is made.",
+        work: Work::Alone(script::run),
     },
     Subcommand {
         name: "draw",
@@ -270,6 +408,23 @@ Reads a run table and writes the run as a space-time diagram in SVG: a lifeline 
 and messages as arrows, with what is kept and the recovery line. Time runs to the right where some order of time fits \
 the table; else places are by checkpoint number, and the legend says so.",
         work: Work::Answer(command::draw),
+    },
+    Subcommand {
+        name: "completion",
+        arguments: &[Argument {
+            name: "SHELL",
+            takes: Takes::OneOf(SHELLS),
+            times: Times::Once,
+        }],
+        file: false,
+        options: &[],
+        short: "completion for a shell, bash or zsh",
+        words: "\
+Writes a script that completes subcommands, options and files in SHELL, `bash` or `zsh`. `make install` puts it where the \
+shells look for it; without that:
+
+  source <(keeper completion bash)",
+        work: Work::Alone(command::completion),
     },
     Subcommand {
         name: "help",
@@ -367,13 +522,30 @@ usage: keeper SUBCOMMAND [OPTION...] [ARGUMENT...] [FILE]
     for option in [&OUTPUT].iter().chain(OWN_OPTIONS) {
         help += &in_columns(&option.synopsis(), option.words);
     }
-    help.push('\n');
-    help + &wrapped(EXIT_STATUS)
+    help += "\nExit status:\n\n";
+    for (status, words) in EXIT_STATUS {
+        help += &in_columns(status, words);
+    }
+    help
 }
 
-pub const EXIT_STATUS: &str = "\
-exit status: 0 done; 1 refused, with the refusal's number and words on standard error; 2 wrong usage, a text not in the \
-form, or an error of input or output";
+pub const EXIT_STATUS: &[(&str, &str)] = &[
+    ("0", "all is done"),
+    (
+        "1",
+        "\
+the table or the step is refused, with the number and the words of the refusal on standard error; or `why` was asked \
+of what the table does not have",
+    ),
+    (
+        "2",
+        "wrong usage; a text, a script or a sheet that is not in the form; an error of input or output",
+    ),
+    (
+        "141",
+        "whoever read the output has closed it: the rest is not written, and nothing is said",
+    ),
+];
 
 const COLUMNS: usize = 80;
 

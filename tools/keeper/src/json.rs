@@ -1,0 +1,66 @@
+//! Answers in JSON: one object on one line.
+
+use keeper::{Refusal, Sheet, Table};
+
+/// A string with its quotes.
+fn string(text: &str) -> String {
+    let mut quoted = "\"".to_string();
+    for sign in text.chars() {
+        match sign {
+            '"' | '\\' => {
+                quoted.push('\\');
+                quoted.push(sign);
+            }
+            '\u{0}'..='\u{1f}' => quoted += &format!("\\u{:04x}", u32::from(sign)),
+            _ => quoted.push(sign),
+        }
+    }
+    quoted + "\""
+}
+
+fn array<T: ToString>(items: impl Iterator<Item = T>) -> String {
+    let items: Vec<String> = items.map(|item| item.to_string()).collect();
+    format!("[{}]", items.join(","))
+}
+
+/// The keys of a sheet, without the braces.
+fn kept(sheet: &Sheet) -> String {
+    let checkpoints = sheet.checkpoints().map(|kept| {
+        format!(
+            "{{\"process\":{},\"number\":{}}}",
+            kept.process, kept.number
+        )
+    });
+    format!(
+        "\"checkpoints\":{},\"messages\":{}",
+        array(checkpoints),
+        array(sheet.messages())
+    )
+}
+
+pub fn sheet(sheet: &Sheet) -> String {
+    format!("{{{}}}\n", kept(sheet))
+}
+
+/// The rows of the listing.
+pub fn listing(table: &Table) -> String {
+    let sheet = table.keep_sheet();
+    let lines = (0..table.processes())
+        .map(|holder| sheet.line(holder).expect("the sheet has its lines"))
+        .map(|line| array(line.iter()));
+    // The share has a row of its own: the listing's figure, not one made here.
+    let listing = table.listing();
+    let share = listing.lines().find_map(|row| row.strip_prefix("share "));
+    format!(
+        "{{\"line\":{},\"hold\":{},{},\"share\":{}}}\n",
+        array(table.recovery_line().iter()),
+        array(lines),
+        kept(&sheet),
+        share.expect("a listing has its share")
+    )
+}
+
+pub fn refused(refusal: Refusal, words: &str) -> String {
+    let number = refusal.number();
+    format!("{{\"refused\":{number},\"words\":{}}}\n", string(words))
+}

@@ -1,0 +1,372 @@
+//! Why a checkpoint or a message is kept: a future that needs it, executed; or
+//! why it is not: the lines that pass it by. Both are written as a script that
+//! `keeper run` takes.
+
+use std::fmt::{self, Write};
+
+use keeper::{Line, Message, Refusal, Table};
+
+use crate::arguments::Arguments;
+use crate::command::Failure;
+use crate::explain::plural;
+use crate::input::Input;
+use crate::text;
+
+/// What is asked for.
+#[derive(Clone, Copy, Debug, PartialEq, Eq)]
+pub enum Item {
+    Checkpoint { process: u16, number: u16 },
+    Message(u16),
+}
+
+impl Item {
+    /// Reads `1.2` or `m4`.
+    pub fn read(text: &str) -> Option<Item> {
+        let number = |digits: &str| {
+            let all = !digits.is_empty() && digits.bytes().all(|byte| byte.is_ascii_digit());
+            all.then(|| digits.parse().ok()).flatten()
+        };
+        if let Some(position) = text.strip_prefix('m') {
+            return number(position).map(Item::Message);
+        }
+        let (process, checkpoint) = text.split_once('.')?;
+        Some(Item::Checkpoint {
+            process: number(process)?,
+            number: number(checkpoint)?,
+        })
+    }
+
+    /// Itself, with its message where it is one; or why the table does not have
+    /// it.
+    fn found(self, table: &Table) -> Result<Found, String> {
+        let n = table.processes();
+        match self {
+            Item::Checkpoint { process, .. } if process >= n => {
+                Err(format!("there is no process {process} (N is {n})"))
+            }
+            Item::Checkpoint { process, number } => match table.count(process) {
+                count if number < count => Ok(Found::Checkpoint(process, number)),
+                count => Err(format!(
+                    "there is no checkpoint {number} of process {process}: it has {}",
+                    plural(count.into(), "checkpoint")
+                )),
+            },
+            Item::Message(position) => match table.message(position) {
+                Some(message) => Ok(Found::Message(position, message)),
+                None => Err(match table.messages().len() {
+                    0 => format!("there is no message {position}: the table has none"),
+                    m => format!("there is no message {position}: the table has {m}"),
+                }),
+            },
+        }
+    }
+}
+
+/// What is asked for, in the table.
+#[derive(Clone, Copy)]
+enum Found {
+    Checkpoint(u16, u16),
+    Message(u16, Message),
+}
+
+impl fmt::Display for Found {
+    fn fmt(&self, to: &mut fmt::Formatter<'_>) -> fmt::Result {
+        match self {
+            Found::Checkpoint(process, number) => write!(to, "Checkpoint {process}.{number}"),
+            Found::Message(position, message) => {
+                let (sender, sent) = (message.sender, message.sent);
+                let receiver = message.receiver;
+                write!(to, "Message {position} ({sender}.{sent} -> {receiver}")?;
+                match message.received {
+                    Some(received) => write!(to, ".{received})"),
+                    None => write!(to, " waiting)"),
+                }
+            }
+        }
+    }
+}
+
+impl Found {
+    /// Whether the line needs it where it is the recovery line at the end of a
+    /// future: the checkpoint is on it, or the message crosses it.
+    fn needed_by(&self, line: &Line) -> bool {
+        match self {
+            Found::Checkpoint(process, number) => at(line, *process) == *number,
+            Found::Message(_, message) => {
+                message.sent < at(line, message.sender)
+                    && message
+                        .received
+                        .is_none_or(|received| received.get() > at(line, message.receiver))
+            }
+        }
+    }
+
+    fn on(&self, table: &Table) -> bool {
+        let sheet = table.keep_sheet();
+        match self {
+            Found::Checkpoint(process, number) => sheet.has_checkpoint(*process, *number),
+            Found::Message(position, _) => sheet.has_message(*position),
+        }
+    }
+
+    /// As it stands in another table, at the same place.
+    fn within(&self, table: &Table) -> Option<Found> {
+        match self {
+            Found::Checkpoint(process, number) => {
+                (*number < table.count(*process)).then_some(*self)
+            }
+            Found::Message(position, _) => {
+                let message = table.message(*position)?;
+                Some(Found::Message(*position, message))
+            }
+        }
+    }
+
+    /// What a line that needs it has to do with it.
+    fn bond(&self) -> String {
+        match self {
+            Found::Checkpoint(process, number) => {
+                format!("has checkpoint {number} of process {process}")
+            }
+            Found::Message(_, message) => {
+                let (sender, receiver) = (message.sender, message.receiver);
+                format!(
+                    "is crossed by it: sent by process {sender} before the line,\n\
+                     # not received by process {receiver} before the line"
+                )
+            }
+        }
+    }
+
+    /// How a line passes it by.
+    fn passed_by(&self, line: &Line, table: &Table) -> String {
+        match self {
+            Found::Checkpoint(process, _) => {
+                let stands = at(line, *process);
+                let which = match stands == table.count(*process) {
+                    true => ", the virtual checkpoint",
+                    false => "",
+                };
+                format!("process {process} stands at {stands}{which}")
+            }
+            Found::Message(_, message) => {
+                let (sender, sent) = (message.sender, message.sent);
+                match message.received {
+                    Some(received) if sent < at(line, sender) => format!(
+                        "received before it: process {} stands at {}, and {received} is not above that",
+                        message.receiver,
+                        at(line, message.receiver)
+                    ),
+                    _ => format!(
+                        "sent after it: process {sender} stands at {}, and {sent} is not below that",
+                        at(line, sender)
+                    ),
+                }
+            }
+        }
+    }
+}
+
+fn at(line: &Line, process: u16) -> u16 {
+    line[usize::from(process)]
+}
+
+/// A future in which some processes save once each, with an empty list. The
+/// recovery line at its end is the line of the others holding.
+struct Future {
+    saves: Vec<u16>,
+    line: Line,
+}
+
+impl Future {
+    /// Those that show whatever is kept: nobody saves; all save but one; all
+    /// save.
+    fn all(table: &Table) -> Vec<Future> {
+        let n = table.processes();
+        let processes = || 0..n;
+        let but_one = processes().map(|one| processes().filter(|p| *p != one).collect());
+        [vec![]]
+            .into_iter()
+            .chain(but_one)
+            .chain([processes().collect()])
+            .map(|saves: Vec<u16>| {
+                let set = processes()
+                    .filter(|p| !saves.contains(p))
+                    .fold(0, |set, p| set | 1 << p);
+                let line = table.line_of_set(set).expect("processes of the table");
+                Future { saves, line }
+            })
+            .collect()
+    }
+
+    /// The tables after each save.
+    fn execute(&self, table: &Table) -> Result<Vec<Table>, (u16, Refusal)> {
+        let mut table = table.clone();
+        let mut after = Vec::new();
+        for process in &self.saves {
+            table
+                .save(*process, &[])
+                .map_err(|refusal| (*process, refusal))?;
+            after.push(table.clone());
+        }
+        Ok(after)
+    }
+}
+
+/// What a program that does as it should never says.
+fn internal(what: impl fmt::Display) -> Failure {
+    Failure::trouble(format!("internal error: {what}; please report it"))
+}
+
+pub fn why(input: &Input, arguments: &Arguments) -> Result<Vec<u8>, Failure> {
+    let table = input.accepted()?;
+    let item = arguments.item("ITEM");
+    let found = item.found(&table).map_err(Failure::refused)?;
+    let show = arguments.text_out();
+    let mut needing: Vec<Future> = Future::all(&table)
+        .into_iter()
+        .filter(|future| found.needed_by(&future.line))
+        .collect();
+    if needing.is_empty() == found.on(&table) {
+        return Err(internal(format_args!(
+            "the sheet and the lines do not agree on {found}"
+        )));
+    }
+    let script = if needing.is_empty() {
+        not_kept(&table, found)
+    } else {
+        // One that can be executed, where there is one.
+        let can = |future: &Future| future.execute(&table).is_ok();
+        let place = needing.iter().position(can).unwrap_or(0);
+        kept(&table, found, &needing.swap_remove(place), show)?
+    };
+    Ok(script.into_bytes())
+}
+
+fn kept(table: &Table, found: Found, future: &Future, show: bool) -> Result<String, Failure> {
+    let mut script = format!(
+        "# {found} is kept: a future needs it.\n{}",
+        needed_by_holders(table, found)
+    );
+    let after = match future.execute(table) {
+        Ok(after) => after,
+        Err((process, refusal)) => {
+            script += &not_executed(table, found, future, process, refusal);
+            return Ok(script);
+        }
+    };
+    let end = after.last().unwrap_or(table);
+    let line = end.recovery_line();
+    if line != future.line {
+        return Err(internal(format_args!(
+            "the recovery line at the end of the future is {line}, and {} was expected",
+            future.line
+        )));
+    }
+    if !found
+        .within(end)
+        .is_some_and(|found| found.needed_by(&line))
+    {
+        return Err(internal(format_args!(
+            "the recovery line at the end of the future, {line}, does not need {found}"
+        )));
+    }
+    script += match future.saves.is_empty() {
+        true => "# The future without a step, which begins and ends with this table:\n",
+        false => "# Its steps, from this table on:\n",
+    };
+    for (process, table) in future.saves.iter().zip(&after) {
+        let _ = writeln!(script, "save {process}");
+        if show {
+            for line in text::write(table.as_bytes()).lines() {
+                let _ = writeln!(script, "#     {line}");
+            }
+        }
+    }
+    let _ = writeln!(script, "line\n# {line}");
+    let _ = writeln!(script, "# This recovery line at its end {}.", found.bond());
+    Ok(script)
+}
+
+/// Which of the lines of single holders need it.
+fn needed_by_holders(table: &Table, found: Found) -> String {
+    let sheet = table.keep_sheet();
+    let needs = |holder: &u16| {
+        sheet
+            .line(*holder)
+            .is_some_and(|line| found.needed_by(line))
+    };
+    let holders: Vec<String> = (0..table.processes())
+        .filter(needs)
+        .map(|holder| holder.to_string())
+        .collect();
+    match holders.as_slice() {
+        [] => "# No line of a single holder needs it; it is kept since it waits.\n".to_string(),
+        [one] => format!("# The line of process {one} alone holding needs it.\n"),
+        _ => format!(
+            "# The lines of these processes, each alone holding, need it: {}.\n",
+            holders.join(" ")
+        ),
+    }
+}
+
+/// The library's limit on checkpoints, which futures do not know.
+fn not_executed(
+    table: &Table,
+    found: Found,
+    future: &Future,
+    process: u16,
+    refusal: Refusal,
+) -> String {
+    let holders: Vec<String> = (0..table.processes())
+        .filter(|p| !future.saves.contains(p))
+        .map(|p| p.to_string())
+        .collect();
+    let mut script = String::new();
+    let savers = match holders.as_slice() {
+        [] => "every process saves once".to_string(),
+        _ => format!("every process but {} saves once", holders.join(" ")),
+    };
+    let _ = writeln!(
+        script,
+        "# In it {savers}, with an empty list. It was not executed: process {process} has {},\n\
+         # and the library takes no more (refusal {}); futures know no such limit.",
+        plural(table.count(process).into(), "checkpoint"),
+        refusal.number()
+    );
+    let _ = match holders.as_slice() {
+        [] => writeln!(
+            script,
+            "# The recovery line at its end is the line of no process holding, by the call for sets:\n# {}",
+            future.line
+        ),
+        _ => writeln!(
+            script,
+            "# The recovery line at its end is the line of process {} holding, by the call for sets:\nline {}\n# {}",
+            holders.join(" "),
+            holders.join(" "),
+            future.line
+        ),
+    };
+    let _ = writeln!(script, "# It {}.", found.bond());
+    script
+}
+
+fn not_kept(table: &Table, found: Found) -> String {
+    let mut script = format!(
+        "# {found} is not kept: no future needs it.\n\
+         # The line of each process that alone holds passes it by:\n"
+    );
+    let sheet = table.keep_sheet();
+    for holder in 0..table.processes() {
+        let line = sheet.line(holder).expect("the sheet has its lines");
+        let _ = writeln!(
+            script,
+            "line {holder}\n# {line}: {}",
+            found.passed_by(line, table)
+        );
+    }
+    script
+        + "# It is proved that no future needs what these lines pass by: docs/ASSURANCE.md,\n\
+           # demand-3 and nothing-off-the-sheet-is-needed.\n"
+}
