@@ -11,7 +11,7 @@
 # make check    proves what has changed and runs the test programs: quicker, and no verdict
 # make tools    builds the command keeper, target/cargo/release/keeper
 # make bench    the archive's times beside plain C, Rust and work lists, written to docs/BENCHMARKS.md
-# make install  headers, archives, pkg-config files, programs and man pages: PREFIX=/usr/local, DESTDIR
+# make install  headers, archives, pkg-config files, programs, completions and man pages: PREFIX=/usr/local, DESTDIR
 # make clean    takes away what was built: target/, and what cargo and python left elsewhere
 # make change-report BASE=commit  what changed since a commit, for the note of a change: RUNS=2, TIMES=no, CRATES="a b"
 SHELL := /bin/sh
@@ -128,6 +128,8 @@ BINDIR = $(PREFIX)/bin
 INCLUDEDIR = $(PREFIX)/include
 LIBDIR = $(PREFIX)/lib
 MANDIR = $(PREFIX)/share/man
+BASHCOMPDIR = $(PREFIX)/share/bash-completion/completions
+ZSHCOMPDIR = $(PREFIX)/share/zsh/site-functions
 INSTALL = install
 VERSION := $(shell cat VERSION)
 # The names at the head of a page of section 3: each but the page's own gets a page of one line, which leads to it.
@@ -136,9 +138,12 @@ install: archives program tools
 	@mkdir -p target/tests
 	@case '$(DESTDIR)$(PREFIX)' in *[[:space:]]*) echo "DESTDIR and PREFIX can have no spaces" >&2; exit 1;; esac
 	@case '$(PREFIX)' in /*) ;; *) echo "PREFIX=$(PREFIX) is not a path from the root" >&2; exit 1;; esac
-	@$(INSTALL) -d $(addprefix '$(DESTDIR),$(addsuffix ',$(BINDIR) $(INCLUDEDIR) $(LIBDIR)/pkgconfig $(MANDIR)/man1 $(MANDIR)/man3 $(MANDIR)/man5))
+	@$(INSTALL) -d $(addprefix '$(DESTDIR),$(addsuffix ',$(BINDIR) $(INCLUDEDIR) $(LIBDIR)/pkgconfig $(MANDIR)/man1 $(MANDIR)/man3 $(MANDIR)/man5 $(BASHCOMPDIR) $(ZSHCOMPDIR)))
 	@$(INSTALL) -m 755 target/bin/listing '$(DESTDIR)$(BINDIR)/listing'
 	@$(INSTALL) -m 755 target/cargo/release/keeper '$(DESTDIR)$(BINDIR)/keeper'
+	@for shell in bash zsh; do target/cargo/release/keeper completion $$shell >target/tests/completion.$$shell || exit 1; done
+	@$(INSTALL) -m 644 target/tests/completion.bash '$(DESTDIR)$(BASHCOMPDIR)/keeper'
+	@$(INSTALL) -m 644 target/tests/completion.zsh '$(DESTDIR)$(ZSHCOMPDIR)/_keeper'
 	@for a in $(ARCHIVES); do \
 	    $(INSTALL) -m 644 include/$$a.h '$(DESTDIR)$(INCLUDEDIR)' && \
 	    $(INSTALL) -m 644 target/staticlib/lib$$a.a '$(DESTDIR)$(LIBDIR)' && \
@@ -157,7 +162,7 @@ install: archives program tools
 
 # Takes the files away and leaves the folders.
 uninstall:
-	@rm -f '$(DESTDIR)$(BINDIR)/listing' '$(DESTDIR)$(BINDIR)/keeper'
+	@rm -f '$(DESTDIR)$(BINDIR)/listing' '$(DESTDIR)$(BINDIR)/keeper' '$(DESTDIR)$(BASHCOMPDIR)/keeper' '$(DESTDIR)$(ZSHCOMPDIR)/_keeper'
 	@for a in $(ARCHIVES); do \
 	    rm -f '$(DESTDIR)$(INCLUDEDIR)'/$$a.h '$(DESTDIR)$(LIBDIR)'/lib$$a.a '$(DESTDIR)$(LIBDIR)'/pkgconfig/$$a.pc || exit 1; \
 	done
@@ -236,6 +241,7 @@ tools: need-cargo archives
 tools-tests: tools
 	@mkdir -p target/tests
 	@cd tools/keeper && $(CARGO) test --release --target-dir ../../target/cargo >../../target/tests/tools.log 2>&1 || { cat ../../target/tests/tools.log; exit 1; }
+	@sed -n 's/.*keeper tests: /keeper tests: /p' target/tests/tools.log
 	@awk '/^test result/ { n += $$4 } END { print n " tests of the command keeper passed" }' target/tests/tools.log
 
 # The examples. first_run.c: its output is the expected one. The run that discards: its tests, in which every store

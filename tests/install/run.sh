@@ -3,9 +3,9 @@
 #
 # Installs into a temporary folder by `make install` (MAKE names another make), and there: compiles the
 # examples of the man pages by the flags of the pkg-config files and runs them, runs the programs and
-# the examples of their pages, asks everything for its version, has the pages formatted with all warnings on,
-# follows the pages that lead to another, and uninstalls. Then the same with DESTDIR. Says which tools were
-# missing.
+# the examples of their pages, asks everything for its version, completes words, has the pages formatted with all
+# warnings on, follows the pages that lead to another, and uninstalls. Then the same with DESTDIR. Says which tools
+# were missing.
 
 root=$(cd "$(dirname "$0")/../.." && pwd) || exit 1
 make=${MAKE:-make}
@@ -44,11 +44,13 @@ lib/librun_table.a
 lib/pkgconfig/keeper.pc
 lib/pkgconfig/listing_text.pc
 lib/pkgconfig/run_table.pc
+share/bash-completion/completions/keeper
 share/man/man1/keeper.1
 share/man/man1/listing.1
 share/man/man3/keeper.3
 share/man/man3/run_table_check.3
 share/man/man5/run_table.5
+share/zsh/site-functions/_keeper
 END
 
 # Pages of one line, which lead to another: each call, and where it is told of.
@@ -195,6 +197,18 @@ if [ -c /dev/full ]; then
     [ -s "$work/full" ] || fail "keeper list: nothing is said of a full device"
 fi
 
+# ---- the completions: of the installed program, taken by the shells where they are there
+completion_of() {
+    "$prefix/bin/keeper" completion "$1" | cmp - "$prefix/$2" || fail "$2 is not what keeper completion $1 writes"
+    if has "$1"; then "$1" -n "$prefix/$2" || fail "$2: $1 does not read it"; fi
+}
+completion_of bash share/bash-completion/completions/keeper
+completion_of zsh share/zsh/site-functions/_keeper
+if has bash; then
+    offered=$(bash --norc -c 'source "$1"; COMP_WORDS=(keeper fa) COMP_CWORD=1; _keeper; echo "${COMPREPLY[*]}"' bash "$prefix/share/bash-completion/completions/keeper")
+    [ "$offered" = fall-back ] || fail "bash completes 'keeper fa' to '$offered'"
+fi
+
 # ---- the man pages
 formatters=
 for page in $(grep '^share/man/' "$work/pages"); do
@@ -253,7 +267,7 @@ in_root uninstall DESTDIR="$stage" PREFIX=/opt/run LIBDIR=/opt/run/lib64
 (cd "$root" && $make --no-print-directory install DESTDIR="$work/no" PREFIX=usr) >"$work/make.log" 2>&1 && fail "a relative PREFIX is taken"
 [ ! -e "$work/no" ] || fail "a relative PREFIX: something was installed"
 
-for tool in pkg-config groff mandoc man; do
+for tool in pkg-config groff mandoc man bash zsh; do
     has $tool || echo "install: $tool is missing, and what it would check was left out"
 done
 [ -n "$formatters" ] || echo "install: nothing here formats man pages"

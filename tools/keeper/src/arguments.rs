@@ -129,7 +129,7 @@ pub fn parse(
             let what = format_args!("{} has no option `{name}`", subcommand.name);
             wrong(subcommand, what)
         })?;
-        if option.names[0] == "--help" {
+        if option.names[0] == "--help" && attached.is_none() {
             return Ok(None);
         }
         take(subcommand, &mut parsed, option, &name, attached, &mut rest)?;

@@ -81,7 +81,7 @@ pub fn bash() -> String {
 const BASH: &str = r#"# Completion of keeper for bash, as `keeper completion bash` writes it.
 
 _keeper_words() {
-    local word
+    local IFS=' ' word
     for word in $1; do
         [[ $word == "$current"* ]] && COMPREPLY+=("$word")
     done

@@ -1,10 +1,18 @@
-//! The part of the man page keeper.1 that the table of subcommands gives, in
-//! mdoc. `tests/page.rs` compares it with the page, and writes it there.
+//! The parts of the man page keeper.1 that the table of subcommands gives, in
+//! mdoc. `tests/page.rs` compares them with the page, and writes them there.
 
 use crate::usage::{Opt, Subcommand, Takes, Times, COMMON, EXIT_STATUS, OWN_OPTIONS, SUBCOMMANDS};
 
-/// The list of subcommands.
-pub fn subcommands() -> String {
+/// All parts, with the names that they have in the marks around them.
+pub fn parts() -> [(&'static str, String); 3] {
+    [
+        ("subcommands", subcommands()),
+        ("options", options()),
+        ("exit status", exit_status()),
+    ]
+}
+
+fn subcommands() -> String {
     let mut page = ".Bl -tag -width Ds\n".to_string();
     for subcommand in SUBCOMMANDS {
         page += &format!(".It Cm {}{}\n", subcommand.name, synopsis(subcommand));
@@ -22,8 +30,8 @@ pub fn subcommands() -> String {
     page + ".El\n"
 }
 
-/// The list of options that several subcommands, or the command itself, take.
-pub fn options() -> String {
+/// The options that several subcommands, or the command itself, take.
+fn options() -> String {
     let mut page = ".Bl -tag -width Ds\n".to_string();
     for option in COMMON.iter().chain(OWN_OPTIONS) {
         page += &row(option);
@@ -31,7 +39,7 @@ pub fn options() -> String {
     page + ".El\n"
 }
 
-pub fn exit_status() -> String {
+fn exit_status() -> String {
     let rows: Vec<String> = EXIT_STATUS
         .iter()
         .map(|(status, words)| format!(".It {status}\n{}", paragraphs(words)))
@@ -39,10 +47,9 @@ pub fn exit_status() -> String {
     format!(".Bl -tag -width Ds\n{}.El\n", rows.concat())
 }
 
-/// Whether each name of the option is among the common ones.
+/// Whether the list of options explains it.
 fn common(option: &Opt) -> bool {
-    let known = |name| COMMON.iter().any(|common| common.names.contains(name));
-    option.names.iter().all(known)
+    COMMON.iter().any(|common| common.words == option.words)
 }
 
 fn row(option: &Opt) -> String {

@@ -87,7 +87,7 @@ pub const HELP: Opt = Opt {
     names: &["--help", "-h"],
     takes: Takes::Nothing,
     value: "",
-    words: "this text; `keeper SUBCOMMAND --help` says more",
+    words: "help; `keeper SUBCOMMAND --help` says more",
 };
 
 const VERSION: Opt = Opt {
@@ -124,6 +124,14 @@ const TEXT_IN: Opt = Opt {
 
 const TEXT_OUT: Opt = Opt {
     names: &["--text-out"],
+    takes: Takes::Nothing,
+    value: "",
+    words: "write a text instead of a table",
+};
+
+/// Where only the output can be a text.
+const WRITE_TEXT: Opt = Opt {
+    names: &["--text-out", "--text"],
     takes: Takes::Nothing,
     value: "",
     words: "write a text instead of a table",
@@ -201,7 +209,7 @@ pub const SUBCOMMANDS: &[Subcommand] = &[
             times: Times::Once,
         }],
         file: false,
-        options: &[&TEXT_OUT, &OUTPUT],
+        options: &[&WRITE_TEXT, &OUTPUT],
         short: "a first table: N processes with one checkpoint each",
         words: "\
 Writes the table of a run that begins: N processes with one checkpoint each, and no messages. It reads nothing.",

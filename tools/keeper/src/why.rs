@@ -4,7 +4,7 @@
 
 use std::fmt::{self, Write};
 
-use keeper::{Line, Message, Refusal, Table};
+use keeper::{Line, Message, Refusal, Sheet, Table};
 
 use crate::arguments::Arguments;
 use crate::command::Failure;
@@ -101,8 +101,7 @@ impl Found {
         }
     }
 
-    fn on(&self, table: &Table) -> bool {
-        let sheet = table.keep_sheet();
+    fn on(&self, sheet: &Sheet) -> bool {
         match self {
             Found::Checkpoint(process, number) => sheet.has_checkpoint(*process, *number),
             Found::Message(position, _) => sheet.has_message(*position),
@@ -213,160 +212,246 @@ impl Future {
     }
 }
 
-/// What a program that does as it should never says.
-fn internal(what: impl fmt::Display) -> Failure {
-    Failure::trouble(format!("internal error: {what}; please report it"))
+/// Why there is no reason to tell.
+#[derive(Debug, PartialEq, Eq)]
+pub enum Unanswered {
+    /// The table does not have it.
+    NotThere(String),
+    /// What a program that does as it should never says.
+    Internal(String),
 }
 
-pub fn why(input: &Input, arguments: &Arguments) -> Result<Vec<u8>, Failure> {
-    let table = input.accepted()?;
-    let item = arguments.item("ITEM");
-    let found = item.found(&table).map_err(Failure::refused)?;
-    let show = arguments.text_out();
-    let mut needing: Vec<Future> = Future::all(&table)
-        .into_iter()
-        .filter(|future| found.needed_by(&future.line))
-        .collect();
-    if needing.is_empty() == found.on(&table) {
-        return Err(internal(format_args!(
-            "the sheet and the lines do not agree on {found}"
-        )));
-    }
-    let script = if needing.is_empty() {
-        not_kept(&table, found)
-    } else {
-        // One that can be executed, where there is one.
-        let can = |future: &Future| future.execute(&table).is_ok();
-        let place = needing.iter().position(can).unwrap_or(0);
-        kept(&table, found, &needing.swap_remove(place), show)?
-    };
-    Ok(script.into_bytes())
-}
-
-fn kept(table: &Table, found: Found, future: &Future, show: bool) -> Result<String, Failure> {
-    let mut script = format!(
-        "# {found} is kept: a future needs it.\n{}",
-        needed_by_holders(table, found)
-    );
-    let after = match future.execute(table) {
-        Ok(after) => after,
-        Err((process, refusal)) => {
-            script += &not_executed(table, found, future, process, refusal);
-            return Ok(script);
-        }
-    };
-    let end = after.last().unwrap_or(table);
-    let line = end.recovery_line();
-    if line != future.line {
-        return Err(internal(format_args!(
-            "the recovery line at the end of the future is {line}, and {} was expected",
-            future.line
-        )));
-    }
-    if !found
-        .within(end)
-        .is_some_and(|found| found.needed_by(&line))
-    {
-        return Err(internal(format_args!(
-            "the recovery line at the end of the future, {line}, does not need {found}"
-        )));
-    }
-    script += match future.saves.is_empty() {
-        true => "# The future without a step, which begins and ends with this table:\n",
-        false => "# Its steps, from this table on:\n",
-    };
-    for (process, table) in future.saves.iter().zip(&after) {
-        let _ = writeln!(script, "save {process}");
-        if show {
-            for line in text::write(table.as_bytes()).lines() {
-                let _ = writeln!(script, "#     {line}");
+impl From<Unanswered> for Failure {
+    fn from(unanswered: Unanswered) -> Failure {
+        match unanswered {
+            Unanswered::NotThere(words) => Failure::refused(words),
+            Unanswered::Internal(words) => {
+                Failure::trouble(format!("internal error: {words}; please report it"))
             }
         }
     }
-    let _ = writeln!(script, "line\n# {line}");
-    let _ = writeln!(script, "# This recovery line at its end {}.", found.bond());
-    Ok(script)
 }
 
-/// Which of the lines of single holders need it.
-fn needed_by_holders(table: &Table, found: Found) -> String {
-    let sheet = table.keep_sheet();
-    let needs = |holder: &u16| {
-        sheet
-            .line(*holder)
-            .is_some_and(|line| found.needed_by(line))
-    };
-    let holders: Vec<String> = (0..table.processes())
-        .filter(needs)
-        .map(|holder| holder.to_string())
-        .collect();
-    match holders.as_slice() {
-        [] => "# No line of a single holder needs it; it is kept since it waits.\n".to_string(),
-        [one] => format!("# The line of process {one} alone holding needs it.\n"),
-        _ => format!(
-            "# The lines of these processes, each alone holding, need it: {}.\n",
-            holders.join(" ")
-        ),
+pub fn why(input: &Input, arguments: &Arguments) -> Result<Vec<u8>, Failure> {
+    let reasons = Reasons::of(input.accepted()?);
+    let script = reasons.script(arguments.item("ITEM"), arguments.text_out())?;
+    Ok(script.into_bytes())
+}
+
+/// A table with what is needed to tell of anything in it why it is kept or not.
+pub struct Reasons {
+    table: Table,
+    sheet: Sheet,
+    futures: Vec<Future>,
+}
+
+impl Reasons {
+    pub fn of(table: Table) -> Reasons {
+        Reasons {
+            sheet: table.keep_sheet(),
+            futures: Future::all(&table),
+            table,
+        }
     }
-}
 
-/// The library's limit on checkpoints, which futures do not know.
-fn not_executed(
-    table: &Table,
-    found: Found,
-    future: &Future,
-    process: u16,
-    refusal: Refusal,
-) -> String {
-    let holders: Vec<String> = (0..table.processes())
-        .filter(|p| !future.saves.contains(p))
-        .map(|p| p.to_string())
-        .collect();
-    let mut script = String::new();
-    let savers = match holders.as_slice() {
-        [] => "every process saves once".to_string(),
-        _ => format!("every process but {} saves once", holders.join(" ")),
-    };
-    let _ = writeln!(
-        script,
-        "# In it {savers}, with an empty list. It was not executed: process {process} has {},\n\
-         # and the library takes no more (refusal {}); futures know no such limit.",
-        plural(table.count(process).into(), "checkpoint"),
-        refusal.number()
-    );
-    let _ = match holders.as_slice() {
-        [] => writeln!(
-            script,
-            "# The recovery line at its end is the line of no process holding, by the call for sets:\n# {}",
-            future.line
-        ),
-        _ => writeln!(
-            script,
-            "# The recovery line at its end is the line of process {} holding, by the call for sets:\nline {}\n# {}",
-            holders.join(" "),
-            holders.join(" "),
-            future.line
-        ),
-    };
-    let _ = writeln!(script, "# It {}.", found.bond());
-    script
-}
+    /// The script; with the table after each step where `show` says so.
+    pub fn script(&self, item: Item, show: bool) -> Result<String, Unanswered> {
+        let found = item.found(&self.table).map_err(Unanswered::NotThere)?;
+        let needing = || self.futures.iter().filter(|one| found.needed_by(&one.line));
+        // One that can be executed, where there is one.
+        let future = needing()
+            .find(|future| future.execute(&self.table).is_ok())
+            .or_else(|| needing().next());
+        if future.is_some() != found.on(&self.sheet) {
+            return Err(Unanswered::Internal(format!(
+                "the sheet and the lines do not agree on {found}"
+            )));
+        }
+        match future {
+            Some(future) => self.kept(found, future, show),
+            None => Ok(self.not_kept(found)),
+        }
+    }
 
-fn not_kept(table: &Table, found: Found) -> String {
-    let mut script = format!(
-        "# {found} is not kept: no future needs it.\n\
-         # The line of each process that alone holds passes it by:\n"
-    );
-    let sheet = table.keep_sheet();
-    for holder in 0..table.processes() {
-        let line = sheet.line(holder).expect("the sheet has its lines");
-        let _ = writeln!(
-            script,
-            "line {holder}\n# {line}: {}",
-            found.passed_by(line, table)
+    fn kept(&self, found: Found, future: &Future, show: bool) -> Result<String, Unanswered> {
+        let mut script = format!(
+            "# {found} is kept: a future needs it.\n{}",
+            self.needed_by_holders(found)
         );
+        let after = match future.execute(&self.table) {
+            Ok(after) => after,
+            Err((process, refusal)) => {
+                script += &self.not_executed(found, future, process, refusal);
+                return Ok(script);
+            }
+        };
+        let end = after.last().unwrap_or(&self.table);
+        let line = end.recovery_line();
+        if line != future.line {
+            return Err(Unanswered::Internal(format!(
+                "the recovery line at the end of the future is {line}, and {} was expected",
+                future.line
+            )));
+        }
+        if !found
+            .within(end)
+            .is_some_and(|found| found.needed_by(&line))
+        {
+            return Err(Unanswered::Internal(format!(
+                "the recovery line at the end of the future, {line}, does not need {found}"
+            )));
+        }
+        script += match future.saves.is_empty() {
+            true => "# The future without a step, which begins and ends with this table:\n",
+            false => "# Its steps, from this table on:\n",
+        };
+        for (process, table) in future.saves.iter().zip(&after) {
+            let _ = writeln!(script, "save {process}");
+            if show {
+                for line in text::write(table.as_bytes()).lines() {
+                    let _ = writeln!(script, "#     {line}");
+                }
+            }
+        }
+        let _ = writeln!(script, "line\n# {line}");
+        let _ = writeln!(script, "# This recovery line at its end {}.", found.bond());
+        Ok(script)
     }
-    script
-        + "# It is proved that no future needs what these lines pass by: docs/ASSURANCE.md,\n\
-           # demand-3 and nothing-off-the-sheet-is-needed.\n"
+
+    /// Which of the lines of single holders need it.
+    fn needed_by_holders(&self, found: Found) -> String {
+        let needs = |holder: &u16| {
+            let line = self.sheet.line(*holder);
+            line.is_some_and(|line| found.needed_by(line))
+        };
+        let holders: Vec<String> = (0..self.table.processes())
+            .filter(needs)
+            .map(|holder| holder.to_string())
+            .collect();
+        match holders.as_slice() {
+            [] => "# No line of a single holder needs it; it is kept since it waits.\n".to_string(),
+            [one] => format!("# The line of process {one} alone holding needs it.\n"),
+            _ => format!(
+                "# The lines of these processes, each alone holding, need it: {}.\n",
+                holders.join(" ")
+            ),
+        }
+    }
+
+    /// The library's limit on checkpoints, which futures do not know.
+    fn not_executed(
+        &self,
+        found: Found,
+        future: &Future,
+        process: u16,
+        refusal: Refusal,
+    ) -> String {
+        let holders: Vec<String> = (0..self.table.processes())
+            .filter(|p| !future.saves.contains(p))
+            .map(|p| p.to_string())
+            .collect();
+        let holders = holders.join(" ");
+        let (savers, line) = match holders.is_empty() {
+            true => (
+                "every process saves once".to_string(),
+                "# The recovery line at its end, that of no process holding, by the call for sets:"
+                    .to_string(),
+            ),
+            false => (
+                format!("every process but {holders} saves once"),
+                format!(
+                    "# The recovery line at its end, that of process {holders} holding, by the call for sets:\n\
+                     line {holders}"
+                ),
+            ),
+        };
+        format!(
+            "# In it {savers}, with an empty list.\n\
+             # It was not executed: process {process} has {}, and the library takes\n\
+             # no more (refusal {}); futures know no such limit.\n\
+             {line}\n# {}\n# It {}.\n",
+            plural(self.table.count(process).into(), "checkpoint"),
+            refusal.number(),
+            future.line,
+            found.bond()
+        )
+    }
+
+    fn not_kept(&self, found: Found) -> String {
+        let mut script = format!(
+            "# {found} is not kept: no future needs it.\n\
+             # The line of each process that alone holds passes it by:\n"
+        );
+        for holder in 0..self.table.processes() {
+            let line = self.sheet.line(holder).expect("the sheet has its lines");
+            let _ = writeln!(
+                script,
+                "line {holder}\n# {line}: {}",
+                found.passed_by(line, &self.table)
+            );
+        }
+        script
+            + "# It is proved that no future needs what these lines pass by: docs/ASSURANCE.md,\n\
+               # demand-3 and nothing-off-the-sheet-is-needed.\n"
+    }
+}
+
+#[cfg(test)]
+mod tests {
+    use super::*;
+
+    /// Example A of the format's document.
+    fn reasons() -> Reasons {
+        let table = include_bytes!("../../../tests/corpus/example_a.table");
+        Reasons::of(Table::from_bytes(&table[..]).expect("accepted"))
+    }
+
+    #[test]
+    fn what_does_not_hold_is_never_told() {
+        let kept = Item::Checkpoint {
+            process: 1,
+            number: 2,
+        };
+        let internal = |reasons: &Reasons, words: &str| {
+            let answer = reasons.script(kept, false);
+            match answer {
+                Err(Unanswered::Internal(told)) => assert!(told.contains(words), "{told}"),
+                answer => panic!("{answer:?}"),
+            }
+        };
+        assert!(reasons().script(kept, false).is_ok());
+        // A line that is not the one at the end of its future.
+        let mut wrong = reasons();
+        let line = wrong.futures[2].line.clone();
+        wrong.futures[2].saves = vec![1];
+        assert!(wrong.futures[2].line == line);
+        internal(&wrong, "was expected");
+        // Fewer futures than show what is kept.
+        let mut fewer = reasons();
+        fewer.futures.truncate(1);
+        internal(&fewer, "do not agree");
+        // A future that does not need it.
+        let found = kept.found(&reasons().table).expect("there");
+        let all = reasons();
+        match all.kept(found, &all.futures[0], false) {
+            Err(Unanswered::Internal(told)) => assert!(told.contains("does not need"), "{told}"),
+            answer => panic!("{answer:?}"),
+        }
+    }
+
+    #[test]
+    fn items() {
+        assert_eq!(Item::read("m0"), Some(Item::Message(0)));
+        assert_eq!(Item::read("m65535"), Some(Item::Message(65535)));
+        let checkpoint = Item::Checkpoint {
+            process: 1,
+            number: 20,
+        };
+        assert_eq!(Item::read("1.20"), Some(checkpoint));
+        for not in [
+            "", "m", ".", "1", "1.", ".1", "m65536", "1.65536", "m-1", "M1", "1.2.3", "+1.2", "m 1",
+        ] {
+            assert_eq!(Item::read(not), None, "{not}");
+        }
+    }
 }

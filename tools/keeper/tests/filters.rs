@@ -3,16 +3,12 @@
 mod common;
 
 use std::fs;
+use std::io::Write;
 use std::path::PathBuf;
+use std::process::{Command, Stdio};
 
-use common::{bytes, corpus, done, example_a, fails, keeper, refused};
-
-/// A file name in the folder for tests, of which there is no file.
-fn fresh(name: &str) -> String {
-    let path = PathBuf::from(env!("CARGO_TARGET_TMPDIR")).join(name);
-    let _ = fs::remove_file(&path);
-    path.to_str().expect("UTF-8").to_string()
-}
+use common::{bytes, corpus, done, example_a, fails, fresh, keeper, note, refused};
+use keeper_command::usage::SUBCOMMANDS;
 
 #[test]
 fn lists_the_corpus() {
@@ -263,11 +259,156 @@ fn files() {
 }
 
 #[test]
-fn a_full_device_is_an_error() {
-    if PathBuf::from("/dev/full").exists() {
-        let message = "/dev/full: No space left on device (os error 28)";
-        fails(&["list", "-o", "/dev/full"], &example_a(), 2, message);
+fn moves_of_a_fall_back() {
+    let moves = "\
+line 1 1
+message 0 0
+message 1 1
+message 2 removed
+message 3 removed
+message 4 removed
+";
+    let (a, table) = (example_a(), fresh("moves.table"));
+    assert_eq!(done(&["fall-back", "--moves"], &a), moves.as_bytes());
+    // The table goes to the file, and the moves to standard output.
+    let arguments = ["fall-back", "--moves", "-o", &table];
+    assert_eq!(done(&arguments, &a), moves.as_bytes());
+    assert_eq!(fs::read(&table).expect("read"), done(&["fall-back"], &a));
+    let run = bytes(&[3, 2, 2, 2, 2, 0, 1, 1, 0, 1, 1, 2, 1]);
+    assert_eq!(
+        done(&["fall-back", "--moves"], &run),
+        b"line 1 0 0\nmessage 0 removed\nmessage 1 removed\n"
+    );
+    // The first goes, and the second moves up and waits again.
+    let run = bytes(&[3, 2, 2, 2, 2, 0, 1, 2, 0, 1, 1, 1, 1]);
+    assert_eq!(
+        done(&["fall-back", "--moves"], &run),
+        b"line 1 0 1\nmessage 0 removed\nmessage 1 0\n"
+    );
+}
+
+/// A text for a table and a table for a text: what is said, and what to do.
+#[test]
+fn texts_and_tables_are_told_apart() {
+    let a = example_a();
+    let text = done(&["decode"], &a);
+    let commented = [b"\xef\xbb\xbf# a run\r\n\r\n\t  # of two\n \t", &text[..]].concat();
+    for text in [
+        &text[..],
+        &commented,
+        b"processes",
+        b"processes 2\nstates 1",
+    ] {
+        let ran = keeper(&["list"], text);
+        let number = refused(&ran.output).expect("refused, as the listing program says");
+        assert_eq!(ran.status, 1);
+        let message = format!(
+            "keeper: (standard input): refused {number}: this is a text, and no table: read it with --text\n"
+        );
+        assert_eq!(ran.errors, message);
+        let ran = keeper(&["decode"], text);
+        let message = format!(
+            "keeper: (standard input): refused {number}: this is a text, and no table: `keeper encode` makes a table of it\n"
+        );
+        assert_eq!((ran.status, ran.errors), (1, message));
     }
+    // Nothing of the kind.
+    for other in [&b""[..], b"process 2\n", b"# processes 2\n", b"states 1\n"] {
+        let ran = keeper(&["check"], other);
+        assert!(!ran.errors.contains("text"), "{}", ran.errors);
+    }
+    for table in [&a[..], &a[..47], &bytes(&[1, 0, 4097])] {
+        let message = "(standard input): this is a table, and no text: read it without --text";
+        for option in ["--text", "--text-in"] {
+            fails(&["list", option], table, 2, message);
+        }
+        let message = "(standard input): this is a table, and no text";
+        fails(&["encode"], table, 2, message);
+    }
+}
+
+/// Runs the command by a shell, in which it is $keeper.
+fn shell(lines: &str, input: &str) -> (Option<i32>, String, String) {
+    let output = Command::new("sh")
+        .args(["-c", lines])
+        .env("keeper", env!("CARGO_BIN_EXE_keeper"))
+        .env("table", common::corpus_folder().join(input))
+        .stdin(Stdio::null())
+        .output()
+        .expect("sh starts");
+    (
+        output.status.code(),
+        String::from_utf8_lossy(&output.stdout).into_owned(),
+        String::from_utf8_lossy(&output.stderr).into_owned(),
+    )
+}
+
+#[test]
+fn a_full_device_is_an_error() {
+    if !PathBuf::from("/dev/full").exists() {
+        note("there is no /dev/full; not tried on a full device");
+        return;
+    }
+    let message = "/dev/full: No space left on device (os error 28)";
+    fails(&["list", "-o", "/dev/full"], &example_a(), 2, message);
+    // Answers of every kind, and help.
+    for line in [
+        "list \"$table\"",
+        "list --json \"$table\"",
+        "line \"$table\"",
+        "decode \"$table\"",
+        "send 0 1 \"$table\"",
+        "sheet \"$table\"",
+        "why 0.0 \"$table\"",
+        "fall-back --moves \"$table\"",
+        "draw \"$table\"",
+        "new 2",
+        "--help",
+        "help list",
+        "--version",
+        "completion bash",
+    ] {
+        let (status, _, errors) =
+            shell(&format!("\"$keeper\" {line} >/dev/full"), "example_a.table");
+        let message = "keeper: (standard output): No space left on device (os error 28)\n";
+        assert_eq!((status, errors.as_str()), (Some(2), message), "{line}");
+    }
+    let lines = "echo line | \"$keeper\" run - \"$table\" >/dev/full";
+    assert_eq!(shell(lines, "example_a.table").0, Some(2));
+}
+
+#[test]
+fn a_closed_pipe_ends_silently() {
+    // Nobody reads before the table is there.
+    for (arguments, input) in [
+        (&["list"][..], example_a()),
+        (&["decode"], example_a()),
+        (&["send", "0", "1"], example_a()),
+        (&["fall-back", "--moves"], example_a()),
+        // A refusal, too, says nothing then.
+        (&["list"], vec![1, 2, 3]),
+        (&["run", "-"], b"new 2\nlist\n".to_vec()),
+    ] {
+        let mut child = Command::new(env!("CARGO_BIN_EXE_keeper"))
+            .args(arguments)
+            .stdin(Stdio::piped())
+            .stdout(Stdio::piped())
+            .stderr(Stdio::piped())
+            .spawn()
+            .expect("the command starts");
+        drop(child.stdout.take());
+        let mut to = child.stdin.take().expect("piped");
+        to.write_all(&input).expect("written");
+        drop(to);
+        let left = child.wait_with_output().expect("the command ends");
+        assert_eq!(left.status.code(), Some(141), "{arguments:?}");
+        assert_eq!(left.stderr, b"", "{arguments:?}");
+    }
+    // As users meet it: whether or not the rest is in the pipe already.
+    let lines = "\"$keeper\" list \"$table\" | head -n 1";
+    let (status, output, errors) = shell(lines, "largest_history.table");
+    assert_eq!((status, errors.as_str()), (Some(0), ""));
+    assert_eq!(output.lines().count(), 1);
 }
 
 #[test]
@@ -342,25 +483,135 @@ fn wrong_usage() {
 }
 
 #[test]
+fn options_and_their_values() {
+    let a = example_a();
+    let (one, table) = (fresh("options.svg"), fresh("options.table"));
+    let drawn = done(&["draw", "--hold", "1"], &a);
+    for arguments in [
+        &["draw", "--hold=1"][..],
+        &["draw", "--hold=1", "--"],
+        &["draw", "--hold", "1", "-"],
+        &["draw", "-o-", "--hold=1"],
+        &["draw", "-o", "-", "--hold=1"],
+    ] {
+        assert_eq!(done(arguments, &a), drawn, "{arguments:?}");
+    }
+    let title = done(&["draw", "--title", "a=b"], &a);
+    assert_eq!(done(&["draw", "--title=a=b"], &a), title);
+    // An empty value is one.
+    assert_eq!(
+        done(&["draw", "--title="], &a),
+        done(&["draw", "--title", ""], &a)
+    );
+    for arguments in [
+        &["draw", "--hold=1", &format!("-o{one}")][..],
+        &["draw", "--hold", "1", "-o", &one],
+    ] {
+        let _ = fs::remove_file(&one);
+        assert_eq!(done(arguments, &a), b"");
+        assert_eq!(fs::read(&one).expect("read"), drawn);
+    }
+    // Behind `--` nothing is an option.
+    fs::write(&table, &a).expect("written");
+    assert_eq!(done(&["list", "--", &table], b""), done(&["list"], &a));
+    let message = "--json: No such file or directory (os error 2)";
+    fails(&["list", "--", "--json"], &a, 2, message);
+    let cases: &[(&[&str], &str)] = &[
+        (
+            &["list", "--text=yes"],
+            "--text takes no value (see `keeper list --help`)",
+        ),
+        (
+            &["list", "--json="],
+            "--json takes no value (see `keeper list --help`)",
+        ),
+        (
+            &["list", "--no=1"],
+            "list has no option `--no` (see `keeper list --help`)",
+        ),
+        (
+            &["list", "-x"],
+            "list has no option `-x` (see `keeper list --help`)",
+        ),
+        (
+            &["list", "-\u{e9}"],
+            "list has no option `-\u{e9}` (see `keeper list --help`)",
+        ),
+        (
+            &["list", "-hx"],
+            "-h stands alone (see `keeper list --help`)",
+        ),
+        (
+            &["draw", "--hold="],
+            "`` is not a number from 0 to 65535 (see `keeper draw --help`)",
+        ),
+        (
+            &["draw", "--hold=1", "--hold=1"],
+            "--hold stands twice (see `keeper draw --help`)",
+        ),
+        (
+            &["list", "-oa", "-ob"],
+            "-o stands twice (see `keeper list --help`)",
+        ),
+        (
+            &["check", "-o", "x"],
+            "check has no option `-o` (see `keeper check --help`)",
+        ),
+        (
+            &["completion"],
+            "completion needs SHELL (see `keeper completion --help`)",
+        ),
+        (
+            &["completion", "fish"],
+            "`fish` is not `bash` or `zsh` (see `keeper completion --help`)",
+        ),
+        (
+            &["help", "keep"],
+            "there is no subcommand `keep` (see `keeper --help`)",
+        ),
+        (
+            &["help", "list", "x"],
+            "one argument too many: `x` (see `keeper help --help`)",
+        ),
+        (&["-x"], "there is no subcommand `-x` (see `keeper --help`)"),
+    ];
+    for (arguments, message) in cases {
+        fails(arguments, &a, 2, message);
+    }
+}
+
+#[test]
 fn help_and_version() {
     let help = String::from_utf8(done(&["--help"], b"")).expect("UTF-8");
     assert_eq!(done(&["-h"], b""), help.as_bytes());
-    for name in [
-        "encode",
-        "decode",
-        "list",
-        "line",
-        "send",
-        "save",
-        "fall-back",
-    ] {
+    assert_eq!(done(&["help"], b""), help.as_bytes());
+    for row in SUBCOMMANDS {
+        let name = row.name;
         assert!(help.contains(&format!("\n  {name}")), "{name}");
         let own = String::from_utf8(done(&[name, "--help"], b"")).expect("UTF-8");
         assert!(own.starts_with(&format!("usage: keeper {name} ")), "{own}");
         assert_eq!(done(&[name, "-h", "--no-such"], b""), own.as_bytes());
+        assert_eq!(done(&["help", name], b""), own.as_bytes());
+        for option in row.options {
+            for option in option.names {
+                assert!(own.contains(option), "{own}");
+            }
+        }
+        for line in own.lines().chain(help.lines()) {
+            assert!(
+                line.chars().count() <= 90 && line.trim_end() == line,
+                "{line}"
+            );
+        }
     }
-    assert_eq!(
-        done(&["--version"], b""),
-        concat!("keeper ", env!("CARGO_PKG_VERSION"), "\n").as_bytes()
+    let version = concat!("keeper ", env!("CARGO_PKG_VERSION"), "\n");
+    assert_eq!(done(&["--version"], b""), version.as_bytes());
+    assert_eq!(done(&["-V"], b""), version.as_bytes());
+    // What a fall back does to numbers and positions.
+    let own = String::from_utf8(done(&["help", "fall-back"], b"")).expect("UTF-8");
+    let own = own.replace('\n', " ");
+    assert!(
+        own.contains("store them by an identity of your own"),
+        "{own}"
     );
 }

@@ -75,6 +75,13 @@ pub fn refuses(arguments: &[&str], input: &[u8], number: u32, place: &str) {
     assert_eq!((ran.status, ran.output), (1, vec![]), "{arguments:?}");
 }
 
+/// A file name in the folder for tests, of which there is no file.
+pub fn fresh(name: &str) -> String {
+    let path = PathBuf::from(env!("CARGO_TARGET_TMPDIR")).join(name);
+    let _ = fs::remove_file(&path);
+    path.to_str().expect("UTF-8").to_string()
+}
+
 pub fn corpus_folder() -> PathBuf {
     PathBuf::from(env!("CARGO_MANIFEST_DIR")).join("../../tests/corpus")
 }
@@ -200,4 +207,9 @@ impl Random {
         }
         table
     }
+}
+
+/// Says what was tried or not, past the harness, which keeps what tests print.
+pub fn note(what: &str) {
+    let _ = writeln!(std::io::stderr(), "keeper tests: {what}");
 }
