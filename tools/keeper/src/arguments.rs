@@ -288,13 +288,19 @@ fn positions(
     if subcommand.file {
         parsed.file = plain.next();
     }
-    match plain.next() {
-        None => Ok(()),
-        Some(argument) => {
-            let what = format_args!("one argument too many: `{}`", argument.to_string_lossy());
-            Err(wrong(subcommand, what))
+    let Some(further) = plain.next() else {
+        return Ok(());
+    };
+    // Behind numbers, what was taken for FILE was meant as one of them.
+    let numbers = subcommand.arguments.last();
+    let numbers = numbers.is_some_and(|last| last.times == Times::Any);
+    Err(match &parsed.file {
+        Some(file) if numbers => not_a_number(subcommand, file),
+        _ => {
+            let what = format_args!("one argument too many: `{}`", further.to_string_lossy());
+            wrong(subcommand, what)
         }
-    }
+    })
 }
 
 /// The failure where an argument is missing.
@@ -317,8 +323,119 @@ fn is_number(argument: &OsStr) -> bool {
 fn number(subcommand: &Subcommand, argument: &OsStr) -> Result<u16, Failure> {
     let shown = argument.to_string_lossy();
     let parsed = is_number(argument).then(|| shown.parse().ok()).flatten();
-    parsed.ok_or_else(|| {
-        let what = format_args!("`{shown}` is not a number from 0 to 65535");
-        wrong(subcommand, what)
-    })
+    parsed.ok_or_else(|| not_a_number(subcommand, argument))
+}
+
+fn not_a_number(subcommand: &Subcommand, argument: &OsStr) -> Failure {
+    let shown = argument.to_string_lossy();
+    let what = format_args!("`{shown}` is not a number from 0 to 65535");
+    wrong(subcommand, what)
+}
+
+#[cfg(test)]
+mod tests {
+    use super::*;
+    use crate::usage::{Argument, Work};
+
+    const fn option(name: &'static [&'static str], takes: Takes) -> Opt {
+        Opt {
+            names: name,
+            takes,
+            value: "VALUE",
+            words: "",
+        }
+    }
+
+    static FLAG: Opt = option(&["--flag", "-f"], Takes::Nothing);
+    static NUMBERS: Opt = option(&["--numbers", "-n"], Takes::Numbers);
+    static EITHER: Opt = option(&["--either"], Takes::NumberOr(&["all", "none"]));
+    static ROW: Subcommand = Subcommand {
+        name: "row",
+        arguments: &[
+            Argument {
+                name: "FIRST",
+                takes: Takes::OneOf(&["one", "two"]),
+                times: Times::Once,
+            },
+            Argument {
+                name: "REST",
+                takes: Takes::Number,
+                times: Times::Any,
+            },
+        ],
+        file: true,
+        options: &[&FLAG, &NUMBERS, &EITHER],
+        short: "",
+        words: "",
+        work: Work::Alone(|_| Ok(())),
+    };
+
+    fn parsed(arguments: &[&str]) -> Result<Option<Arguments>, String> {
+        let arguments = arguments.iter().map(OsString::from).collect();
+        parse(&ROW, arguments).map_err(|failure| failure.message().unwrap_or("").to_string())
+    }
+
+    fn given(arguments: &[&str]) -> Arguments {
+        parsed(arguments).expect("taken").expect("no help")
+    }
+
+    #[test]
+    fn each_kind_of_value() {
+        let one = given(&["one", "-n1,2,3", "--either", "all", "-f"]);
+        assert_eq!(one.word("FIRST"), Some("one"));
+        assert_eq!(one.numbers("--numbers"), [1, 2, 3]);
+        assert_eq!(
+            (one.word("--either"), one.number("--either")),
+            (Some("all"), None)
+        );
+        assert!(one.has("--flag") && one.file.is_none() && one.numbers("REST").is_empty());
+        let two = given(&["--either=7", "two", "4", "5", "--numbers", "65535", "six"]);
+        assert_eq!(
+            (two.word("--either"), two.number("--either")),
+            (None, Some(7))
+        );
+        assert_eq!(two.numbers("--numbers"), [65535]);
+        assert_eq!(two.numbers("REST"), [4, 5]);
+        assert_eq!(two.file.as_deref(), Some(OsStr::new("six")));
+        assert!(!two.has("--flag"));
+        // Behind `--` nothing is an option.
+        let three = given(&["--", "one", "--flag"]);
+        assert_eq!(three.file.as_deref(), Some(OsStr::new("--flag")));
+        assert!(parsed(&["one", "-h"]).expect("taken").is_none());
+    }
+
+    #[test]
+    fn what_is_not_taken() {
+        let cases: &[(&[&str], &str)] = &[
+            (&[], "row needs FIRST"),
+            (&["three"], "`three` is not `one` or `two`"),
+            (&["one", "-n1,,2"], "`` is not a number from 0 to 65535"),
+            (&["one", "-n1,x"], "`x` is not a number from 0 to 65535"),
+            (
+                &["one", "-n1,65536"],
+                "`65536` is not a number from 0 to 65535",
+            ),
+            (&["one", "-n"], "-n needs VALUE"),
+            (&["one", "-n1", "--numbers=2"], "--numbers stands twice"),
+            (
+                &["one", "--either=some"],
+                "`some` is neither a number nor `all` or `none`",
+            ),
+            (&["one", "--flag=1"], "--flag takes no value"),
+            (&["one", "-f1"], "-f stands alone"),
+            (&["one", "--Flag"], "row has no option `--Flag`"),
+            (
+                &["one", "1", "x", "2"],
+                "`x` is not a number from 0 to 65535",
+            ),
+            (
+                &["one", "1", "x", "y"],
+                "`x` is not a number from 0 to 65535",
+            ),
+        ];
+        for (arguments, message) in cases {
+            let told = parsed(arguments).err().expect("not taken");
+            assert_eq!(told, format!("{message} (see `keeper row --help`)"));
+        }
+    }
 }

@@ -52,6 +52,10 @@ impl Failure {
         }
     }
 
+    pub fn message(&self) -> Option<&str> {
+        self.message.as_deref()
+    }
+
     /// Behind the place where it happened.
     pub fn at(self, place: impl fmt::Display) -> Failure {
         Failure {

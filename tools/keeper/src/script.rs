@@ -8,6 +8,7 @@ use crate::arguments::{self, wrong, Arguments};
 use crate::command::{put_table, Failure, Stepped};
 use crate::input::{Input, MOST_TEXT};
 use crate::output::put;
+use crate::text;
 use crate::usage::{self, Work, SUBCOMMANDS};
 
 /// Other words for the names of subcommands.
@@ -93,9 +94,13 @@ fn read(arguments: &Arguments) -> Result<(String, Vec<u8>), Failure> {
         }
     };
     done.map_err(|error| Failure::trouble(format!("{name}: {error}")))?;
-    match script.len() > MOST_TEXT {
+    if script.len() > MOST_TEXT {
+        let what = format!("{name}: longer than a script may be ({MOST_TEXT} bytes)");
+        return Err(Failure::trouble(what));
+    }
+    match text::looks_like_table(&script) {
         true => Err(Failure::trouble(format!(
-            "{name}: longer than a script may be ({MOST_TEXT} bytes)"
+            "{name}: this is a table, and no script: SCRIPT stands before FILE"
         ))),
         false => Ok((name, script)),
     }
@@ -136,11 +141,9 @@ fn step(words: &[&str]) -> Result<Arguments, Failure> {
     let row = row.ok_or_else(|| {
         let names = SUBCOMMANDS.iter().filter(|row| is_step(row.work));
         let names: Vec<&str> = names.map(|row| row.name).collect();
-        Failure::trouble(format!(
-            "there is no step `{}`; there are {}",
-            words[0].escape_debug(),
-            names.join(", ")
-        ))
+        let shown: String = words[0].escape_debug().take(20).collect();
+        let names = names.join(", ");
+        Failure::trouble(format!("there is no step `{shown}`; there are {names}"))
     })?;
     let given = rest.iter().map(OsString::from).collect();
     let arguments = arguments::parse(row, given)?

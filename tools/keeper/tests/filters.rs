@@ -454,7 +454,15 @@ fn wrong_usage() {
         ),
         (
             &["save", "0", "-", "1"],
-            "one argument too many: `1` (see `keeper save --help`)",
+            "`-` is not a number from 0 to 65535 (see `keeper save --help`)",
+        ),
+        (
+            &["save", "0", "m4", "run.table"],
+            "`m4` is not a number from 0 to 65535 (see `keeper save --help`)",
+        ),
+        (
+            &["line", "all", "run.table"],
+            "`all` is not a number from 0 to 65535 (see `keeper line --help`)",
         ),
         (
             &["list", "a", "b"],

@@ -231,6 +231,9 @@ fn what_a_script_begins_with() {
     fs::write(&script, "line\n").expect("written");
     let message = "(standard input): refused 4: the table has 47 bytes, and 48 are needed for N = 2 and M = 5";
     fails(&["run", &script], &example_a()[..47], 1, message);
+    fs::write(&script, example_a()).expect("written");
+    let message = format!("{script}: this is a table, and no script: SCRIPT stands before FILE");
+    fails(&["run", &script, "steps.txt"], b"", 2, &message);
     let missing = fresh("missing.steps");
     let message = format!("{missing}: No such file or directory (os error 2)");
     fails(&["run", &missing], b"", 2, &message);
