@@ -7,7 +7,7 @@ use std::io::Write;
 use std::path::PathBuf;
 use std::process::{Command, Stdio};
 
-use common::{bytes, corpus, done, example_a, fails, fresh, keeper, note, refused};
+use common::{as_somebody, bytes, corpus, done, example_a, fails, fresh, keeper, note, refused};
 use keeper_command::usage::SUBCOMMANDS;
 
 #[test]
@@ -349,8 +349,14 @@ fn a_full_device_is_an_error() {
         note("there is no /dev/full; not tried on a full device");
         return;
     }
-    let message = "/dev/full: No space left on device (os error 28)";
-    fails(&["list", "-o", "/dev/full"], &example_a(), 2, message);
+    let mut command = Command::new(env!("CARGO_BIN_EXE_keeper"));
+    let table = common::corpus_folder().join("example_a.table");
+    let command = command.args(["list", "-o", "/dev/full"]).arg(table);
+    if let Some(ran) = as_somebody(command) {
+        let message = "keeper: /dev/full: No space left on device (os error 28)\n";
+        assert_eq!(String::from_utf8_lossy(&ran.stderr), message);
+        assert_eq!(ran.status.code(), Some(2));
+    }
     // Answers of every kind, and help.
     for line in [
         "list \"$table\"",

@@ -6,11 +6,10 @@ mod common;
 use std::fs::{self, File, Permissions};
 use std::io::Read;
 use std::os::unix::fs::{symlink, MetadataExt, PermissionsExt};
-use std::os::unix::process::CommandExt;
 use std::path::{Path, PathBuf};
 use std::process::{Command, Output, Stdio};
 
-use common::{bytes, done, example_a, fails, keeper, note};
+use common::{as_somebody, bytes, done, example_a, fails, keeper, note};
 
 /// A folder of a test, empty.
 fn folder(name: &str) -> PathBuf {
@@ -41,15 +40,19 @@ fn mode(path: &Path) -> u32 {
     fs::metadata(path).expect("there").mode() & 0o7777
 }
 
-/// Runs lines of a shell in which $keeper is the command.
-fn shell(lines: &str, folder: &Path) -> Output {
-    Command::new("sh")
+/// A shell with lines to run, in which $keeper is the command.
+fn shell_of(lines: &str, folder: &Path) -> Command {
+    let mut shell = Command::new("sh");
+    shell
         .args(["-c", lines])
         .env("keeper", env!("CARGO_BIN_EXE_keeper"))
         .current_dir(folder)
-        .stdin(Stdio::null())
-        .output()
-        .expect("sh starts")
+        .stdin(Stdio::null());
+    shell
+}
+
+fn shell(lines: &str, folder: &Path) -> Output {
+    shell_of(lines, folder).output().expect("sh starts")
 }
 
 fn told(output: &Output) -> (Option<i32>, String) {
@@ -210,28 +213,39 @@ fn links() {
 }
 
 #[test]
+fn what_stands_in_dev() {
+    let folder = folder("dev");
+    fs::set_permissions(&folder, Permissions::from_mode(0o777)).expect("set");
+    fs::write(folder.join("a.table"), example_a()).expect("written");
+    // Files that a shell has opened: what stands there stays.
+    let lines = "\
+echo before >log
+\"$keeper\" list a.table -o /dev/null || exit 1
+\"$keeper\" list a.table -o /dev/stdout || exit 1
+\"$keeper\" list a.table -o /dev/stdout >>log || exit 1
+\"$keeper\" list a.table -o /dev/fd/3 3>>log || exit 1
+\"$keeper\" list a.table -o /dev/stdout >only || exit 1";
+    let Some(ran) = as_somebody(&mut shell_of(lines, &folder)) else {
+        return;
+    };
+    assert_eq!(told(&ran), (Some(0), String::new()));
+    let listing = done(&["list"], &example_a());
+    assert_eq!(ran.stdout, listing);
+    let expected = [&b"before\n"[..], &listing, &listing].concat();
+    assert_eq!(fs::read(folder.join("log")).expect("read"), expected);
+    assert_eq!(fs::read(folder.join("only")).expect("read"), listing);
+    assert_eq!(names(&folder), ["a.table", "log", "only"]);
+}
+
+#[test]
 fn what_is_no_plain_file() {
     let folder = folder("other");
     let a = example_a();
     let listing = done(&["list"], &a);
-    assert_eq!(done(&["list", "-o", "/dev/null"], &a), b"");
-    assert_eq!(done(&["list", "-o", "/dev/stdout"], &a), listing);
     assert_eq!(done(&["list", "-o", "-"], &a), listing);
     assert_eq!(done(&["list", "-o-"], &a), listing);
     let message = format!("{}: Is a directory (os error 21)", text(&folder));
     fails(&["list", "-o", text(&folder)], &a, 2, &message);
-
-    // Files that a shell has opened: what stands there stays.
-    fs::write(folder.join("a.table"), &a).expect("written");
-    let lines = "\
-echo before >log
-\"$keeper\" list a.table -o /dev/stdout >>log || exit 1
-\"$keeper\" list a.table -o /dev/fd/3 3>>log || exit 1
-\"$keeper\" list a.table -o /dev/stdout >only || exit 1";
-    assert_eq!(told(&shell(lines, &folder)), (Some(0), String::new()));
-    let expected = [&b"before\n"[..], &listing, &listing].concat();
-    assert_eq!(fs::read(folder.join("log")).expect("read"), expected);
-    assert_eq!(fs::read(folder.join("only")).expect("read"), listing);
 
     // A named pipe stays one.
     let pipe = folder.join("pipe");
@@ -249,30 +263,14 @@ echo before >log
         }
         _ => note("output files: there is no mkfifo; not tried on a named pipe"),
     }
-    let left: Vec<String> = names(&folder)
-        .into_iter()
-        .filter(|name| name != "pipe")
-        .collect();
-    assert_eq!(left, ["a.table", "log", "only"]);
+    assert!(names(&folder).iter().all(|name| name == "pipe"));
 }
 
-/// Runs the command as somebody who is not root: as nobody, or as we are.
-fn as_somebody(arguments: &[&str], folder: &Path) -> Option<(Option<i32>, String)> {
+/// Runs the command as somebody who is not root.
+fn ask(arguments: &[&str], folder: &Path) -> Option<(Option<i32>, String)> {
     let mut command = Command::new(env!("CARGO_BIN_EXE_keeper"));
-    command
-        .args(arguments)
-        .current_dir(folder)
-        .stdin(Stdio::null());
-    if fs::metadata(folder).expect("there").uid() == 0 {
-        command.uid(65534).gid(65534);
-    }
-    match command.output() {
-        Ok(output) => Some(told(&output)),
-        Err(_) => {
-            note("output files: the command can't be started as another user; not tried so");
-            None
-        }
-    }
+    let output = as_somebody(command.args(arguments).current_dir(folder));
+    output.as_ref().map(told)
 }
 
 #[test]
@@ -283,7 +281,7 @@ fn what_may_not_be_written() {
     fs::set_permissions(&table, Permissions::from_mode(0o666)).expect("set");
     fs::set_permissions(&folder, Permissions::from_mode(0o555)).expect("set");
     let arguments = ["save", "0", "run.table", "-o", "run.table"];
-    let denied = as_somebody(&arguments, &folder);
+    let denied = ask(&arguments, &folder);
     fs::set_permissions(&folder, Permissions::from_mode(0o777)).expect("set");
     let Some(denied) = denied else { return };
     assert_eq!(
@@ -298,7 +296,7 @@ fn what_may_not_be_written() {
     // A file that is not to be written, in a folder that is.
     fs::set_permissions(&table, Permissions::from_mode(0o444)).expect("set");
     assert_eq!(
-        as_somebody(&arguments, &folder),
+        ask(&arguments, &folder),
         Some((
             Some(2),
             "keeper: run.table: Permission denied (os error 13); the old file is as it was\n"
@@ -310,10 +308,7 @@ fn what_may_not_be_written() {
     // Both are: of another's file one's own becomes, without its special rights.
     fs::set_permissions(&table, Permissions::from_mode(0o6777)).expect("set");
     let before = fs::metadata(&table).expect("there");
-    assert_eq!(
-        as_somebody(&arguments, &folder),
-        Some((Some(0), String::new()))
-    );
+    assert_eq!(ask(&arguments, &folder), Some((Some(0), String::new())));
     let after = fs::metadata(&table).expect("there");
     let expected = match after.uid() == before.uid() {
         true => 0o6777,

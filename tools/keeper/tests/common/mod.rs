@@ -3,8 +3,10 @@
 
 use std::fs;
 use std::io::Write;
+use std::os::unix::fs::MetadataExt;
+use std::os::unix::process::CommandExt;
 use std::path::PathBuf;
-use std::process::{Command, Stdio};
+use std::process::{Command, Output, Stdio};
 
 /// What a run of the command left.
 #[derive(Debug, PartialEq, Eq)]
@@ -206,6 +208,25 @@ impl Random {
             table = answer[..written.expect("within the limits")].to_vec();
         }
         table
+    }
+}
+
+/// Lets a command run as nobody where we are root: so that a program that does
+/// not do as it should can't replace what stands in /dev, and permissions are
+/// asked for. `None`, with a note, where it can't be started so.
+pub fn as_somebody(command: &mut Command) -> Option<Output> {
+    let own = fs::metadata("/proc/self").or_else(|_| fs::metadata(env!("CARGO_TARGET_TMPDIR")));
+    if own.expect("there").uid() == 0 {
+        command.uid(65534).gid(65534);
+    }
+    match command.stdin(Stdio::null()).output() {
+        Ok(output) => Some(output),
+        Err(error) => {
+            note(&format!(
+                "the command can't be started as another user ({error}); not tried so"
+            ));
+            None
+        }
     }
 }
 
