@@ -63,12 +63,10 @@ pub fn culprit(table: &[u8], refusal: Refusal) -> Option<Culprit> {
         | Refusal::MessageToItsSender
         | Refusal::SendNumberTooHigh
         | Refusal::ReceiptNumberTooHigh => {
-            let (n_and_counts, entries) = (&table[..2], table.get(counts_at..sends_at)?);
+            let (n, counts) = (&table[..2], table.get(counts_at..sends_at)?);
             let sends = table.get(sends_at..receipts_at)?.chunks(4);
             let receipts = table.get(receipts_at..)?.chunks(4);
-            let alone = |send: &[u8], receipt: &[u8]| {
-                [n_and_counts, &[1, 0], entries, send, receipt].concat()
-            };
+            let alone = |send: &[u8], receipt: &[u8]| [n, &[1, 0], counts, send, receipt].concat();
             sends
                 .zip(receipts)
                 .position(|(send, receipt)| {

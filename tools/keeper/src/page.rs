@@ -204,11 +204,13 @@ impl Page {
             }
             None => "",
         };
-        let one = !typed.contains(' ');
-        let text = match () {
-            () if one && typed.len() > 1 && typed.starts_with('-') => flag(typed),
-            () if SUBCOMMANDS.iter().any(|row| row.name == typed) => format!("Cm {typed}"),
-            () => format!("Ql {}", escaped(typed)),
+        let option = typed.len() > 1 && typed.starts_with('-') && !typed.contains(' ');
+        let text = if option {
+            flag(typed)
+        } else if SUBCOMMANDS.iter().any(|row| row.name == typed) {
+            format!("Cm {typed}")
+        } else {
+            format!("Ql {}", escaped(typed))
         };
         self.macros(&text, before, after);
     }
