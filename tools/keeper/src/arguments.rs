@@ -205,9 +205,11 @@ fn value(subcommand: &Subcommand, takes: Takes, given: OsString) -> Result<Value
             let numbers = parts.map(|part| number(subcommand, OsStr::from_bytes(part)));
             Value::Numbers(numbers.collect::<Result<_, _>>()?)
         }
-        Takes::NumberOr(words) => match one_of(words) {
+        Takes::NumbersOr(words) => match one_of(words) {
             Some(word) => Value::Word(word),
-            None if is_number(&given) => Value::Number(number(subcommand, &given)?),
+            None if given.as_bytes().contains(&b',') || is_number(&given) => {
+                return value(subcommand, Takes::Numbers, given);
+            }
             None => {
                 let what = format_args!(
                     "`{}` is neither a number nor {}",

@@ -11,7 +11,7 @@ use crate::arguments::{self, Arguments};
 use crate::explain::Call;
 use crate::input::Input;
 use crate::output::put;
-use crate::run::Run;
+use crate::run::{Choice, Holders, Run};
 use crate::usage::{self, Subcommand, Work};
 use crate::{completion, draw, json, text};
 
@@ -271,11 +271,30 @@ pub fn fall_back(input: &Input, arguments: &Arguments) -> Result<Stepped, Failur
 }
 
 pub fn draw(input: &Input, arguments: &Arguments) -> Result<Vec<u8>, Failure> {
-    let hold = arguments.number("--hold");
-    let holder = hold.map(|process| holder(arguments, process)).transpose()?;
-    let run = Run::read(&input.table, holder)
-        .map_err(|refusal| input.refused(&Call::Hold(hold.as_slice()), refusal))?;
-    Ok(draw::draw(&run, arguments.text("--title")).into_bytes())
+    let hold = arguments.numbers("--hold");
+    let holders = match arguments.word("--hold") {
+        Some(_) => Holders::All,
+        None => {
+            let named = hold.iter().map(|process| holder(arguments, *process));
+            Holders::Of(named.collect::<Result<_, _>>()?)
+        }
+    };
+    let last = arguments.number("--last").map(usize::from);
+    if last == Some(0) {
+        let what = "--last needs a number above 0";
+        return Err(arguments::wrong(arguments.subcommand, what));
+    }
+    let processes = arguments.numbers("--processes").iter().copied();
+    let choice = Choice {
+        processes: (arguments.has("--processes")).then(|| processes.map(usize::from).collect()),
+        last,
+        kept_only: arguments.has("--kept-only"),
+    };
+    let run = Run::read(&input.table, &holders)
+        .map_err(|refusal| input.refused(&Call::Hold(hold), refusal))?;
+    draw::draw(&run, &choice, arguments.text("--title"))
+        .map(String::into_bytes)
+        .map_err(|undrawn| arguments::wrong(arguments.subcommand, undrawn))
 }
 
 pub fn completion(arguments: &Arguments) -> Result<(), Failure> {

@@ -1,30 +1,43 @@
 //! A run as a space-time diagram in SVG.
 
-use std::collections::BTreeMap;
-use std::fmt::Write;
+mod legend;
+mod shapes;
 
-use crate::layout::{self, Layout, Place, Scale};
-use crate::run::{Message, Run};
+use std::fmt::{self, Write};
 
-const DOT: f64 = 5.0;
-/// Characters of the sans-serif fonts are narrower than this share of their
-/// size, on average.
-const CHARACTER: f64 = 0.58;
+use crate::layout::{self, Arrow, Layout, Place, Scale};
+use crate::run::{BadChoice, Choice, Message, Run, View};
+use legend::Legend;
+pub use shapes::escape;
+use shapes::{
+    arrow, dot, label, label_over_lines, open_arrows, polyline, short, virtual_dot, width_of, wrap,
+    Box2, Cut, Point, Space, Style, DOT, FAINT, INK, KEPT, PLAIN, WAITING,
+};
+
 const LEFT: f64 = 104.0;
 const RIGHT: f64 = 40.0;
+/// Room to the left for what is left out at the beginning of lifelines.
+const LEAD: f64 = 48.0;
+/// A narrower picture has no room for its legend.
+const NARROWEST: f64 = 664.0;
+/// In a wider picture the names of the processes stand at the right too.
+const WIDE: f64 = 1_400.0;
+/// Many renderers stop at a picture of more pixels, across or down.
+pub const MOST_PIXELS: usize = 32_767;
 /// How far lines reach beyond the first and the last process.
 const BEYOND: f64 = 26.0;
 /// How far before its receiver the arrow of a waiting message ends.
 const GAP: f64 = 12.0;
+/// How far up or down the arrow of a message goes whose other end is left out.
+const STUB: f64 = 18.0;
 /// With more messages than this, none has its position beside it.
 const MOST_LABELLED: usize = 120;
-
-const INK: &str = "#000000";
-const FAINT: &str = "#6e6e6e";
+/// Up to so many lines of holders have an entry each in the legend.
+const MOST_HOLD_ENTRIES: usize = 6;
 
 /// The size of the drawing's parts: smaller where there is more to draw.
-fn scale(run: &Run, timed: bool) -> Scale {
-    let most = layout::busiest(run);
+fn scale(view: &View, timed: bool) -> Scale {
+    let most = layout::busiest(view);
     let column: f64 = match most.process {
         0..=12 => 40.0,
         13..=40 => 32.0,
@@ -36,11 +49,12 @@ fn scale(run: &Run, timed: bool) -> Scale {
         true => column,
         // All between two checkpoints stands in one column here.
         false => {
-            let last = run.counts.iter().max().map_or(1.0, |count| *count as f64);
+            let counts = view.rows.iter().map(|p| view.checkpoints(*p).count());
+            let last = counts.max().map_or(1.0, |count| count as f64);
             column.max((14.0 * (most.interval + 1) as f64).min(4_000.0 / last))
         }
     };
-    let row = match run.counts.len() {
+    let row = match view.rows.len() {
         0..=4 => 88.0,
         5..=10 => 68.0,
         11..=20 => 56.0,
@@ -50,217 +64,9 @@ fn scale(run: &Run, timed: bool) -> Scale {
         column,
         row,
         clear: DOT + 4.0,
+        gap: GAP,
     }
 }
-
-/// A point of the drawing, down and to the right.
-#[derive(Clone, Copy, Debug, PartialEq)]
-struct Point {
-    x: f64,
-    y: f64,
-}
-
-#[derive(Clone, Copy)]
-struct Box2 {
-    left: f64,
-    top: f64,
-    right: f64,
-    bottom: f64,
-}
-
-impl Box2 {
-    fn around(centre: Point, half: f64) -> Box2 {
-        Box2 {
-            left: centre.x - half,
-            top: centre.y - half,
-            right: centre.x + half,
-            bottom: centre.y + half,
-        }
-    }
-
-    fn meets(&self, other: &Box2) -> bool {
-        self.left < other.right
-            && other.left < self.right
-            && self.top < other.bottom
-            && other.top < self.bottom
-    }
-
-    /// Whether a straight line between two points goes through the box.
-    fn meets_line(&self, from: Point, to: Point) -> bool {
-        let (mut enter, mut leave) = (0.0_f64, 1.0_f64);
-        for (start, way, low, high) in [
-            (from.x, to.x - from.x, self.left, self.right),
-            (from.y, to.y - from.y, self.top, self.bottom),
-        ] {
-            if way == 0.0 {
-                if start <= low || start >= high {
-                    return false;
-                }
-            } else {
-                let (one, other) = ((low - start) / way, (high - start) / way);
-                enter = enter.max(one.min(other));
-                leave = leave.min(one.max(other));
-            }
-        }
-        enter < leave
-    }
-}
-
-/// What is drawn already, by squares of the drawing, for finding free places.
-#[derive(Default)]
-struct Space {
-    lines: BTreeMap<(i64, i64), Vec<(Point, Point)>>,
-    boxes: BTreeMap<(i64, i64), Vec<Box2>>,
-}
-
-const SQUARE: f64 = 64.0;
-
-fn squares(own: &Box2) -> impl Iterator<Item = (i64, i64)> {
-    let index = |place: f64| (place / SQUARE).floor() as i64;
-    let (top, bottom) = (index(own.top), index(own.bottom));
-    (index(own.left)..=index(own.right)).flat_map(move |x| (top..=bottom).map(move |y| (x, y)))
-}
-
-impl Space {
-    fn add_line(&mut self, from: Point, to: Point) {
-        // Square by square across, so that a long line takes few squares.
-        let (from, to) = if from.x <= to.x {
-            (from, to)
-        } else {
-            (to, from)
-        };
-        let pieces = ((to.x - from.x) / SQUARE).ceil().max(1.0);
-        let at = |part: f64| Point {
-            x: from.x + (to.x - from.x) * part,
-            y: from.y + (to.y - from.y) * part,
-        };
-        for piece in 0..pieces as usize {
-            let (one, other) = (at(piece as f64 / pieces), at((piece + 1) as f64 / pieces));
-            let own = Box2 {
-                left: one.x,
-                right: other.x,
-                top: one.y.min(other.y),
-                bottom: one.y.max(other.y),
-            };
-            for square in squares(&own) {
-                self.lines.entry(square).or_default().push((one, other));
-            }
-        }
-    }
-
-    fn add_box(&mut self, own: Box2) {
-        for square in squares(&own) {
-            self.boxes.entry(square).or_default().push(own);
-        }
-    }
-
-    fn is_free(&self, own: &Box2) -> bool {
-        squares(own).all(|square| {
-            let lines = self.lines.get(&square).map_or(&[][..], Vec::as_slice);
-            let boxes = self.boxes.get(&square).map_or(&[][..], Vec::as_slice);
-            !lines.iter().any(|(from, to)| own.meets_line(*from, *to))
-                && !boxes.iter().any(|other| own.meets(other))
-        })
-    }
-}
-
-/// A number with at most one decimal.
-fn short(number: f64) -> String {
-    let text = format!("{number:.1}");
-    let text = text.strip_suffix(".0").unwrap_or(&text);
-    if text == "-0" { "0" } else { text }.to_string()
-}
-
-fn points(corners: &[Point]) -> String {
-    let all: Vec<String> = corners
-        .iter()
-        .map(|corner| format!("{},{}", short(corner.x), short(corner.y)))
-        .collect();
-    all.join(" ")
-}
-
-/// Text as it may stand in XML.
-pub fn escape(text: &str) -> String {
-    let mut escaped = String::new();
-    for character in text.chars() {
-        match character {
-            '&' => escaped.push_str("&amp;"),
-            '<' => escaped.push_str("&lt;"),
-            '>' => escaped.push_str("&gt;"),
-            '"' => escaped.push_str("&quot;"),
-            '\t' | '\n' | '\r' => escaped.push(' '),
-            // XML has no other control characters and neither of these two.
-            '\0'..='\x1f' | '\u{fffe}' | '\u{ffff}' => escaped.push('\u{fffd}'),
-            other => escaped.push(other),
-        }
-    }
-    escaped
-}
-
-fn width_of(text: &str, size: f64) -> f64 {
-    text.chars()
-        .map(|character| if character.is_ascii() { CHARACTER } else { 1.0 })
-        .sum::<f64>()
-        * size
-}
-
-/// Text in lines no wider than that; a longer word is cut.
-fn wrap(text: &str, size: f64, width: f64) -> Vec<String> {
-    let mut lines = vec![String::new()];
-    for word in text.split_whitespace() {
-        let line = lines.last_mut().expect("one");
-        if !line.is_empty()
-            && width_of(line, size) + width_of(word, size) + size * CHARACTER > width
-        {
-            lines.push(String::new());
-        } else if !line.is_empty() {
-            line.push(' ');
-        }
-        for character in word.chars() {
-            let line = lines.last_mut().expect("one");
-            if !line.is_empty() && width_of(line, size) + size > width {
-                lines.push(String::new());
-            }
-            lines.last_mut().expect("one").push(character);
-        }
-    }
-    lines
-}
-
-/// How an arrow is drawn.
-struct Style {
-    class: &'static str,
-    colour: &'static str,
-    width: f64,
-    dashes: &'static str,
-    head: f64,
-    open: bool,
-}
-
-const PLAIN: Style = Style {
-    class: "plain",
-    colour: FAINT,
-    width: 1.1,
-    dashes: "",
-    head: 8.0,
-    open: false,
-};
-const KEPT: Style = Style {
-    class: "kept",
-    colour: INK,
-    width: 2.4,
-    dashes: "",
-    head: 11.0,
-    open: false,
-};
-const WAITING: Style = Style {
-    class: "waiting",
-    colour: INK,
-    width: 2.0,
-    dashes: "6 4",
-    head: 10.0,
-    open: true,
-};
 
 fn style(message: &Message) -> &'static Style {
     match (message.waiting(), message.kept) {
@@ -270,240 +76,327 @@ fn style(message: &Message) -> &'static Style {
     }
 }
 
-/// An arrow along the corners, its tip at the last.
-fn arrow(svg: &mut String, style: &Style, corners: &[Point]) {
-    let tip = corners[corners.len() - 1];
-    let before = corners[corners.len() - 2];
-    let length = (tip.x - before.x).hypot(tip.y - before.y);
-    let (along_x, along_y) = ((tip.x - before.x) / length, (tip.y - before.y) / length);
-    let back = |along: f64, aside: f64| Point {
-        x: tip.x - along * along_x - aside * along_y,
-        y: tip.y - along * along_y + aside * along_x,
+const RECOVERY_PAINT: &str = "stroke=\"#f0a35e\" stroke-width=\"8\" stroke-linecap=\"round\"";
+
+/// Colours and dashes of the lines of holders, one after another.
+const HOLD_PAINTS: [(&str, &str); MOST_HOLD_ENTRIES] = [
+    ("#0b4fa0", "11 4 2 4"),
+    ("#a01a5c", "7 4"),
+    ("#1a6e2e", "2 3"),
+    ("#5b2d91", "16 4"),
+    ("#00707a", "9 3 2 3 2 3"),
+    ("#7a4a00", "4 3"),
+];
+
+/// How the line of a holder is painted, by its place among so many.
+fn hold_paint(place: usize, holders: usize) -> String {
+    let (colour, dashes) = HOLD_PAINTS[place % HOLD_PAINTS.len()];
+    let width = match holders {
+        1 => 2.4,
+        2..=MOST_HOLD_ENTRIES => 2.0,
+        _ => 1.2,
     };
-    let half = style.head * 0.36;
-    let mut shaft = corners.to_vec();
-    if !style.open {
-        *shaft.last_mut().expect("two") = back(style.head * 0.8, 0.0);
+    format!("stroke=\"{colour}\" stroke-width=\"{width}\" stroke-dasharray=\"{dashes}\"")
+}
+
+/// How far to the side a line of a holder runs: side by side where they run
+/// together, and all within the width of a dot.
+fn hold_lane(place: usize, holders: usize) -> f64 {
+    let between = holders.saturating_sub(1) as f64;
+    let step = (2.0 * DOT / between.max(1.0)).min(3.0);
+    (place as f64 - between / 2.0) * step
+}
+
+/// Numbers, rising, with those in a row together: 0-3, 7.
+fn ranges(numbers: &[usize]) -> Vec<String> {
+    let mut ranges: Vec<(usize, usize)> = Vec::new();
+    for number in numbers {
+        match ranges.last_mut() {
+            Some((_, last)) if *last + 1 == *number => *last = *number,
+            _ => ranges.push((*number, *number)),
+        }
     }
-    let (one, other) = (back(style.head, half), back(style.head, -half));
-    let _ = write!(svg, "<polyline points=\"{}\"/>", points(&shaft));
-    let _ = match style.open {
-        true => writeln!(
-            svg,
-            "<polyline points=\"{}\" stroke-dasharray=\"none\"/>",
-            points(&[one, tip, other])
-        ),
-        false => writeln!(
-            svg,
-            "<polygon points=\"{}\" fill=\"{}\" stroke=\"none\"/>",
-            points(&[tip, one, other]),
-            style.colour
-        ),
+    let shown = |(first, last): (usize, usize)| match last - first {
+        0 => first.to_string(),
+        _ => format!("{first}-{last}"),
     };
+    ranges.into_iter().map(shown).collect()
 }
 
-fn open_arrows(svg: &mut String, style: &Style) {
-    let dashes = match style.dashes {
-        "" => String::new(),
-        dashes => format!(" stroke-dasharray=\"{dashes}\""),
-    };
-    let _ = writeln!(
-        svg,
-        "<g class=\"messages {}\" fill=\"none\" stroke=\"{}\" stroke-width=\"{}\" stroke-linejoin=\"round\"{dashes}>",
-        style.class, style.colour, style.width
+/// The lines of these holders, in words.
+fn lines_of(holders: &[usize]) -> String {
+    match holders {
+        [one] => format!("the line of process {one} holding"),
+        more => format!(
+            "the lines of processes {}, each alone holding",
+            ranges(more).join(", ")
+        ),
+    }
+}
+
+/// Beside a checkpoint, whose lines stand there, as far as there is room.
+fn holders_label(holders: &[usize]) -> String {
+    let ranges = ranges(holders);
+    match ranges.len() {
+        0..=3 => format!("h{}", ranges.join(",")),
+        _ => format!("h{},..", ranges[..2].join(",")),
+    }
+}
+
+/// What a checkpoint is, and why it is kept.
+fn checkpoint_title(run: &Run, p: usize, number: usize) -> String {
+    match run.kept[p].get(number) {
+        None => format!("virtual checkpoint of process {p}, numbered {number}"),
+        Some(false) => format!("checkpoint {number} of process {p}, not kept"),
+        Some(true) => format!(
+            "checkpoint {number} of process {p}, kept: on {}",
+            lines_of(&run.held_at(p, number))
+        ),
+    }
+}
+
+/// What a message is, and why it is kept.
+fn message_title(run: &Run, k: usize) -> String {
+    let message = &run.messages[k];
+    let sent = format!(
+        "message {k}: from process {} after its checkpoint {}",
+        message.from, message.sent
     );
+    if message.waiting() {
+        return format!("{sent}, waiting for process {}, kept", message.to);
+    }
+    let kept = match message.kept {
+        false => "not kept".to_string(),
+        true => format!(
+            "kept: sent before and received after {}",
+            lines_of(&run.crossed(message))
+        ),
+    };
+    format!(
+        "{sent}, received by process {} before its checkpoint {}, {kept}",
+        message.to, message.received
+    )
 }
 
-/// Where things are.
-struct Frame<'a> {
+/// Why there is no picture.
+#[derive(Debug, PartialEq, Eq)]
+pub enum Undrawn {
+    Choice(BadChoice),
+    /// It would be that wide and high; with so many of the last checkpoints it
+    /// could be drawn.
+    TooLarge {
+        width: usize,
+        height: usize,
+        last: Option<usize>,
+    },
+}
+
+impl fmt::Display for Undrawn {
+    fn fmt(&self, to: &mut fmt::Formatter<'_>) -> fmt::Result {
+        let Undrawn::TooLarge {
+            width,
+            height,
+            last,
+        } = self
+        else {
+            let Undrawn::Choice(choice) = self else {
+                unreachable!("the other case");
+            };
+            return choice.fmt(to);
+        };
+        write!(
+            to,
+            "the picture would be {width} by {height} px, and many renderers stop at {MOST_PIXELS}: draw less"
+        )?;
+        match last {
+            Some(last) => write!(to, ", with --last {last}, --processes or --kept-only"),
+            None => write!(to, ", with --processes, --kept-only or a shorter title"),
+        }
+    }
+}
+
+/// The diagram of a run: what the choice leaves of it.
+pub fn draw(run: &Run, choice: &Choice, title: Option<&str>) -> Result<String, Undrawn> {
+    let view = View::of(run, choice).map_err(Undrawn::Choice)?;
+    let timed = layout::has_order(run);
+    let scale = scale(&view, timed);
+    let layout = lay_out(&view, timed, &scale);
+    let picture = Picture::new(&view, &layout, &scale, choice, title);
+    let (width, height) = (picture.width as usize, picture.height as usize);
+    if width.max(height) > MOST_PIXELS {
+        let last = fitting(run, choice, timed);
+        return Err(Undrawn::TooLarge {
+            width,
+            height,
+            last: last.filter(|_| width > MOST_PIXELS),
+        });
+    }
+    Ok(picture.draw(title))
+}
+
+fn lay_out(view: &View, timed: bool, scale: &Scale) -> Layout {
+    match timed {
+        true => layout::timed(view, scale),
+        false => layout::by_number(view, scale),
+    }
+}
+
+/// How many of the last checkpoints make a picture that is not too wide.
+fn fitting(run: &Run, choice: &Choice, timed: bool) -> Option<usize> {
+    let fits = |last: usize| {
+        let choice = Choice {
+            last: Some(last),
+            ..choice.clone()
+        };
+        let view = View::of(run, &choice).expect("chosen before");
+        let scale = scale(&view, timed);
+        let layout = lay_out(&view, timed, &scale);
+        Sizes::of(&view, &layout, &scale).width <= MOST_PIXELS as f64
+    };
+    let most = run.counts.iter().copied().max().unwrap_or(1);
+    let (mut fit, mut too_many) = (0, choice.last.unwrap_or(most).min(most));
+    while fit + 1 < too_many {
+        let middle = (fit + too_many) / 2;
+        match fits(middle) {
+            true => fit = middle,
+            false => too_many = middle,
+        }
+    }
+    (fit > 0).then_some(fit)
+}
+
+/// Across.
+struct Sizes {
+    /// Where column 0 stands.
+    left: f64,
+    /// Whether there are names at the right.
+    right_names: bool,
+    width: f64,
+}
+
+impl Sizes {
+    fn of(view: &View, layout: &Layout, scale: &Scale) -> Sizes {
+        let lead = view.rows.iter().any(|p| view.first[*p] > 0);
+        let left = LEFT + if lead { LEAD } else { 0.0 };
+        let columns = layout.last * scale.column;
+        let right_names = layout.timed && left + columns + RIGHT > WIDE;
+        let right = if right_names { LEFT } else { RIGHT };
+        Sizes {
+            left,
+            right_names,
+            width: (left + columns + right).max(NARROWEST).ceil(),
+        }
+    }
+}
+
+/// The picture as it grows, and where things are.
+struct Picture<'a> {
     run: &'a Run,
+    view: &'a View<'a>,
     layout: &'a Layout,
     scale: &'a Scale,
+    legend: Legend,
+    title_lines: Vec<String>,
+    left: f64,
+    right_names: bool,
+    width: f64,
+    height: f64,
     /// The height of the first lifeline.
     top: f64,
+    legend_top: f64,
+    svg: String,
+    space: Space,
 }
 
-impl Frame<'_> {
-    fn point(&self, place: Place) -> Point {
-        Point {
-            x: LEFT + place.0 * self.scale.column,
-            y: self.top + place.1 * self.scale.row,
-        }
-    }
-
-    fn checkpoint(&self, p: usize, number: usize) -> Point {
-        self.point((self.layout.checkpoints[p][number], p as f64))
-    }
-
-    /// The corners of a message's arrow.
-    fn arrow(&self, k: usize) -> Vec<Point> {
-        let mut corners: Vec<Point> = self.layout.arrows[k]
-            .iter()
-            .map(|place| self.point(*place))
-            .collect();
-        if self.run.messages[k].waiting() {
-            // It ends in the open: before it reaches the lifeline.
-            let last = corners.len() - 1;
-            let (from, to) = (corners[last - 1], corners[last]);
-            let part = 1.0 - (GAP / (to.y - from.y).abs()).min(0.6);
-            corners[last] = Point {
-                x: from.x + (to.x - from.x) * part,
-                y: from.y + (to.y - from.y) * part,
-            };
-        }
-        corners
-    }
-
-    /// The corners of a line: through its checkpoints, steep at each, and a
-    /// little beyond the first and the last.
-    fn line(&self, line: &[usize], bend: f64) -> Vec<Point> {
-        let through: Vec<Point> = (0..line.len())
-            .map(|p| self.checkpoint(p, line[p]))
-            .collect();
-        let first = through[0];
-        let mut corners = vec![
-            Point {
-                x: first.x,
-                y: first.y - BEYOND,
-            },
-            first,
-        ];
-        for pair in through.windows(2) {
-            let (one, other) = (pair[0], pair[1]);
-            let across = other.x - one.x;
-            if across.abs() > 1.5 * self.scale.column {
-                let aside = self.scale.column * 0.4 * across.signum();
-                corners.push(Point {
-                    x: one.x + aside,
-                    y: one.y + self.scale.row * bend,
-                });
-                corners.push(Point {
-                    x: other.x - aside,
-                    y: other.y - self.scale.row * bend,
-                });
-            }
-            corners.push(other);
-        }
-        let last = through[through.len() - 1];
-        corners.push(Point {
-            x: last.x,
-            y: last.y + BEYOND,
-        });
-        corners
-    }
-}
-
-fn polyline(svg: &mut String, class: &str, paint: &str, corners: &[Point]) {
-    let _ = writeln!(
-        svg,
-        "<polyline class=\"{class}\" fill=\"none\" {paint} stroke-linejoin=\"round\" points=\"{}\"/>",
-        points(corners)
-    );
-}
-
-const RECOVERY_PAINT: &str = "stroke=\"#f0a35e\" stroke-width=\"8\" stroke-linecap=\"round\"";
-const HOLD_PAINT: &str = "stroke=\"#0b4fa0\" stroke-width=\"2.4\" stroke-dasharray=\"11 4 2 4\"";
-
-fn dot(svg: &mut String, at: Point, kept: bool) {
-    let fill = if kept { INK } else { "#ffffff" };
-    let class = if kept { "kept" } else { "other" };
-    let _ = writeln!(
-        svg,
-        "<circle class=\"{class}\" cx=\"{}\" cy=\"{}\" r=\"{DOT}\" fill=\"{fill}\"/>",
-        short(at.x),
-        short(at.y)
-    );
-}
-
-fn virtual_dot(svg: &mut String, at: Point) {
-    let (x, y) = (short(at.x - DOT), short(at.y - DOT));
-    let size = 2.0 * DOT;
-    let _ = writeln!(
-        svg,
-        "<rect class=\"virtual\" x=\"{x}\" y=\"{y}\" width=\"{size}\" height=\"{size}\" fill=\"#ffffff\"/>"
-    );
-}
-
-/// The first free box for a text with its centre at one of the places, taken.
-fn free_place(
-    space: &mut Space,
-    text: &str,
-    size: f64,
-    places: impl Iterator<Item = Point>,
-) -> Option<Point> {
-    let half = width_of(text, size) / 2.0 + 1.0;
-    for place in places {
-        let own = Box2 {
-            left: place.x - half,
-            right: place.x + half,
-            top: place.y - size * 0.42,
-            bottom: place.y + size * 0.42,
+impl<'a> Picture<'a> {
+    fn new(
+        view: &'a View<'a>,
+        layout: &'a Layout,
+        scale: &'a Scale,
+        choice: &Choice,
+        title: Option<&str>,
+    ) -> Picture<'a> {
+        let Sizes {
+            left,
+            right_names,
+            width,
+        } = Sizes::of(view, layout, scale);
+        let legend = Legend::of(view, layout, choice, width);
+        let title_lines = match title {
+            None => Vec::new(),
+            Some(title) => wrap(title, 17.0, width - 48.0),
         };
-        if space.is_free(&own) {
-            space.add_box(own);
-            return Some(place);
+        // Room for what stands above the first and below the last lifeline.
+        let beyond = match layout.arrows.iter().any(Arrow::is_cut) {
+            true => BEYOND + STUB,
+            false => BEYOND,
+        };
+        let top = 24.0 + 24.0 * title_lines.len() as f64 + beyond;
+        let rows = (view.rows.len() - 1) as f64;
+        let legend_top = top + rows * scale.row + beyond + 26.0;
+        let height = (legend_top + legend.height()).ceil();
+        Picture {
+            run: view.run,
+            view,
+            layout,
+            scale,
+            legend,
+            title_lines,
+            left,
+            right_names,
+            width,
+            height,
+            top,
+            legend_top,
+            svg: String::new(),
+            space: Space::default(),
         }
     }
-    None
-}
 
-/// Text with its centre there.
-fn label(svg: &mut String, text: &str, size: f64, centre: Point) {
-    let _ = writeln!(
-        svg,
-        "<text x=\"{}\" y=\"{}\">{text}</text>",
-        short(centre.x),
-        short(centre.y + size * 0.36)
-    );
-}
+    fn draw(mut self, title: Option<&str>) -> String {
+        self.head(title);
+        self.recovery_line();
+        self.lifelines();
+        self.names();
+        self.hold_lines();
+        // The bold arrows over the thin ones.
+        for style in [&PLAIN, &KEPT, &WAITING] {
+            self.arrows(style);
+        }
+        self.dots();
+        self.numbers();
+        self.holders();
+        self.positions();
+        self.legend.draw(&mut self.svg, self.legend_top, self.width);
+        self.svg.push_str("</svg>\n");
+        self.svg
+    }
 
-/// The diagram of a run.
-pub fn draw(run: &Run, title: Option<&str>) -> String {
-    let timed = layout::has_order(run);
-    let scale = scale(run, timed);
-    let layout = if timed {
-        layout::timed(run, &scale)
-    } else {
-        layout::by_number(run, &scale)
-    };
-    let n = run.counts.len();
-
-    let legend = Legend::of(run, timed);
-    let width = (LEFT + layout.last * scale.column + RIGHT).max(legend.width());
-    let title_lines = match title {
-        None => Vec::new(),
-        Some(title) => wrap(title, 17.0, width - 48.0),
-    };
-    let top = 24.0 + 24.0 * title_lines.len() as f64 + BEYOND;
-    let legend_top = top + (n - 1) as f64 * scale.row + BEYOND + 26.0;
-    let height = legend_top + legend.height();
-    let frame = Frame {
-        run,
-        layout: &layout,
-        scale: &scale,
-        top,
-    };
-
-    let mut svg = String::from("<?xml version=\"1.0\" encoding=\"UTF-8\"?>\n");
-    let (w, h) = (short(width.ceil()), short(height.ceil()));
-    let _ = writeln!(
-        svg,
-        "<svg xmlns=\"http://www.w3.org/2000/svg\" width=\"{w}\" height=\"{h}\" viewBox=\"0 0 {w} {h}\" \
-         role=\"img\" font-family=\"sans-serif\" font-size=\"12\" fill=\"{INK}\">"
-    );
-    let named = format!(
-        "A run of {n} process{} with {} messages",
-        if n == 1 { "" } else { "es" },
-        run.messages.len()
-    );
-    let _ = writeln!(svg, "<title>{}</title>", escape(title.unwrap_or(&named)));
-    let _ = writeln!(svg, "<rect width=\"{w}\" height=\"{h}\" fill=\"#ffffff\"/>");
-    if !title_lines.is_empty() {
+    fn head(&mut self, title: Option<&str>) {
+        let svg = &mut self.svg;
+        svg.push_str("<?xml version=\"1.0\" encoding=\"UTF-8\"?>\n");
+        let (w, h) = (short(self.width), short(self.height));
+        let _ = writeln!(
+            svg,
+            "<svg xmlns=\"http://www.w3.org/2000/svg\" width=\"{w}\" height=\"{h}\" viewBox=\"0 0 {w} {h}\" \
+             role=\"img\" font-family=\"sans-serif\" font-size=\"12\" fill=\"{INK}\">"
+        );
+        let n = self.run.counts.len();
+        let named = format!(
+            "A run of {n} process{} with {} messages",
+            if n == 1 { "" } else { "es" },
+            self.run.messages.len()
+        );
+        let _ = writeln!(svg, "<title>{}</title>", escape(title.unwrap_or(&named)));
+        let _ = writeln!(svg, "<rect width=\"{w}\" height=\"{h}\" fill=\"#ffffff\"/>");
+        if self.title_lines.is_empty() {
+            return;
+        }
         let _ = writeln!(
             svg,
             "<g class=\"title\" font-size=\"17\" font-weight=\"bold\">"
         );
-        for (place, line) in title_lines.iter().enumerate() {
+        for (place, line) in self.title_lines.iter().enumerate() {
             let _ = writeln!(
                 svg,
                 "<text x=\"24\" y=\"{}\">{}</text>",
@@ -514,311 +407,382 @@ pub fn draw(run: &Run, title: Option<&str>) -> String {
         let _ = writeln!(svg, "</g>");
     }
 
-    let mut space = Space::default();
-    let recovery = frame.line(&run.recovery_line, 0.3);
-    polyline(&mut svg, "recovery-line", RECOVERY_PAINT, &recovery);
-    recovery
-        .windows(2)
-        .for_each(|part| space.add_line(part[0], part[1]));
-
-    let _ = writeln!(
-        svg,
-        "<g class=\"lifelines\" stroke=\"{FAINT}\" stroke-width=\"1.2\">"
-    );
-    for p in 0..n {
-        let (start, end) = (frame.checkpoint(p, 0), frame.checkpoint(p, run.counts[p]));
-        let (x1, x2, y) = (short(start.x - 14.0), short(end.x), short(start.y));
-        let _ = writeln!(svg, "<line x1=\"{x1}\" y1=\"{y}\" x2=\"{x2}\" y2=\"{y}\"/>");
-        space.add_line(start, end);
+    fn point(&self, place: Place) -> Point {
+        Point {
+            x: self.left + place.0 * self.scale.column,
+            y: self.top + place.1 * self.scale.row,
+        }
     }
-    let _ = writeln!(svg, "</g>");
-    let _ = writeln!(
-        svg,
-        "<g class=\"processes\" font-size=\"13\" text-anchor=\"end\">"
-    );
-    for p in 0..n {
-        let y = short(frame.checkpoint(p, 0).y + 4.5);
-        let _ = writeln!(
-            svg,
-            "<text x=\"{}\" y=\"{y}\">process {p}</text>",
-            short(LEFT - 20.0)
-        );
-    }
-    let _ = writeln!(svg, "</g>");
 
-    if let Some((_, line)) = &run.hold {
-        let corners = frame.line(line, 0.36);
-        polyline(&mut svg, "hold-line", HOLD_PAINT, &corners);
+    /// The row's number and process, from the top.
+    fn rows(&self) -> impl Iterator<Item = (usize, usize)> + 'a {
+        let view = self.view;
+        view.rows.iter().copied().enumerate()
+    }
+
+    /// Where a line stands on a row: at its checkpoint, or before the first one
+    /// drawn.
+    fn on_row(&self, row: usize, number: usize) -> Point {
+        match self.layout.column(row, number) {
+            Some(column) => self.point((column, row as f64)),
+            None => self
+                .point((0.0, row as f64))
+                .moved(-0.55 * LEAD - 14.0, 0.0),
+        }
+    }
+
+    /// The corners of a line: through its checkpoints, steep at each, and a
+    /// little beyond the first and the last.
+    fn line(&self, line: &[usize], bend: f64) -> Vec<Point> {
+        let through: Vec<Point> = self
+            .rows()
+            .map(|(row, p)| self.on_row(row, line[p]))
+            .collect();
+        let first = through[0];
+        let mut corners = vec![first.moved(0.0, -BEYOND), first];
+        for pair in through.windows(2) {
+            let (one, other) = (pair[0], pair[1]);
+            let across = other.x - one.x;
+            if across.abs() > 1.5 * self.scale.column {
+                let aside = self.scale.column * 0.4 * across.signum();
+                corners.push(one.moved(aside, self.scale.row * bend));
+                corners.push(other.moved(-aside, -self.scale.row * bend));
+            }
+            corners.push(other);
+        }
+        corners.push(through[through.len() - 1].moved(0.0, BEYOND));
         corners
-            .windows(2)
-            .for_each(|part| space.add_line(part[0], part[1]));
     }
 
-    // The bold arrows over the thin ones.
-    for style_of in [&PLAIN, &KEPT, &WAITING] {
-        open_arrows(&mut svg, style_of);
-        for (k, message) in run.messages.iter().enumerate() {
-            if style(message).class == style_of.class {
-                let corners = frame.arrow(k);
-                arrow(&mut svg, style_of, &corners);
-                corners
-                    .windows(2)
-                    .for_each(|part| space.add_line(part[0], part[1]));
-                space.add_box(Box2::around(corners[corners.len() - 1], 4.0));
+    fn recovery_line(&mut self) {
+        let corners = self.line(&self.run.recovery_line, 0.3);
+        let title = legend::line_words(self.view, "recovery line", &self.run.recovery_line);
+        polyline(
+            &mut self.svg,
+            "recovery-line",
+            RECOVERY_PAINT,
+            &corners,
+            &title,
+        );
+        self.space.add_lines(&corners);
+    }
+
+    fn hold_lines(&mut self) {
+        let holders = self.run.holders.len();
+        for (place, holder) in self.run.holders.iter().enumerate() {
+            let line = &self.run.hold_lines[*holder];
+            let lane = hold_lane(place, holders);
+            let corners: Vec<Point> = self
+                .line(line, 0.36)
+                .into_iter()
+                .map(|corner| corner.moved(lane, 0.0))
+                .collect();
+            let title = legend::line_words(
+                self.view,
+                &format!("line of process {holder} holding"),
+                line,
+            );
+            let paint = hold_paint(place, holders);
+            polyline(&mut self.svg, "hold-line", &paint, &corners, &title);
+            self.space.add_lines(&corners);
+        }
+    }
+
+    fn lifelines(&mut self) {
+        let _ = writeln!(
+            self.svg,
+            "<g class=\"lifelines\" stroke=\"{FAINT}\" stroke-width=\"1.2\">"
+        );
+        for (row, p) in self.rows() {
+            let own = &self.layout.checkpoints[row];
+            let mut start = self.point((0.0, row as f64)).moved(-14.0, 0.0);
+            let first = self.point((own[0].1, row as f64));
+            let end = self.point((own[own.len() - 1].1, row as f64));
+            if self.view.first[p] > 0 {
+                let left_out = start.moved(-LEAD, 0.0);
+                self.lifeline(left_out, first, " stroke-dasharray=\"1.5 4\"");
+                start = first;
+            }
+            self.lifeline(start, end, "");
+        }
+        let _ = writeln!(self.svg, "</g>");
+    }
+
+    fn lifeline(&mut self, start: Point, end: Point, dashes: &str) {
+        let (x1, x2, y) = (short(start.x), short(end.x), short(start.y));
+        let _ = writeln!(
+            self.svg,
+            "<line x1=\"{x1}\" y1=\"{y}\" x2=\"{x2}\" y2=\"{y}\"{dashes}/>"
+        );
+        self.space.add_line(start, end);
+    }
+
+    fn names(&mut self) {
+        let right = self.point((self.layout.last, 0.0)).x + 2.0 * DOT;
+        let mut sides = vec![("end", LEFT - 20.0)];
+        if self.right_names {
+            sides.push(("start", right));
+        }
+        for (anchor, x) in sides {
+            let _ = writeln!(
+                self.svg,
+                "<g class=\"processes\" font-size=\"13\" text-anchor=\"{anchor}\">"
+            );
+            for (row, p) in self.rows() {
+                let y = short(self.point((0.0, row as f64)).y + 4.5);
+                let x = short(x);
+                let _ = writeln!(self.svg, "<text x=\"{x}\" y=\"{y}\">process {p}</text>");
+            }
+            let _ = writeln!(self.svg, "</g>");
+        }
+    }
+
+    /// The corners of a message's arrow and where it is cut, if it is drawn.
+    fn arrow(&self, k: usize) -> Option<(Vec<Point>, Cut)> {
+        let message = &self.run.messages[k];
+        // Two of them in neighbouring columns do not meet.
+        let across = (self.scale.column * 0.36).min(12.0);
+        match &self.layout.arrows[k] {
+            Arrow::None => None,
+            Arrow::Whole(corners) => {
+                let corners = corners.iter().map(|place| self.point(*place));
+                Some((corners.collect(), Cut::Nowhere))
+            }
+            Arrow::End(place) => {
+                let side = self.side(message.to, message.from);
+                let gap = if message.waiting() { GAP } else { 0.0 };
+                let tip = self.point(*place).moved(0.0, side * gap);
+                Some((vec![tip.moved(-across, side * STUB), tip], Cut::AtTail))
+            }
+            Arrow::Send(place) => {
+                let side = self.side(message.from, message.to);
+                let tail = self.point(*place);
+                Some((vec![tail, tail.moved(across, side * STUB)], Cut::AtTip))
             }
         }
-        let _ = writeln!(svg, "</g>");
     }
 
-    let _ = writeln!(
-        svg,
-        "<g class=\"checkpoints\" stroke=\"{INK}\" stroke-width=\"1.6\">"
-    );
-    for p in 0..n {
-        for number in 0..=run.counts[p] {
-            let at = frame.checkpoint(p, number);
-            match run.kept[p].get(number) {
-                Some(kept) => dot(&mut svg, at, *kept),
-                None => virtual_dot(&mut svg, at),
-            }
-            space.add_box(Box2::around(at, DOT + 1.0));
+    /// On which side of a process another one lies: -1 above, 1 below.
+    fn side(&self, own: usize, other: usize) -> f64 {
+        let above = match (self.view.row(own), self.view.row(other)) {
+            (Some(own), Some(other)) => other < own,
+            _ => other < own,
+        };
+        if above {
+            -1.0
+        } else {
+            1.0
         }
     }
-    let _ = writeln!(svg, "</g>");
 
-    let _ = writeln!(
-        svg,
-        "<g class=\"numbers\" font-size=\"11\" text-anchor=\"middle\">"
-    );
-    for p in 0..n {
-        for number in 0..=run.counts[p] {
-            let (at, text) = (frame.checkpoint(p, number), number.to_string());
-            let aside = DOT + 3.0 + width_of(&text, 11.0) / 2.0;
-            let around = [
-                (0.0, -13.0),
-                (aside, -11.0),
-                (-aside, -11.0),
-                (0.0, 13.0),
-                (aside, 11.0),
-                (-aside, 11.0),
-            ];
-            let far = [(0.0, -19.0), (aside, -17.0), (-aside, -17.0), (0.0, 19.0)];
-            let places = || {
-                around.iter().chain(&far).map(|(x, y)| Point {
-                    x: at.x + x,
-                    y: at.y + y,
-                })
-            };
-            let found = free_place(&mut space, &text, 11.0, places());
-            if found.is_none() && run.counts[p] > 40 && number % 10 > 0 && !run.marks(p, number) {
-                // Its neighbours' numbers tell.
+    fn arrows(&mut self, of: &Style) {
+        open_arrows(&mut self.svg, "messages", of);
+        for (k, message) in self.run.messages.iter().enumerate() {
+            if style(message).class != of.class {
                 continue;
             }
-            let centre = found.unwrap_or_else(|| {
-                // No place is free: the first, on white.
-                let centre = places().next().expect("ten");
-                let half = width_of(&text, 11.0) / 2.0;
-                let (x, y) = (short(centre.x - half), short(centre.y - 5.0));
-                let wide = short(2.0 * half);
-                let _ = writeln!(
-                    svg,
-                    "<rect x=\"{x}\" y=\"{y}\" width=\"{wide}\" height=\"10\" fill=\"#ffffff\" fill-opacity=\"0.8\"/>"
-                );
-                centre
-            });
-            label(&mut svg, &text, 11.0, centre);
-        }
-    }
-    let _ = writeln!(svg, "</g>");
-
-    if run.messages.len() <= MOST_LABELLED {
-        let _ = writeln!(
-            svg,
-            "<g class=\"positions\" font-size=\"10\" font-style=\"italic\" text-anchor=\"middle\">"
-        );
-        for k in 0..run.messages.len() {
-            let text = format!("m{k}");
-            let corners = frame.arrow(k);
-            if let Some(centre) = free_place(&mut space, &text, 10.0, beside(&corners, &text)) {
-                label(&mut svg, &text, 10.0, centre);
+            let Some((corners, cut)) = self.arrow(k) else {
+                continue;
+            };
+            arrow(
+                &mut self.svg,
+                of,
+                &corners,
+                cut,
+                &message_title(self.run, k),
+            );
+            self.space.add_lines(&corners);
+            for (place, cut_there) in [(0, Cut::AtTail), (corners.len() - 1, Cut::AtTip)] {
+                if place > 0 || cut == cut_there {
+                    self.space.add_box(Box2::around(corners[place], 4.0));
+                }
             }
         }
-        let _ = writeln!(svg, "</g>");
+        let _ = writeln!(self.svg, "</g>");
     }
 
-    legend.draw(&mut svg, legend_top, width);
-    svg.push_str("</svg>\n");
-    svg
+    fn dots(&mut self) {
+        let _ = writeln!(
+            self.svg,
+            "<g class=\"checkpoints\" stroke=\"{INK}\" stroke-width=\"1.6\">"
+        );
+        for (row, p) in self.rows() {
+            for (number, column) in &self.layout.checkpoints[row] {
+                let at = self.point((*column, row as f64));
+                let title = checkpoint_title(self.run, p, *number);
+                match self.run.kept[p].get(*number) {
+                    Some(kept) => dot(&mut self.svg, at, *kept, &title),
+                    None => virtual_dot(&mut self.svg, at, &title),
+                }
+                self.space.add_box(Box2::around(at, DOT + 1.0));
+            }
+        }
+        let _ = writeln!(self.svg, "</g>");
+    }
+
+    fn numbers(&mut self) {
+        let _ = writeln!(
+            self.svg,
+            "<g class=\"numbers\" font-size=\"11\" text-anchor=\"middle\">"
+        );
+        for (row, p) in self.rows() {
+            self.numbers_before(row, p);
+            let own = &self.layout.checkpoints[row];
+            for (number, column) in own {
+                let (at, text) = (self.point((*column, row as f64)), number.to_string());
+                let (svg, space) = (&mut self.svg, &mut self.space);
+                let places = around(at, &text, 11.0);
+                // Where there is no room, the numbers of its neighbours tell.
+                let wanted = own.len() <= 40 || number % 10 == 0 || self.run.marks(p, *number);
+                if !label(svg, space, &text, 11.0, places) && wanted {
+                    label_over_lines(svg, space, &text, 11.0, &places);
+                }
+            }
+        }
+        let _ = writeln!(self.svg, "</g>");
+    }
+
+    /// The numbers of the checkpoints that are left out and on a line, where
+    /// the line meets the beginning of the lifeline.
+    fn numbers_before(&mut self, row: usize, p: usize) {
+        let on_lines = self.run.lines().map(|line| line[p]);
+        let mut before: Vec<usize> = on_lines
+            .filter(|number| self.layout.column(row, *number).is_none())
+            .collect();
+        before.sort_unstable();
+        before.dedup();
+        let Some(last) = before.last() else {
+            return;
+        };
+        let text = match before.len() {
+            1 => last.to_string(),
+            _ => format!("{}..{last}", before[0]),
+        };
+        let at = self.on_row(row, *last);
+        let numbers: Vec<String> = before.iter().map(usize::to_string).collect();
+        let _ = writeln!(
+            self.svg,
+            "<g class=\"before\"><title>{} of process {p}, left out: {}</title>",
+            match before.len() {
+                1 => "a checkpoint",
+                _ => "checkpoints",
+            },
+            numbers.join(" ")
+        );
+        let places = around(at, &text, 11.0);
+        label_over_lines(&mut self.svg, &mut self.space, &text, 11.0, &places);
+        let _ = writeln!(self.svg, "</g>");
+    }
+
+    /// Whose lines stand at a checkpoint, where there are several. Where
+    /// nothing is said a line stands at the virtual one.
+    fn holders(&mut self) {
+        if self.run.holders.len() < 2 {
+            return;
+        }
+        let _ = writeln!(
+            self.svg,
+            "<g class=\"holders\" font-size=\"10\" font-weight=\"bold\" fill=\"{}\" text-anchor=\"middle\">",
+            HOLD_PAINTS[0].0
+        );
+        for (row, p) in self.rows() {
+            for (number, column) in &self.layout.checkpoints[row] {
+                let mut here = self.run.held_at(p, *number);
+                here.retain(|holder| self.run.holders.contains(holder));
+                if here.is_empty() || *number == self.run.counts[p] {
+                    continue;
+                }
+                let (at, text) = (self.point((*column, row as f64)), holders_label(&here));
+                let (svg, space) = (&mut self.svg, &mut self.space);
+                let places = around(at, &text, 10.0);
+                if !label(svg, space, &text, 10.0, places) {
+                    let farther = [(0.0, -25.0), (0.0, 25.0), (30.0, -25.0), (30.0, 25.0)];
+                    let farther = farther.map(|(x, y)| at.moved(x, y));
+                    let places = [&places[..], &farther[..]].concat();
+                    label_over_lines(svg, space, &text, 10.0, &places);
+                }
+            }
+        }
+        let _ = writeln!(self.svg, "</g>");
+    }
+
+    fn positions(&mut self) {
+        if !labels_messages(self.view) {
+            return;
+        }
+        let _ = writeln!(
+            self.svg,
+            "<g class=\"positions\" font-size=\"10\" font-style=\"italic\" text-anchor=\"middle\">"
+        );
+        for k in 0..self.run.messages.len() {
+            let Some((corners, cut)) = self.arrow(k) else {
+                continue;
+            };
+            // As much of it as there is room for.
+            for text in self.other_end(k, cut).into_iter().chain([format!("m{k}")]) {
+                let places = match cut {
+                    Cut::Nowhere => beside(&corners, &text),
+                    Cut::AtTail => around(corners[0], &text, 10.0).to_vec(),
+                    Cut::AtTip => around(corners[1], &text, 10.0).to_vec(),
+                };
+                if label(&mut self.svg, &mut self.space, &text, 10.0, places) {
+                    break;
+                }
+            }
+        }
+        let _ = writeln!(self.svg, "</g>");
+    }
+
+    /// The position of a message and its end that is left out, as in the text
+    /// form of a table.
+    fn other_end(&self, k: usize, cut: Cut) -> Option<String> {
+        let message = &self.run.messages[k];
+        match cut {
+            Cut::Nowhere => None,
+            Cut::AtTail => Some(format!("m{k} from {}.{}", message.from, message.sent)),
+            Cut::AtTip if message.waiting() => Some(format!("m{k} to {}", message.to)),
+            Cut::AtTip => Some(format!("m{k} to {}.{}", message.to, message.received)),
+        }
+    }
+}
+
+/// Whether the messages have their positions beside them.
+fn labels_messages(view: &View) -> bool {
+    (1..=MOST_LABELLED).contains(&view.messages().count())
+}
+
+/// Places for a text around a point, the best first.
+fn around(at: Point, text: &str, size: f64) -> [Point; 10] {
+    let aside = DOT + 3.0 + width_of(text, size) / 2.0;
+    [
+        (0.0, -13.0),
+        (aside, -11.0),
+        (-aside, -11.0),
+        (0.0, 13.0),
+        (aside, 11.0),
+        (-aside, 11.0),
+        (0.0, -19.0),
+        (aside, -17.0),
+        (-aside, -17.0),
+        (0.0, 19.0),
+    ]
+    .map(|(x, y)| at.moved(x, y))
 }
 
 /// Places beside an arrow, from its middle outwards, on either side.
-fn beside<'a>(corners: &'a [Point], text: &str) -> impl Iterator<Item = Point> + 'a {
+fn beside(corners: &[Point], text: &str) -> Vec<Point> {
     let half = width_of(text, 10.0) / 2.0;
     // Where an arrow bends, its first part is the one that tells.
     let (from, to) = (corners[0], corners[1]);
     let length = (to.x - from.x).hypot(to.y - from.y);
     let (along_x, along_y) = ((to.x - from.x) / length, (to.y - from.y) / length);
     let aside = 3.0 + half * along_y.abs() + 4.5 * along_x.abs();
-    [0.5, 0.4, 0.6, 0.3, 0.7, 0.22, 0.78]
-        .into_iter()
-        .flat_map(move |part| {
-            [1.0, -1.0].into_iter().map(move |side| Point {
-                x: from.x + (to.x - from.x) * part + side * aside * along_y,
-                y: from.y + (to.y - from.y) * part - side * aside * along_x,
-            })
-        })
-}
-
-/// What stands below the diagram.
-struct Legend {
-    entries: Vec<(Sample, String)>,
-    note: String,
-}
-
-enum Sample {
-    Dot(bool),
-    Virtual,
-    Arrow(&'static Style),
-    Line(&'static str),
-    Position,
-}
-
-const ENTRY: f64 = 22.0;
-const SAMPLE: f64 = 44.0;
-
-impl Legend {
-    fn of(run: &Run, timed: bool) -> Legend {
-        let numbers = |line: &[usize]| match line.len() {
-            0..=12 => format!(
-                ": {}",
-                line.iter()
-                    .map(usize::to_string)
-                    .collect::<Vec<_>>()
-                    .join(" ")
-            ),
-            _ => String::new(),
-        };
-        let mut entries = vec![
-            (Sample::Dot(true), "checkpoint, kept".to_string()),
-            (Sample::Dot(false), "checkpoint, not kept".to_string()),
-            (Sample::Virtual, "virtual checkpoint".to_string()),
-            (
-                Sample::Line(RECOVERY_PAINT),
-                format!("recovery line{}", numbers(&run.recovery_line)),
-            ),
-        ];
-        if let Some((process, line)) = &run.hold {
-            entries.push((
-                Sample::Line(HOLD_PAINT),
-                format!("line of process {process} holding{}", numbers(line)),
-            ));
-        }
-        entries.push((Sample::Arrow(&KEPT), "message, kept".to_string()));
-        entries.push((Sample::Arrow(&PLAIN), "message, not kept".to_string()));
-        entries.push((
-            Sample::Arrow(&WAITING),
-            "message, waiting (kept)".to_string(),
-        ));
-        if !run.messages.is_empty() && run.messages.len() <= MOST_LABELLED {
-            entries.push((Sample::Position, "position of a message".to_string()));
-        }
-        let note = match timed {
-            true => "Time runs to the right; the order has a meaning, the distances have none.",
-            false => "Grid: no order of time fits this table. Places are checkpoint numbers; arrows may point back.",
-        };
-        Legend {
-            entries,
-            note: note.to_string(),
-        }
-    }
-
-    fn rows(&self) -> usize {
-        self.entries.len().div_ceil(2)
-    }
-
-    fn column(&self) -> f64 {
-        let texts = self.entries.iter().map(|(_, text)| width_of(text, 12.0));
-        SAMPLE + texts.fold(180.0, f64::max) + 24.0
-    }
-
-    fn width(&self) -> f64 {
-        (48.0 + 2.0 * self.column()).max(48.0 + width_of(&self.note, 12.0))
-    }
-
-    fn height(&self) -> f64 {
-        ENTRY * (self.rows() + 1) as f64
-    }
-
-    fn draw(&self, svg: &mut String, top: f64, width: f64) {
-        let _ = writeln!(svg, "<g class=\"legend\">");
-        let (y, x2) = (short(top - 18.0), short(width - 24.0));
-        let _ = writeln!(svg, "<line x1=\"24\" y1=\"{y}\" x2=\"{x2}\" y2=\"{y}\" stroke=\"{FAINT}\" stroke-width=\"0.8\"/>");
-        for (place, (sample, text)) in self.entries.iter().enumerate() {
-            let x = 24.0 + (place / self.rows()) as f64 * self.column();
-            let y = top + (place % self.rows()) as f64 * ENTRY;
-            let (from, to) = (
-                Point { x: x + 4.0, y },
-                Point {
-                    x: x + SAMPLE - 12.0,
-                    y,
-                },
-            );
-            let middle = Point {
-                x: (from.x + to.x) / 2.0,
-                y,
-            };
-            match sample {
-                Sample::Dot(kept) => {
-                    let _ = writeln!(svg, "<g stroke=\"{INK}\" stroke-width=\"1.6\">");
-                    dot(svg, middle, *kept);
-                    let _ = writeln!(svg, "</g>");
-                }
-                Sample::Virtual => {
-                    let _ = writeln!(svg, "<g stroke=\"{INK}\" stroke-width=\"1.6\">");
-                    virtual_dot(svg, middle);
-                    let _ = writeln!(svg, "</g>");
-                }
-                Sample::Arrow(style) => {
-                    let _ = writeln!(
-                        svg,
-                        "<g fill=\"none\" stroke=\"{}\" stroke-width=\"{}\" stroke-dasharray=\"{}\">",
-                        style.colour,
-                        style.width,
-                        if style.dashes.is_empty() { "none" } else { style.dashes }
-                    );
-                    arrow(svg, style, &[from, to]);
-                    let _ = writeln!(svg, "</g>");
-                }
-                Sample::Line(paint) => {
-                    let _ = writeln!(
-                        svg,
-                        "<polyline fill=\"none\" {paint} points=\"{}\"/>",
-                        points(&[from, to])
-                    );
-                }
-                Sample::Position => {
-                    let _ = writeln!(
-                        svg,
-                        "<g font-size=\"10\" font-style=\"italic\" text-anchor=\"middle\">"
-                    );
-                    label(svg, "m0", 10.0, middle);
-                    let _ = writeln!(svg, "</g>");
-                }
-            }
-            let _ = writeln!(
-                svg,
-                "<text x=\"{}\" y=\"{}\">{}</text>",
-                short(x + SAMPLE),
-                short(y + 4.3),
-                escape(text)
-            );
-        }
-        let y = short(top + self.rows() as f64 * ENTRY + 4.3);
-        let _ = writeln!(
-            svg,
-            "<text class=\"note\" x=\"24\" y=\"{y}\">{}</text>",
-            escape(&self.note)
+    let mut places = Vec::new();
+    for part in [0.5, 0.4, 0.6, 0.3, 0.7, 0.22, 0.78] {
+        let there = from.moved((to.x - from.x) * part, (to.y - from.y) * part);
+        places.extend(
+            [1.0, -1.0].map(|side| there.moved(side * aside * along_y, -side * aside * along_x)),
         );
-        let _ = writeln!(svg, "</g>");
     }
+    places
 }

@@ -6,11 +6,14 @@
 //! column takes at most one event of each process, as early as the order
 //! allows; where there is none, events stand by checkpoint number.
 //!
+//! The order is one of the whole run: what is not drawn happens between two
+//! columns and takes no place.
+//!
 //! Places are in columns and rows, both from 0; a row is a process.
 
-use std::collections::VecDeque;
+use std::collections::{BTreeSet, VecDeque};
 
-use crate::run::Run;
+use crate::run::{Run, View};
 
 /// The sizes that tell whether an arrow comes too near to a dot.
 pub struct Scale {
@@ -19,22 +22,55 @@ pub struct Scale {
     /// No arrow comes nearer than this to a checkpoint that it passes, where
     /// that can be had.
     pub clear: f64,
+    /// How far before its receiver's lifeline the arrow of a waiting message
+    /// ends.
+    pub gap: f64,
 }
 
 /// A column and a row.
 pub type Place = (f64, f64);
 
+/// Where a message is drawn.
+#[derive(Clone, Debug, PartialEq)]
+pub enum Arrow {
+    /// No part of it is.
+    None,
+    /// The corners, from the send to the receipt. That of a waiting message
+    /// ends short of a place after its receiver's last checkpoint.
+    Whole(Vec<Place>),
+    /// Only its receipt is, there. A waiting message is received at no place;
+    /// this one is after its receiver's last checkpoint.
+    End(Place),
+    /// Only its send is, there.
+    Send(Place),
+}
+
+impl Arrow {
+    /// Whether one end alone is drawn.
+    pub fn is_cut(&self) -> bool {
+        matches!(self, Arrow::End(_) | Arrow::Send(_))
+    }
+}
+
 pub struct Layout {
     /// Whether the columns are an order of time.
     pub timed: bool,
-    /// The column of each checkpoint, by process; the last is the virtual one.
-    pub checkpoints: Vec<Vec<f64>>,
-    /// By message, the corners of its arrow, from the send to the receipt. The
-    /// arrow of a waiting message aims at a place after its receiver's last
-    /// checkpoint.
-    pub arrows: Vec<Vec<Place>>,
+    /// By row, the numbers and columns of the checkpoints drawn; the last is
+    /// the virtual one.
+    pub checkpoints: Vec<Vec<(usize, f64)>>,
+    /// By message.
+    pub arrows: Vec<Arrow>,
     /// The last column.
     pub last: f64,
+}
+
+impl Layout {
+    /// The column of a checkpoint, where it is drawn.
+    pub fn column(&self, row: usize, number: usize) -> Option<f64> {
+        let own = &self.checkpoints[row];
+        let found = own.binary_search_by_key(&number, |(number, _)| *number);
+        found.ok().map(|place| own[place].1)
+    }
 }
 
 /// What lies between two checkpoints of one process: positions of messages.
@@ -46,17 +82,6 @@ struct Between {
     ends: Vec<usize>,
 }
 
-/// The number of the checkpoint before which the arrow of message k ends: the
-/// virtual one for a waiting message.
-fn before(run: &Run, k: usize) -> usize {
-    let message = &run.messages[k];
-    if message.waiting() {
-        run.counts[message.to]
-    } else {
-        message.received
-    }
-}
-
 /// By process, what lies after each checkpoint.
 fn intervals(run: &Run) -> Vec<Vec<Between>> {
     let mut all: Vec<Vec<Between>> = run
@@ -66,7 +91,7 @@ fn intervals(run: &Run) -> Vec<Vec<Between>> {
         .collect();
     for (k, message) in run.messages.iter().enumerate() {
         all[message.from][message.sent].sends.push(k);
-        all[message.to][before(run, k) - 1].ends.push(k);
+        all[message.to][run.ends_before(k) - 1].ends.push(k);
     }
     all
 }
@@ -79,17 +104,27 @@ pub struct Busiest {
     pub process: usize,
 }
 
-pub fn busiest(run: &Run) -> Busiest {
+pub fn busiest(view: &View) -> Busiest {
     let mut most = Busiest {
         interval: 0,
         process: 0,
     };
-    for own in intervals(run) {
-        let ends = own
-            .iter()
-            .map(|between| between.sends.len() + between.ends.len());
-        most.interval = ends.clone().fold(most.interval, usize::max);
-        most.process = most.process.max(own.len() + ends.sum::<usize>());
+    let intervals = intervals(view.run);
+    for p in view.rows.iter().copied() {
+        let (mut interval, mut process) = (0, 0);
+        for (number, between) in intervals[p].iter().enumerate() {
+            if view.has_checkpoint(p, number) {
+                process += 1;
+                interval = 0;
+            }
+            let sends = between.sends.iter().filter(|k| view.has_send(**k));
+            let ends = between.ends.iter().filter(|k| view.has_end(**k));
+            let drawn = sends.count() + ends.count();
+            interval += drawn;
+            process += drawn;
+            most.interval = most.interval.max(interval);
+        }
+        most.process = most.process.max(process);
     }
     most
 }
@@ -125,14 +160,14 @@ pub fn has_order(run: &Run) -> bool {
 /// The dots of checkpoints, and arrows that keep clear of them.
 struct Router<'a> {
     scale: &'a Scale,
-    /// By process and column, whether a checkpoint stands there.
+    /// By row and column, whether a checkpoint stands there.
     dots: Vec<Vec<bool>>,
     /// How many columns the first and the last part of a bent arrow take.
     unit: f64,
 }
 
 impl Router<'_> {
-    /// Where a straight part of an arrow crosses or meets lifelines: process,
+    /// Where a straight part of an arrow crosses or meets lifelines: row,
     /// column, and how steep: the sine of the angle.
     fn meets(&self, from: Place, to: Place) -> Vec<(usize, f64, f64)> {
         let (columns, rows) = (to.0 - from.0, to.1 - from.1);
@@ -141,34 +176,41 @@ impl Router<'_> {
         let (top, bottom) = (from.1.min(to.1), from.1.max(to.1));
         let lifelines = top.ceil() as usize..=bottom.floor() as usize;
         lifelines
-            .map(|p| (p, from.0 + columns * (p as f64 - from.1) / rows, steep))
+            .map(|row| (row, from.0 + columns * (row as f64 - from.1) / rows, steep))
             .collect()
     }
 
     /// Whether a part of an arrow keeps clear of all dots.
     fn is_clear(&self, from: Place, to: Place) -> bool {
         let (left, right) = (from.0.min(to.0), from.0.max(to.0));
-        self.meets(from, to).into_iter().all(|(p, column, steep)| {
-            let reach = self.scale.clear / (steep * self.scale.column);
-            let first = (column - reach).max(left - reach * steep).max(0.0).ceil() as usize;
-            let last = (column + reach).min(right + reach * steep).max(0.0).floor() as usize;
-            (first..=last).all(|at| !self.dots[p].get(at).is_some_and(|dot| *dot))
-        })
+        self.meets(from, to)
+            .into_iter()
+            .all(|(row, column, steep)| {
+                let reach = self.scale.clear / (steep * self.scale.column);
+                let first = (column - reach).max(left - reach * steep).max(0.0).ceil() as usize;
+                let last = (column + reach).min(right + reach * steep).max(0.0).floor() as usize;
+                (first..=last).all(|at| !self.dots[row].get(at).is_some_and(|dot| *dot))
+            })
     }
 
-    /// The corners of the arrow of message k, and whether it keeps clear of
-    /// dots. Straight where it can be; else steep past the rows between and
-    /// then along the receiver's row.
-    fn arrow(&self, k: usize, start: Place, end: Place) -> (Vec<Place>, bool) {
-        if self.is_clear(start, end) {
-            return (vec![start, end], true);
+    /// The corners of the arrow of message k between two places on lifelines,
+    /// and whether it keeps clear of dots. Straight where it can be; else steep
+    /// past the rows between and then along the receiver's row. That of a
+    /// waiting message ends above or below its place.
+    fn arrow(&self, k: usize, waiting: bool, start: Place, end: Place) -> (Vec<Place>, bool) {
+        let towards = if start.1 < end.1 { 1.0 } else { -1.0 };
+        let tip = match waiting {
+            true => (end.0, end.1 - towards * self.scale.gap / self.scale.row),
+            false => end,
+        };
+        if self.is_clear(start, tip) {
+            return (vec![start, tip], true);
         }
         let forward = if start.0 <= end.0 {
             self.unit
         } else {
             -self.unit
         };
-        let towards = if start.1 < end.1 { 1.0 } else { -1.0 };
         let steps = ((end.0 - start.0) / forward) as usize;
         // Some lanes, so that long arrows do not lie on each other.
         let lane = [0.62, 0.5, 0.7, 0.56][k % 4];
@@ -177,10 +219,10 @@ impl Router<'_> {
         for steep in fewest..(fewest + 12).min(steps.saturating_sub(1)) {
             let bend = (start.0 + steep as f64 * forward, end.1 - towards * lane);
             if self.is_clear(start, bend) {
-                return (vec![start, bend, last, end], true);
+                return (vec![start, bend, last, tip], true);
             }
         }
-        (vec![start, end], false)
+        (vec![start, tip], false)
     }
 }
 
@@ -194,182 +236,319 @@ const MOST_DELAY: usize = 6;
 
 /// Fills the columns one after another.
 struct Timer<'a> {
-    run: &'a Run,
+    view: &'a View<'a>,
+    intervals: Vec<Vec<Between>>,
     router: Router<'a>,
     column: usize,
-    /// By process, the columns of its checkpoints.
-    checkpoints: Vec<Vec<usize>>,
-    /// By process, where arrows cross its lifeline in the latest columns, and
-    /// how steep.
+    /// By process, the number of its next checkpoint.
+    next: Vec<usize>,
+    /// By process, what it has still to do before that: what is drawn, with
+    /// the sends from the end, and receipts that are not drawn.
+    left: Vec<Between>,
+    undrawn: Vec<Vec<usize>>,
+    /// By process, for how many columns its next event has been put off.
+    delay: Vec<usize>,
+    /// By row, the numbers and columns of its checkpoints.
+    checkpoints: Vec<Vec<(usize, f64)>>,
+    /// By row, where arrows cross its lifeline in the latest columns, and how
+    /// steep.
     crossings: Vec<VecDeque<(f64, f64)>>,
+    /// By message, the column of its send; the first column after it where it
+    /// is not drawn.
     sends: Vec<Option<usize>>,
-    arrows: Vec<Vec<Place>>,
+    arrows: Vec<Arrow>,
 }
 
-impl Timer<'_> {
-    /// The arrow of message k, received in this column.
-    fn arrow(&self, k: usize) -> (Vec<Place>, bool) {
-        let message = &self.run.messages[k];
-        let sent = self.sends[k].expect("sent before");
-        let start = (sent as f64, message.from as f64);
-        self.router
-            .arrow(k, start, (self.column as f64, message.to as f64))
+impl<'a> Timer<'a> {
+    fn new(view: &'a View, scale: &'a Scale) -> Timer<'a> {
+        let (n, m) = (view.run.counts.len(), view.run.messages.len());
+        Timer {
+            view,
+            intervals: intervals(view.run),
+            router: Router {
+                scale,
+                dots: vec![Vec::new(); view.rows.len()],
+                unit: 1.0,
+            },
+            column: 0,
+            next: vec![0; n],
+            left: vec![Between::default(); n],
+            undrawn: vec![Vec::new(); n],
+            delay: vec![0; n],
+            checkpoints: vec![Vec::new(); view.rows.len()],
+            crossings: vec![VecDeque::new(); view.rows.len()],
+            sends: vec![None; m],
+            arrows: vec![Arrow::None; m],
+        }
     }
 
-    /// Whether a checkpoint of p in this column is clear of the arrows that
-    /// cross there.
-    fn is_free(&self, p: usize) -> bool {
+    /// The process has taken its next checkpoint before the column `after`, and
+    /// goes on to what lies after it.
+    fn go_on(&mut self, p: usize, after: usize) {
+        let view = self.view;
+        let between = std::mem::take(&mut self.intervals[p][self.next[p]]);
+        self.next[p] += 1;
+        let (mut sends, unseen): (Vec<usize>, Vec<usize>) =
+            between.sends.into_iter().partition(|k| view.has_send(*k));
+        sends.reverse();
+        for k in unseen {
+            self.sends[k] = Some(after);
+        }
+        let (ends, unseen) = between.ends.into_iter().partition(|k| view.has_end(*k));
+        self.left[p] = Between { sends, ends };
+        self.undrawn[p] = unseen;
+    }
+
+    fn is_through(&self, p: usize) -> bool {
+        self.left[p].sends.is_empty() && self.left[p].ends.is_empty() && self.undrawn[p].is_empty()
+    }
+
+    /// Whether p has something to do still.
+    fn has_work(&self, p: usize) -> bool {
+        !self.is_through(p) || self.next[p] < self.view.run.counts[p]
+    }
+
+    /// Lets everything happen that is not drawn and can happen before this
+    /// column.
+    fn settle(&mut self) {
+        let mut moved = true;
+        while moved {
+            moved = false;
+            for p in 0..self.next.len() {
+                moved |= self.settle_process(p);
+            }
+        }
+    }
+
+    fn settle_process(&mut self, p: usize) -> bool {
+        let mut moved = false;
+        loop {
+            let before = self.undrawn[p].len();
+            let (sends, view, column) = (&self.sends, self.view, self.column);
+            self.undrawn[p].retain(|k| {
+                !sends[*k].is_some_and(|sent| sent + usize::from(view.has_send(*k)) <= column)
+            });
+            moved |= self.undrawn[p].len() < before;
+            let goes_on = self.is_through(p)
+                && self.next[p] < view.run.counts[p]
+                && !view.has_checkpoint(p, self.next[p]);
+            if !goes_on {
+                return moved;
+            }
+            self.go_on(p, self.column);
+            moved = true;
+        }
+    }
+
+    /// Whether message k can be received in this column of the row.
+    fn is_ready(&self, k: usize, row: usize) -> bool {
+        let way = match self.view.row(self.view.run.messages[k].from) {
+            Some(from) if self.view.has_send(k) => fewest(from.abs_diff(row)),
+            _ => 0,
+        };
+        self.sends[k].is_some_and(|sent| sent + way <= self.column)
+    }
+
+    /// The arrow of message k, received in this column, and whether it keeps
+    /// clear of dots.
+    fn arrow(&self, k: usize, row: usize) -> (Arrow, bool) {
+        let message = &self.view.run.messages[k];
+        let end = (self.column as f64, row as f64);
+        if !self.view.has_send(k) {
+            return (Arrow::End(end), true);
+        }
+        let sent = self.sends[k].expect("sent before");
+        let from = self.view.row(message.from).expect("drawn");
+        let start = (sent as f64, from as f64);
+        let (corners, clear) = self.router.arrow(k, message.waiting(), start, end);
+        (Arrow::Whole(corners), clear)
+    }
+
+    /// Whether a checkpoint in this column of the row is clear of the arrows
+    /// that cross there.
+    fn is_free(&self, row: usize) -> bool {
         let scale = self.router.scale;
-        self.crossings[p].iter().all(|(column, steep)| {
+        self.crossings[row].iter().all(|(column, steep)| {
             (self.column as f64 - column).abs() * scale.column * steep >= scale.clear
         })
     }
 
-    fn place_checkpoint(&mut self, p: usize) {
-        self.checkpoints[p].push(self.column);
-        self.router.dots[p].resize(self.column, false);
-        self.router.dots[p].push(true);
+    fn place_checkpoint(&mut self, p: usize, row: usize) {
+        self.checkpoints[row].push((self.next[p], self.column as f64));
+        self.router.dots[row].resize(self.column, false);
+        self.router.dots[row].push(true);
     }
 
-    fn place_end(&mut self, k: usize, corners: Vec<Place>) {
-        for part in corners.windows(2) {
-            for (p, column, steep) in self.router.meets(part[0], part[1]) {
-                // Those at the arrow's own ends are no crossings.
-                if p != self.run.messages[k].from && p != self.run.messages[k].to {
-                    self.crossings[p].push_back((column, steep));
+    fn place_send(&mut self, k: usize, row: usize) {
+        self.sends[k] = Some(self.column);
+        if !self.view.has_end(k) {
+            self.arrows[k] = Arrow::Send((self.column as f64, row as f64));
+        }
+    }
+
+    fn place_end(&mut self, k: usize, arrow: Arrow) {
+        let message = &self.view.run.messages[k];
+        let own = [self.view.row(message.from), self.view.row(message.to)];
+        if let Arrow::Whole(corners) = &arrow {
+            for part in corners.windows(2) {
+                for (row, column, steep) in self.router.meets(part[0], part[1]) {
+                    // Those at the arrow's own ends are no crossings.
+                    if !own.contains(&Some(row)) {
+                        self.crossings[row].push_back((column, steep));
+                    }
                 }
             }
         }
-        self.arrows[k] = corners;
+        self.arrows[k] = arrow;
+    }
+
+    /// Places the next event of p in this column, if there is one and it can
+    /// stand here.
+    fn place(&mut self, p: usize, row: usize) {
+        let now = self.column as f64;
+        while self.crossings[row]
+            .front()
+            .is_some_and(|(column, _)| column + 4.0 < now)
+        {
+            self.crossings[row].pop_front();
+        }
+        if let Some(k) = self.left[p].sends.pop() {
+            self.place_send(k, row);
+        } else if !self.left[p].ends.is_empty() {
+            let ends = self.left[p].ends.iter().copied();
+            let mut ready: Vec<usize> = ends.filter(|k| self.is_ready(*k, row)).collect();
+            ready.sort_by_key(|k| (self.sends[*k], *k));
+            // The first few are tried: one of them mostly is clear.
+            let mut arrows = ready.iter().take(4).map(|k| (*k, self.arrow(*k, row)));
+            let found = match self.delay[p] < MOST_DELAY {
+                true => arrows.find(|(_, (_, clear))| *clear),
+                false => arrows.next(),
+            };
+            match found {
+                Some((k, (arrow, _))) => {
+                    self.place_end(k, arrow);
+                    self.left[p].ends.retain(|other| *other != k);
+                    self.delay[p] = 0;
+                }
+                None => self.delay[p] += usize::from(!ready.is_empty()),
+            }
+        } else if self.undrawn[p].is_empty() && self.next[p] < self.view.run.counts[p] {
+            if self.is_free(row) || self.delay[p] >= MOST_DELAY {
+                self.place_checkpoint(p, row);
+                self.go_on(p, self.column + 1);
+                self.delay[p] = 0;
+            } else {
+                self.delay[p] += 1;
+            }
+        }
     }
 }
 
 /// The layout in time of a run that has an order.
-pub fn timed(run: &Run, scale: &Scale) -> Layout {
-    assert!(has_order(run), "no order of time fits");
-    let intervals = intervals(run);
-    let n = run.counts.len();
-    let mut timer = Timer {
-        run,
-        router: Router {
-            scale,
-            dots: vec![Vec::new(); n],
-            unit: 1.0,
-        },
-        column: 0,
-        checkpoints: vec![Vec::new(); n],
-        crossings: vec![VecDeque::new(); n],
-        sends: vec![None; run.messages.len()],
-        arrows: vec![Vec::new(); run.messages.len()],
-    };
-    // What each process has still to do before its next checkpoint; sends are
-    // taken from the end.
-    let mut left: Vec<Between> = vec![Between::default(); n];
-    let mut delay = vec![0; n];
-    let mut working = true;
-    while working {
-        working = false;
-        for p in 0..n {
-            while timer.crossings[p]
-                .front()
-                .is_some_and(|(column, _)| column + 4.0 < timer.column as f64)
-            {
-                timer.crossings[p].pop_front();
-            }
-            if let Some(k) = left[p].sends.pop() {
-                timer.sends[k] = Some(timer.column);
-                working = true;
-            } else if !left[p].ends.is_empty() {
-                working = true;
-                let ready = |k: &&usize| {
-                    let rows = run.messages[**k].from.abs_diff(p);
-                    timer.sends[**k].is_some_and(|sent| sent + fewest(rows) <= timer.column)
-                };
-                let mut ready: Vec<usize> = left[p].ends.iter().filter(ready).copied().collect();
-                ready.sort_by_key(|k| (timer.sends[*k], *k));
-                // The first few are tried: one of them mostly is clear.
-                let mut arrows = ready.iter().take(4).map(|k| (*k, timer.arrow(*k)));
-                let found = match delay[p] < MOST_DELAY {
-                    true => arrows.find(|(_, (_, clear))| *clear),
-                    false => arrows.next(),
-                };
-                match found {
-                    Some((k, (corners, _))) => {
-                        timer.place_end(k, corners);
-                        left[p].ends.retain(|other| *other != k);
-                        delay[p] = 0;
-                    }
-                    None => delay[p] += usize::from(!ready.is_empty()),
-                }
-            } else if timer.checkpoints[p].len() < run.counts[p] {
-                working = true;
-                if timer.is_free(p) || delay[p] >= MOST_DELAY {
-                    let number = timer.checkpoints[p].len();
-                    timer.place_checkpoint(p);
-                    left[p] = intervals[p][number].clone();
-                    left[p].sends.reverse();
-                    delay[p] = 0;
-                } else {
-                    delay[p] += 1;
-                }
-            }
+pub fn timed(view: &View, scale: &Scale) -> Layout {
+    assert!(has_order(view.run), "no order of time fits");
+    let mut timer = Timer::new(view, scale);
+    timer.settle();
+    while (0..view.run.counts.len()).any(|p| timer.has_work(p)) {
+        for (row, p) in view.rows.iter().copied().enumerate() {
+            timer.place(p, row);
         }
         timer.column += 1;
+        timer.settle();
     }
-    // The turn in which nobody worked is the virtual checkpoints' column.
-    let last = (timer.column - 1) as f64;
-    let with_virtual = |own: &Vec<usize>| {
-        own.iter()
-            .map(|column| *column as f64)
-            .chain([last])
-            .collect()
-    };
-    let checkpoints = timer.checkpoints.iter().map(with_virtual).collect();
+    // The virtual checkpoints stand in a column of their own.
+    let last = timer.column as f64;
+    for (row, p) in view.rows.iter().copied().enumerate() {
+        timer.checkpoints[row].push((view.run.counts[p], last));
+    }
     Layout {
         timed: true,
-        checkpoints,
+        checkpoints: timer.checkpoints,
         arrows: timer.arrows,
         last,
     }
 }
 
-/// The layout by checkpoint number: a checkpoint's column is its number.
-pub fn by_number(run: &Run, scale: &Scale) -> Layout {
-    let mut sends = vec![(0.0, 0.0); run.messages.len()];
+/// The layout by checkpoint number. The numbers of all checkpoints drawn stand
+/// in a row, and a checkpoint's column is the place of its number there.
+pub fn by_number(view: &View, scale: &Scale) -> Layout {
+    let run = view.run;
+    let drawn = view.rows.iter().flat_map(|p| view.checkpoints(*p));
+    let numbers: Vec<usize> = drawn.collect::<BTreeSet<usize>>().into_iter().collect();
+    // A column more where an event lies before the first of them.
+    let intervals = intervals(run);
+    let is_before = |p: usize| {
+        let first = view.checkpoints(p).next().expect("the virtual one");
+        let before = &intervals[p][view.first[p]..first];
+        before.iter().any(|between| {
+            between.sends.iter().any(|k| view.has_send(*k))
+                || between.ends.iter().any(|k| view.has_end(*k))
+        })
+    };
+    let before = usize::from(view.rows.iter().any(|p| is_before(*p)));
+    let column = |number: usize| {
+        let place = numbers.binary_search(&number).expect("drawn");
+        (place + before) as f64
+    };
+
+    let mut sends = vec![None; run.messages.len()];
     let mut ends = sends.clone();
-    for (p, own) in intervals(run).iter().enumerate() {
-        for (number, between) in own.iter().enumerate() {
-            // Sends and receipts share the room evenly, in the order of where
-            // the other ends of their messages are.
-            let sent = between.sends.iter().map(|k| (before(run, *k), *k, true));
-            let received = between
-                .ends
-                .iter()
-                .map(|k| (run.messages[*k].sent + 1, *k, false));
-            let mut all: Vec<(usize, usize, bool)> = sent.chain(received).collect();
-            all.sort();
-            for (place, (_, k, is_send)) in all.iter().enumerate() {
-                let column = number as f64 + (place + 1) as f64 / (all.len() + 1) as f64;
-                let ends = if *is_send { &mut sends } else { &mut ends };
-                ends[*k] = (column, p as f64);
+    for (row, p) in view.rows.iter().copied().enumerate() {
+        // Sends and receipts between two checkpoints share the room evenly, in
+        // the order of where the other ends of their messages are.
+        let mut all: Vec<(usize, usize, usize, bool)> = Vec::new();
+        let mut left = 0.0;
+        for number in view.first[p]..=run.counts[p] {
+            if view.has_checkpoint(p, number) {
+                let right = column(number);
+                all.sort();
+                for (place, (_, _, k, is_send)) in all.iter().enumerate() {
+                    let part = (place + 1) as f64 / (all.len() + 1) as f64;
+                    let ends = if *is_send { &mut sends } else { &mut ends };
+                    ends[*k] = Some((left + (right - left) * part, row as f64));
+                }
+                all.clear();
+                left = right;
+            }
+            if let Some(between) = intervals[p].get(number) {
+                let sent = between.sends.iter().copied().filter(|k| view.has_send(*k));
+                all.extend(sent.map(|k| (number, run.ends_before(k), k, true)));
+                let received = between.ends.iter().copied().filter(|k| view.has_end(*k));
+                all.extend(received.map(|k| (number, run.messages[k].sent + 1, k, false)));
             }
         }
     }
-    let router = Router {
+
+    let columns: Vec<Vec<(usize, f64)>> = view
+        .rows
+        .iter()
+        .map(|p| {
+            let own = view.checkpoints(*p);
+            own.map(|number| (number, column(number))).collect()
+        })
+        .collect();
+    let mut router = Router {
         scale,
-        dots: run
-            .counts
-            .iter()
-            .map(|count| vec![true; count + 1])
-            .collect(),
+        dots: vec![vec![false; numbers.len() + before]; view.rows.len()],
         unit: (26.0 / scale.column).min(1.0),
     };
-    let arrow = |k: usize| router.arrow(k, sends[k], ends[k]).0;
-    let columns = |count: &usize| (0..=*count).map(|number| number as f64).collect();
+    for (row, own) in columns.iter().enumerate() {
+        for (_, column) in own {
+            router.dots[row][*column as usize] = true;
+        }
+    }
+    let arrow = |k: usize| match (sends[k], ends[k]) {
+        (None, None) => Arrow::None,
+        (Some(send), None) => Arrow::Send(send),
+        (None, Some(end)) => Arrow::End(end),
+        (Some(send), Some(end)) => {
+            Arrow::Whole(router.arrow(k, run.messages[k].waiting(), send, end).0)
+        }
+    };
     Layout {
         timed: false,
-        checkpoints: run.counts.iter().map(columns).collect(),
         arrows: (0..run.messages.len()).map(arrow).collect(),
-        last: run.counts.iter().copied().max().unwrap_or(0) as f64,
+        checkpoints: columns,
+        last: (numbers.len() + before - 1) as f64,
     }
 }

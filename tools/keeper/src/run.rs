@@ -1,9 +1,9 @@
-//! A run as a diagram needs it: the table's numbers by the reader's lookups,
-//! and what is kept and the lines by the keeper's calls.
+//! A run as a diagram needs it: the table's numbers, what is kept and the
+//! lines, by the library's answers; and what of it is drawn.
 
-use keeper::{run_table, Refusal};
+use std::fmt;
 
-use crate::command::numbers;
+use keeper::{Line, Refusal, Table};
 
 pub struct Message {
     pub from: usize,
@@ -22,76 +22,234 @@ impl Message {
     }
 }
 
+/// Whose lines are drawn, each of them alone holding.
+#[derive(Clone, Debug, PartialEq, Eq)]
+pub enum Holders {
+    /// These, numbered 0 to 31.
+    Of(Vec<usize>),
+    All,
+}
+
 pub struct Run {
     pub counts: Vec<usize>,
     pub messages: Vec<Message>,
     /// By process and number.
     pub kept: Vec<Vec<bool>>,
     pub recovery_line: Vec<usize>,
-    /// A process and the line of it alone holding.
-    pub hold: Option<(usize, Vec<usize>)>,
+    /// By process, the line of it alone holding.
+    pub hold_lines: Vec<Vec<usize>>,
+    /// The processes whose lines are drawn, rising.
+    pub holders: Vec<usize>,
 }
 
 impl Run {
-    /// Reads a table, with the line of `hold` alone holding (a process from 0
-    /// to 31), or refuses as the keeper does.
-    pub fn read(table: &[u8], hold: Option<usize>) -> Result<Run, Refusal> {
-        keeper::check_table(table)?;
-        let counts: Vec<usize> = (0..usize::from(run_table::processes(table)))
-            .map(|p| run_table::count(table, p).into())
-            .collect();
-        let mut answer = vec![0; keeper::SHEET_ROOM];
-
-        let written = keeper::recovery_line(table, &mut answer)?;
-        let recovery_line = places(&answer[..written]);
-        let hold = match hold {
-            None => None,
-            Some(process) => {
-                let written = keeper::line_of_set(table, 1 << process, &mut answer)?;
-                Some((process, places(&answer[..written])))
-            }
+    /// Reads a table, or refuses as the keeper does: a holder at N or above is
+    /// a bit too many in a set.
+    pub fn read(table: &[u8], holders: &Holders) -> Result<Run, Refusal> {
+        let table = Table::from_bytes(table)?;
+        let processes = 0..table.processes();
+        let mut holders: Vec<usize> = match holders {
+            Holders::All => processes.clone().map(usize::from).collect(),
+            Holders::Of(holders) => holders.clone(),
         };
-
-        let mut scratch = vec![0; keeper::SCRATCH_NUMBERS];
-        let written = keeper::keep_sheet(table, &mut scratch, &mut answer)?;
-        let sheet = places(&answer[..written]);
-        let (checkpoints, sheet) = (sheet[0], &sheet[2..]);
-        let mut kept: Vec<Vec<bool>> = counts.iter().map(|count| vec![false; *count]).collect();
-        for place in 0..checkpoints {
-            kept[sheet[place]][sheet[checkpoints + place]] = true;
+        holders.sort_unstable();
+        holders.dedup();
+        for holder in &holders {
+            table.line_of_set(1 << holder)?;
         }
-        let mut messages: Vec<Message> = (0..usize::from(run_table::messages(table)))
-            .map(|k| Message {
-                from: run_table::sender(table, k).into(),
-                sent: run_table::sent(table, k).into(),
-                to: run_table::receiver(table, k).into(),
-                received: run_table::received(table, k).into(),
-                kept: false,
-            })
-            .collect();
-        for position in &sheet[2 * checkpoints..] {
-            messages[*position].kept = true;
-        }
+        let sheet = table.keep_sheet();
+        let kept = |p: u16| -> Vec<bool> {
+            let numbers = 0..table.count(p);
+            numbers
+                .map(|number| sheet.has_checkpoint(p, number))
+                .collect()
+        };
+        let messages = table
+            .messages()
+            .zip(0..)
+            .map(|(message, position)| Message {
+                from: message.sender.into(),
+                sent: message.sent.into(),
+                to: message.receiver.into(),
+                received: message.received.map_or(0, |number| number.get().into()),
+                kept: sheet.has_message(position),
+            });
+        let hold_line = |p| places(sheet.line(p).expect("a line of each process"));
         Ok(Run {
-            counts,
-            messages,
-            kept,
-            recovery_line,
-            hold,
+            counts: table.counts().map(usize::from).collect(),
+            messages: messages.collect(),
+            kept: processes.clone().map(kept).collect(),
+            recovery_line: places(&table.recovery_line()),
+            hold_lines: processes.map(hold_line).collect(),
+            holders,
         })
     }
-}
 
-impl Run {
+    /// The number of the checkpoint before which the arrow of message k ends:
+    /// the virtual one for a waiting message.
+    pub fn ends_before(&self, k: usize) -> usize {
+        let message = &self.messages[k];
+        if message.waiting() {
+            self.counts[message.to]
+        } else {
+            message.received
+        }
+    }
+
+    /// The lines that are drawn: the recovery line and those of the holders.
+    pub fn lines(&self) -> impl Iterator<Item = &[usize]> {
+        let holders = self.holders.iter().map(|holder| &self.hold_lines[*holder]);
+        std::iter::once(&self.recovery_line)
+            .chain(holders)
+            .map(Vec::as_slice)
+    }
+
     /// Whether the checkpoint is kept or on one of the lines.
     pub fn marks(&self, p: usize, number: usize) -> bool {
-        let on = |line: &[usize]| line[p] == number;
-        self.kept[p].get(number).is_some_and(|kept| *kept)
-            || on(&self.recovery_line)
-            || self.hold.as_ref().is_some_and(|(_, line)| on(line))
+        self.kept[p].get(number) == Some(&true) || self.lines().any(|line| line[p] == number)
+    }
+
+    /// The processes whose lines, each alone holding, have the checkpoint.
+    pub fn held_at(&self, p: usize, number: usize) -> Vec<usize> {
+        (0..self.counts.len())
+            .filter(|holder| self.hold_lines[*holder][p] == number)
+            .collect()
+    }
+
+    /// The processes whose lines, each alone holding, a message crosses: it was
+    /// sent before the line and received after it.
+    pub fn crossed(&self, message: &Message) -> Vec<usize> {
+        let crosses = |line: &[usize]| {
+            message.sent < line[message.from] && line[message.to] < message.received
+        };
+        (0..self.counts.len())
+            .filter(|holder| crosses(&self.hold_lines[*holder]))
+            .collect()
     }
 }
 
-fn places(bytes: &[u8]) -> Vec<usize> {
-    numbers(bytes).into_iter().map(usize::from).collect()
+fn places(line: &Line) -> Vec<usize> {
+    line.iter().copied().map(usize::from).collect()
+}
+
+/// What a diagram is asked to show.
+#[derive(Clone, Debug, Default)]
+pub struct Choice {
+    /// The processes that have a lifeline, from the top; all where there is
+    /// none.
+    pub processes: Option<Vec<usize>>,
+    /// Of each process no more than so many checkpoints, its last.
+    pub last: Option<usize>,
+    /// Nothing but what is kept.
+    pub kept_only: bool,
+}
+
+/// A choice that a run can't have.
+#[derive(Clone, Debug, PartialEq, Eq)]
+pub enum BadChoice {
+    NoProcess { process: usize, processes: usize },
+    ProcessTwice(usize),
+}
+
+impl fmt::Display for BadChoice {
+    fn fmt(&self, to: &mut fmt::Formatter<'_>) -> fmt::Result {
+        match self {
+            BadChoice::NoProcess { process, processes } => write!(
+                to,
+                "there is no process {process}: the table has {processes}, numbered from 0"
+            ),
+            BadChoice::ProcessTwice(process) => {
+                write!(to, "process {process} stands twice among those to draw")
+            }
+        }
+    }
+}
+
+/// What of a run is drawn.
+pub struct View<'a> {
+    pub run: &'a Run,
+    /// The processes that have a lifeline, from the top.
+    pub rows: Vec<usize>,
+    /// By process, its row.
+    row_of: Vec<Option<usize>>,
+    /// By process, the number of the first checkpoint of those that `last`
+    /// leaves. All that lies before it is left out.
+    pub first: Vec<usize>,
+    kept_only: bool,
+}
+
+impl<'a> View<'a> {
+    pub fn of(run: &'a Run, choice: &Choice) -> Result<View<'a>, BadChoice> {
+        let n = run.counts.len();
+        let rows = choice.processes.clone().unwrap_or_else(|| (0..n).collect());
+        let mut row_of = vec![None; n];
+        for (row, process) in rows.iter().copied().enumerate() {
+            let own = row_of.get_mut(process).ok_or(BadChoice::NoProcess {
+                process,
+                processes: n,
+            })?;
+            if own.replace(row).is_some() {
+                return Err(BadChoice::ProcessTwice(process));
+            }
+        }
+        let last = choice.last.unwrap_or(usize::MAX);
+        Ok(View {
+            run,
+            rows,
+            row_of,
+            first: run
+                .counts
+                .iter()
+                .map(|count| count.saturating_sub(last))
+                .collect(),
+            kept_only: choice.kept_only,
+        })
+    }
+
+    pub fn row(&self, p: usize) -> Option<usize> {
+        self.row_of[p]
+    }
+
+    /// Whether a checkpoint is drawn. The virtual one of a row always is.
+    pub fn has_checkpoint(&self, p: usize, number: usize) -> bool {
+        let wanted = !self.kept_only || self.run.kept[p].get(number) != Some(&false);
+        wanted && self.has_after(p, number)
+    }
+
+    /// Whether that which lies after a checkpoint of a process may be drawn.
+    fn has_after(&self, p: usize, number: usize) -> bool {
+        self.row_of[p].is_some() && number >= self.first[p]
+    }
+
+    /// Whether a message may be drawn where its ends are.
+    fn wants(&self, k: usize) -> bool {
+        !self.kept_only || self.run.messages[k].kept
+    }
+
+    /// Whether the place of the send of message k is drawn.
+    pub fn has_send(&self, k: usize) -> bool {
+        let message = &self.run.messages[k];
+        self.wants(k) && self.has_after(message.from, message.sent)
+    }
+
+    /// Whether the place is drawn where the arrow of message k ends.
+    pub fn has_end(&self, k: usize) -> bool {
+        self.wants(k) && self.has_after(self.run.messages[k].to, self.run.ends_before(k) - 1)
+    }
+
+    /// Whether something of message k is drawn.
+    pub fn has_message(&self, k: usize) -> bool {
+        self.has_send(k) || self.has_end(k)
+    }
+
+    /// The numbers of the checkpoints of a process that are drawn, and of its
+    /// virtual one.
+    pub fn checkpoints(&self, p: usize) -> impl Iterator<Item = usize> + '_ {
+        (self.first[p]..=self.run.counts[p]).filter(move |number| self.has_checkpoint(p, *number))
+    }
+
+    /// The positions of the messages of which something is drawn.
+    pub fn messages(&self) -> impl Iterator<Item = usize> + '_ {
+        (0..self.run.messages.len()).filter(|k| self.has_message(*k))
+    }
 }

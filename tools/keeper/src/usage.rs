@@ -24,8 +24,8 @@ pub enum Takes {
     Number,
     /// Numbers with a comma between two.
     Numbers,
-    /// A number, or one of these words.
-    NumberOr(&'static [&'static str]),
+    /// Numbers with a comma between two, or one of these words.
+    NumbersOr(&'static [&'static str]),
     /// One of these words.
     OneOf(&'static [&'static str]),
     /// The name of a subcommand.
@@ -146,9 +146,31 @@ const TEXT: Opt = Opt {
 
 const HOLD: Opt = Opt {
     names: &["--hold"],
+    takes: Takes::NumbersOr(&["all"]),
+    value: "LIST",
+    words: "draw the line of each process of LIST alone holding as well: numbers with commas between, or `all`",
+};
+
+const LAST: Opt = Opt {
+    names: &["--last"],
     takes: Takes::Number,
-    value: "PROCESS",
-    words: "draw the line of this process alone holding as well",
+    value: "NUMBER",
+    words:
+        "draw no more than the last NUMBER checkpoints of each process, and what lies after them",
+};
+
+const PROCESSES: Opt = Opt {
+    names: &["--processes"],
+    takes: Takes::Numbers,
+    value: "LIST",
+    words: "draw the lifelines of these processes only, from the top: numbers with commas between",
+};
+
+const KEPT_ONLY: Opt = Opt {
+    names: &["--kept-only"],
+    takes: Takes::Nothing,
+    value: "",
+    words: "draw only the checkpoints and messages that are kept, with the lines",
 };
 
 const TITLE: Opt = Opt {
@@ -409,7 +431,7 @@ are found before the first step is made.",
         name: "draw",
         arguments: &[],
         file: true,
-        options: &[&HOLD, &TITLE, &READ_TEXT, &OUTPUT],
+        options: &[&HOLD, &LAST, &PROCESSES, &KEPT_ONLY, &TITLE, &READ_TEXT, &OUTPUT],
         short: "the run as a diagram in SVG",
         words: "\
 Reads a run table and writes the run as a space-time diagram in SVG: a lifeline for each process, checkpoints as dots \
