@@ -209,14 +209,6 @@ pub fn line(input: &Input, arguments: &Arguments) -> Result<Vec<u8>, Failure> {
     Ok(format!("{line}\n").into_bytes())
 }
 
-/// The 16-bit numbers that stand in the bytes.
-pub(crate) fn numbers(bytes: &[u8]) -> Vec<u16> {
-    bytes
-        .chunks_exact(2)
-        .map(|pair| u16::from_le_bytes([pair[0], pair[1]]))
-        .collect()
-}
-
 pub fn new(arguments: &Arguments) -> Result<Table, Failure> {
     let n = arguments.the_number("N");
     Table::new(n.into()).map_err(|refusal| {

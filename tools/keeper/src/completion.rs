@@ -19,7 +19,7 @@ fn option_names(subcommand: &Subcommand) -> Vec<&'static str> {
 fn in_bash(takes: Takes) -> String {
     match takes {
         Takes::File => "_keeper_files".to_string(),
-        Takes::NumberOr(words) | Takes::OneOf(words) => {
+        Takes::NumbersOr(words) | Takes::OneOf(words) => {
             format!("_keeper_words '{}'", words.join(" "))
         }
         Takes::Subcommand => format!("_keeper_words '{}'", subcommand_names().join(" ")),
@@ -130,7 +130,7 @@ complete -F _keeper keeper
 fn in_zsh(takes: Takes) -> String {
     match takes {
         Takes::File => "_files".to_string(),
-        Takes::NumberOr(words) | Takes::OneOf(words) => format!("({})", words.join(" ")),
+        Takes::NumbersOr(words) | Takes::OneOf(words) => format!("({})", words.join(" ")),
         Takes::Subcommand => format!("({})", subcommand_names().join(" ")),
         Takes::Nothing | Takes::Text | Takes::Number | Takes::Numbers | Takes::Item => {
             " ".to_string()

@@ -193,24 +193,25 @@ pub enum Undrawn {
 
 impl fmt::Display for Undrawn {
     fn fmt(&self, to: &mut fmt::Formatter<'_>) -> fmt::Result {
-        let Undrawn::TooLarge {
-            width,
-            height,
-            last,
-        } = self
-        else {
-            let Undrawn::Choice(choice) = self else {
-                unreachable!("the other case");
-            };
-            return choice.fmt(to);
-        };
-        write!(
-            to,
-            "the picture would be {width} by {height} px, and many renderers stop at {MOST_PIXELS}: draw less"
-        )?;
-        match last {
-            Some(last) => write!(to, ", with --last {last}, --processes or --kept-only"),
-            None => write!(to, ", with --processes, --kept-only or a shorter title"),
+        match self {
+            Undrawn::Choice(choice) => choice.fmt(to),
+            Undrawn::TooLarge {
+                width,
+                height,
+                last,
+            } => {
+                write!(to, "the picture would be {width} by {height} px, and many renderers stop at {MOST_PIXELS}")?;
+                match last {
+                    Some(last) => write!(
+                        to,
+                        ": draw less, with --last {last}, --processes or --kept-only"
+                    ),
+                    None => write!(
+                        to,
+                        ": draw less, with --processes, --kept-only or a shorter title"
+                    ),
+                }
+            }
         }
     }
 }

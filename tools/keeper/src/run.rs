@@ -154,12 +154,11 @@ pub enum BadChoice {
 impl fmt::Display for BadChoice {
     fn fmt(&self, to: &mut fmt::Formatter<'_>) -> fmt::Result {
         match self {
-            BadChoice::NoProcess { process, processes } => write!(
-                to,
-                "there is no process {process}: the table has {processes}, numbered from 0"
-            ),
+            BadChoice::NoProcess { process, processes } => {
+                write!(to, "there is no process {process} (N is {processes})")
+            }
             BadChoice::ProcessTwice(process) => {
-                write!(to, "process {process} stands twice among those to draw")
+                write!(to, "process {process} is to be drawn twice")
             }
         }
     }

@@ -148,22 +148,22 @@ const HOLD: Opt = Opt {
     names: &["--hold"],
     takes: Takes::NumbersOr(&["all"]),
     value: "LIST",
-    words: "draw the line of each process of LIST alone holding as well: numbers with commas between, or `all`",
+    words: "draw as well the line of each process of LIST alone holding: numbers with commas between, or `all`; \
+where there are several, `h3` stands beside the checkpoints that the line of process 3 has",
 };
 
 const LAST: Opt = Opt {
     names: &["--last"],
     takes: Takes::Number,
     value: "NUMBER",
-    words:
-        "draw no more than the last NUMBER checkpoints of each process, and what lies after them",
+    words: "draw of each process no more than its last NUMBER checkpoints and what lies after them",
 };
 
 const PROCESSES: Opt = Opt {
     names: &["--processes"],
     takes: Takes::Numbers,
     value: "LIST",
-    words: "draw the lifelines of these processes only, from the top: numbers with commas between",
+    words: "draw the lifelines of these processes only, in this order: numbers with commas between",
 };
 
 const KEPT_ONLY: Opt = Opt {
@@ -436,7 +436,12 @@ are found before the first step is made.",
         words: "\
 Reads a run table and writes the run as a space-time diagram in SVG: a lifeline for each process, checkpoints as dots \
 and messages as arrows, with what is kept and the recovery line. Time runs to the right where some order of time fits \
-the table; else places are by checkpoint number, and the legend says so.",
+the table; else places are by checkpoint number, and the legend says so.
+
+What the options leave out is counted below the picture. Of a message whose other end is left out a short piece is \
+drawn, with a ring where it is cut. A browser shows what a dot or an arrow is, and why it is kept, when it is pointed \
+at. Many renderers stop at 32767 px, so a picture that would be wider is not drawn; the message then names a `--last` \
+that is narrow enough.",
         work: Work::Answer(command::draw),
     },
     Subcommand {
