@@ -271,15 +271,12 @@ pub fn draw(input: &Input, arguments: &Arguments) -> Result<Vec<u8>, Failure> {
             Holders::Of(named.collect::<Result<_, _>>()?)
         }
     };
-    let last = arguments.number("--last").map(usize::from);
-    if last == Some(0) {
-        let what = "--last needs a number above 0";
-        return Err(arguments::wrong(arguments.subcommand, what));
-    }
     let processes = arguments.numbers("--processes").iter().copied();
     let choice = Choice {
-        processes: (arguments.has("--processes")).then(|| processes.map(usize::from).collect()),
-        last,
+        processes: arguments
+            .has("--processes")
+            .then(|| processes.map(usize::from).collect()),
+        last: arguments.number("--last").map(usize::from),
         kept_only: arguments.has("--kept-only"),
     };
     let run = Run::read(&input.table, &holders)

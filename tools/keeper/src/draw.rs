@@ -350,7 +350,7 @@ impl<'a> Picture<'a> {
             top,
             legend_top,
             svg: String::new(),
-            space: Space::default(),
+            space: Space::new(width, legend_top - 18.0),
         }
     }
 
@@ -661,14 +661,11 @@ impl<'a> Picture<'a> {
         };
         let at = self.on_row(row, *last);
         let numbers: Vec<String> = before.iter().map(usize::to_string).collect();
+        let plural = if before.len() == 1 { "" } else { "s" };
         let _ = writeln!(
             self.svg,
-            "<g class=\"before\"><title>{} of process {p}, left out: {}</title>",
-            match before.len() {
-                1 => "a checkpoint",
-                _ => "checkpoints",
-            },
-            numbers.join(" ")
+            "<g class=\"before\"><title>left out: checkpoint{plural} {} of process {p}</title>",
+            numbers.join(", ")
         );
         let places = around(at, &text, 11.0);
         label_over_lines(&mut self.svg, &mut self.space, &text, 11.0, &places);

@@ -325,8 +325,9 @@ impl<'a> Timer<'a> {
         loop {
             let before = self.undrawn[p].len();
             let (sends, view, column) = (&self.sends, self.view, self.column);
-            self.undrawn[p].retain(|k| {
-                !sends[*k].is_some_and(|sent| sent + usize::from(view.has_send(*k)) <= column)
+            self.undrawn[p].retain(|k| match sends[*k] {
+                Some(sent) => sent + usize::from(view.has_send(*k)) > column,
+                None => true,
             });
             moved |= self.undrawn[p].len() < before;
             let goes_on = self.is_through(p)

@@ -147,6 +147,8 @@ pub struct Choice {
 /// A choice that a run can't have.
 #[derive(Clone, Debug, PartialEq, Eq)]
 pub enum BadChoice {
+    NoProcesses,
+    NoCheckpoints,
     NoProcess { process: usize, processes: usize },
     ProcessTwice(usize),
 }
@@ -154,6 +156,8 @@ pub enum BadChoice {
 impl fmt::Display for BadChoice {
     fn fmt(&self, to: &mut fmt::Formatter<'_>) -> fmt::Result {
         match self {
+            BadChoice::NoProcesses => write!(to, "--processes needs a process"),
+            BadChoice::NoCheckpoints => write!(to, "--last needs a number above 0"),
             BadChoice::NoProcess { process, processes } => {
                 write!(to, "there is no process {process} (N is {processes})")
             }
@@ -181,6 +185,12 @@ impl<'a> View<'a> {
     pub fn of(run: &'a Run, choice: &Choice) -> Result<View<'a>, BadChoice> {
         let n = run.counts.len();
         let rows = choice.processes.clone().unwrap_or_else(|| (0..n).collect());
+        if rows.is_empty() {
+            return Err(BadChoice::NoProcesses);
+        }
+        if choice.last == Some(0) {
+            return Err(BadChoice::NoCheckpoints);
+        }
         let mut row_of = vec![None; n];
         for (row, process) in rows.iter().copied().enumerate() {
             let own = row_of.get_mut(process).ok_or(BadChoice::NoProcess {

@@ -4,20 +4,31 @@
 mod common;
 mod xml;
 
+use std::collections::{BTreeMap, BTreeSet};
 use std::fs;
 use std::path::PathBuf;
 
 use common::{bytes, corpus, done, example_a, fails, refused, refuses, Random};
-use keeper_command::draw::draw;
-use keeper_command::layout::{self, Scale};
-use keeper_command::run::Run;
+use keeper_command::draw::{self, Undrawn};
+use keeper_command::layout::{self, Arrow, Layout, Scale};
+use keeper_command::run::{BadChoice, Choice, Holders, Run, View};
 use xml::{elements, Element};
 
 const SCALE: Scale = Scale {
     column: 26.0,
     row: 60.0,
     clear: 9.0,
+    gap: 12.0,
 };
+
+fn read(table: &[u8]) -> Run {
+    Run::read(table, &Holders::Of(vec![])).expect("accepted")
+}
+
+/// The picture of the whole run.
+fn draw(run: &Run, title: Option<&str>) -> String {
+    draw::draw(run, &Choice::default(), title).expect("not too large")
+}
 
 /// Checkpoints of all processes together.
 fn checkpoints(run: &Run) -> usize {
@@ -32,10 +43,10 @@ fn runs() -> Vec<(String, Run)> {
     let runs = cases.map(|case| {
         (
             case.name,
-            Run::read(&case.table, Some(0)).expect("accepted"),
+            Run::read(&case.table, &Holders::Of(vec![0])).expect("accepted"),
         )
     });
-    let runs: Vec<_> = runs.filter(|(_, run)| checkpoints(run) <= 6_000).collect();
+    let runs: Vec<_> = runs.filter(|(_, run)| checkpoints(run) <= 2_000).collect();
     assert!(runs.len() > 50, "{}", runs.len());
     runs
 }
@@ -54,10 +65,183 @@ fn points(element: &Element) -> Vec<(f64, f64)> {
         .collect()
 }
 
-/// The classes of an element's nearest parents, and the element.
 fn in_class<'a>(all: &'a [Element], class: &'a str) -> impl Iterator<Item = &'a Element> {
-    all.iter()
-        .filter(move |element| element.within.iter().any(|within| within == class))
+    all.iter().filter(move |element| element.is_within(class))
+}
+
+/// A dot or a square.
+struct Dot {
+    class: String,
+    at: (f64, f64),
+}
+
+/// The arrow of a message.
+struct Drawn {
+    /// `plain`, `kept` or `waiting`.
+    class: String,
+    /// The corners of its shaft, and the tip of its head.
+    shaft: Vec<(f64, f64)>,
+    tip: (f64, f64),
+    /// The ring where it is cut.
+    ring: Option<(f64, f64)>,
+}
+
+/// A picture, read back by the titles of its dots and arrows. There is none
+/// without a title.
+struct Picture {
+    all: Vec<Element>,
+    width: f64,
+    height: f64,
+    /// By process and number, and their titles.
+    dots: BTreeMap<(usize, usize), Dot>,
+    /// By position.
+    arrows: BTreeMap<usize, Drawn>,
+    titles: BTreeSet<String>,
+}
+
+/// The numbers that a text has, in order.
+fn numbers_in(text: &str) -> Vec<usize> {
+    text.split(|character: char| !character.is_ascii_digit())
+        .filter_map(|digits| digits.parse().ok())
+        .collect()
+}
+
+impl Picture {
+    fn read(svg: &str) -> Picture {
+        let all = elements(svg).expect("well formed");
+        let title_of = |place: usize| {
+            let mut own = all.iter().filter(|one| one.parent == Some(place));
+            let title = own.next().filter(|one| one.name == "title");
+            title.expect("a title").text.clone()
+        };
+        let (mut dots, mut arrows) = (BTreeMap::new(), BTreeMap::new());
+        let mut titles = BTreeSet::new();
+        for (place, element) in all.iter().enumerate() {
+            let in_group = |class: &str| element.is_within(class) && element.name != "title";
+            if in_group("checkpoints") {
+                let title = title_of(place);
+                let numbers = numbers_in(&title);
+                let (at, key) = match element.name.as_str() {
+                    "rect" => {
+                        assert!(
+                            title.starts_with("virtual checkpoint of process "),
+                            "{title}"
+                        );
+                        let half = element.number("width") / 2.0;
+                        let at = (element.number("x") + half, element.number("y") + half);
+                        (at, (numbers[0], numbers[1]))
+                    }
+                    _ => {
+                        assert!(title.starts_with("checkpoint "), "{title}");
+                        let at = (element.number("cx"), element.number("cy"));
+                        (at, (numbers[1], numbers[0]))
+                    }
+                };
+                let class = element.attribute("class").expect("a class").to_string();
+                assert!(dots.insert(key, Dot { class, at }).is_none(), "{title}");
+                titles.insert(title);
+            } else if in_group("messages") && element.is("message") {
+                let title = title_of(place);
+                let position = numbers_in(&title)[0];
+                let parts = |class: &str| {
+                    let mut own = all.iter().filter(|one| one.parent == Some(place));
+                    own.find(|one| one.is(class))
+                };
+                let head = points(parts("head").expect("a head"));
+                let class = element.within.iter().find(|class| *class != "messages");
+                let arrow = Drawn {
+                    class: class.expect("a class").clone(),
+                    shaft: points(parts("shaft").expect("a shaft")),
+                    // The tip is the middle of an open head and the first of a
+                    // filled one.
+                    tip: head[usize::from(element.is_within("waiting"))],
+                    ring: parts("cut").map(|ring| (ring.number("cx"), ring.number("cy"))),
+                };
+                assert!(arrows.insert(position, arrow).is_none(), "{title}");
+                titles.insert(title);
+            }
+        }
+        Picture {
+            width: all[0].number("width"),
+            height: all[0].number("height"),
+            all,
+            dots,
+            arrows,
+            titles,
+        }
+    }
+
+    fn texts<'a>(&'a self, class: &'a str) -> Vec<&'a str> {
+        let texts = in_class(&self.all, class).filter(|one| one.name == "text");
+        texts.map(|one| one.text.as_str()).collect()
+    }
+
+    /// The notes of the legend, whose lines are put together again.
+    fn notes(&self) -> String {
+        let notes = self.all.iter().filter(|one| one.is("note"));
+        notes
+            .map(|one| one.text.clone())
+            .collect::<Vec<_>>()
+            .join(" ")
+    }
+
+    fn lines(&self, class: &str) -> Vec<Vec<(f64, f64)>> {
+        let lines = self.all.iter().filter(|one| one.is(class));
+        lines.map(points).collect()
+    }
+
+    /// Whether all of it is within the picture, texts by their widths too.
+    fn assert_inside(&self, name: &str) {
+        let inside = |x: f64, y: f64| {
+            assert!(
+                (0.0..=self.width).contains(&x) && (0.0..=self.height).contains(&y),
+                "{name}: {x} {y} in {} {}",
+                self.width,
+                self.height
+            );
+        };
+        let anchors = |element: &Element| {
+            let parent = element.parent.map(|parent| &self.all[parent]);
+            let group = parent.and_then(|parent| parent.attribute("text-anchor"));
+            match group {
+                Some("middle") => (0.5, 0.5),
+                Some("end") => (1.0, 0.0),
+                _ => (0.0, 1.0),
+            }
+        };
+        for element in &self.all {
+            if element.attribute("points").is_some() {
+                points(element).into_iter().for_each(|(x, y)| inside(x, y));
+            }
+            match element.name.as_str() {
+                "circle" => {
+                    let (x, y, r) = (
+                        element.number("cx"),
+                        element.number("cy"),
+                        element.number("r"),
+                    );
+                    inside(x - r, y - r);
+                    inside(x + r, y + r);
+                }
+                "text" => {
+                    let size = match element.within.last().map(String::as_str) {
+                        Some("numbers" | "before") => 11.0,
+                        Some("positions" | "holders") => 10.0,
+                        Some("title") => 17.0,
+                        Some("processes") => 13.0,
+                        _ => 12.0,
+                    };
+                    // As wide as the widest common fonts have it, on average.
+                    let width = element.text.chars().count() as f64 * size * 0.55;
+                    let (left, right) = anchors(element);
+                    let (x, y) = (element.number("x"), element.number("y"));
+                    inside(x - left * width, y - size);
+                    inside(x + right * width, y + 2.0);
+                }
+                _ => (),
+            }
+        }
+    }
 }
 
 #[test]
@@ -96,90 +280,91 @@ fn the_checker_of_xml_checks() {
 fn corpus_is_drawn_well_formed_and_whole() {
     for (name, run) in runs() {
         let svg = draw(&run, Some("A <title> & \"more\""));
-        let all = elements(&svg).unwrap_or_else(|error| panic!("{name}: {error}"));
-        assert_eq!(all[0].name, "svg");
-        let dots: Vec<_> = in_class(&all, "checkpoints").collect();
-        let kept = dots
-            .iter()
-            .filter(|dot| dot.attribute("class") == Some("kept"))
-            .count();
-        assert_eq!(
-            kept,
-            run.kept.iter().flatten().filter(|kept| **kept).count(),
+        let picture = Picture::read(&svg);
+        let all =
+            (0..run.counts.len()).flat_map(|p| (0..=run.counts[p]).map(move |number| (p, number)));
+        assert!(picture.dots.keys().copied().eq(all), "{name}");
+        for ((p, number), dot) in &picture.dots {
+            let class = match run.kept[*p].get(*number) {
+                None => "virtual",
+                Some(true) => "kept",
+                Some(false) => "other",
+            };
+            assert_eq!(dot.class, class, "{name}: {number} of {p}");
+        }
+        assert!(
+            picture.arrows.keys().copied().eq(0..run.messages.len()),
             "{name}"
         );
-        assert_eq!(dots.len(), checkpoints(&run) + run.counts.len(), "{name}");
-        // An arrow is a shaft and a head.
-        let count = |class| {
-            in_class(&all, "messages")
-                .filter(|one| one.within.iter().any(|own| own == class))
-                .count()
-                / 2
-        };
-        let waiting = run
-            .messages
-            .iter()
-            .filter(|message| message.waiting())
-            .count();
-        let kept = run
-            .messages
-            .iter()
-            .filter(|message| message.kept && !message.waiting())
-            .count();
-        assert_eq!((count("waiting"), count("kept")), (waiting, kept), "{name}");
-        assert_eq!(count("messages"), run.messages.len(), "{name}");
-        // All is inside of the picture.
-        let size = |name| {
-            all[0]
-                .attribute(name)
-                .expect("a size")
-                .parse::<f64>()
-                .expect("a number")
-        };
-        for element in all
-            .iter()
-            .filter(|element| element.attribute("points").is_some())
-        {
-            for (x, y) in points(element) {
-                assert!(
-                    x >= 0.0 && x <= size("width") && y >= 0.0 && y <= size("height"),
-                    "{name}: {x} {y}"
-                );
-            }
+        for (k, arrow) in &picture.arrows {
+            let message = &run.messages[*k];
+            let class = match (message.waiting(), message.kept) {
+                (true, _) => "waiting",
+                (false, true) => "kept",
+                (false, false) => "plain",
+            };
+            assert_eq!(arrow.class, class, "{name}: {k}");
+            assert_eq!(arrow.ring, None, "{name}: {k}");
         }
+        assert!(!picture.notes().contains("Left out"), "{name}");
+        picture.assert_inside(&name);
     }
+}
+
+/// Runs that steps have left, which time can order.
+fn histories(seeds: std::ops::Range<u64>, most_processes: usize) -> Vec<(String, Run)> {
+    seeds
+        .map(|seed| {
+            let mut random = Random(seed);
+            let (n, steps) = (1 + random.below(most_processes), 20 + random.below(150));
+            (format!("history {seed}"), read(&random.history(n, steps)))
+        })
+        .collect()
+}
+
+/// Any runs, most of which no order of time fits.
+fn any_runs(seed: u64, how_many: usize) -> Vec<(String, Run)> {
+    let mut random = Random(seed);
+    let run = |number: usize| (format!("any {number}"), read(&random.table(9, 40, 12)));
+    (0..how_many).map(run).collect()
 }
 
 #[test]
 fn arrows_go_forward_where_time_has_an_order() {
     let mut timed = 0;
-    let histories = (0..60).map(|seed| {
-        let mut random = Random(seed);
-        let (n, steps) = (2 + random.below(12), 20 + random.below(150));
-        (
-            format!("history {seed}"),
-            Run::read(&random.history(n, steps), None).expect("accepted"),
-        )
-    });
-    for (name, run) in runs().into_iter().chain(histories) {
+    for (name, run) in runs().into_iter().chain(histories(0..60, 13)) {
         if !layout::has_order(&run) {
             assert!(!name.starts_with("history"), "{name}");
             continue;
         }
         timed += 1;
-        let layout = layout::timed(&run, &SCALE);
-        for (k, corners) in layout.arrows.iter().enumerate() {
+        let view = View::of(&run, &Choice::default()).expect("all of it");
+        let layout = layout::timed(&view, &SCALE);
+        // No two events of a process in one column.
+        let mut columns: Vec<Vec<f64>> = vec![Vec::new(); run.counts.len()];
+        for (p, own) in layout.checkpoints.iter().enumerate() {
+            assert!(own.iter().map(|(number, _)| *number).eq(0..=run.counts[p]));
+            assert!(own.windows(2).all(|pair| pair[0].1 < pair[1].1), "{name}");
+            columns[p].extend(own.iter().map(|(_, column)| column));
+        }
+        for (k, arrow) in layout.arrows.iter().enumerate() {
             let message = &run.messages[k];
+            let Arrow::Whole(corners) = arrow else {
+                panic!("{name}: {k} is not whole")
+            };
             assert!(
                 corners.windows(2).all(|part| part[0].0 < part[1].0),
                 "{name}: {k}"
             );
             let (start, end) = (corners[0], corners[corners.len() - 1]);
-            assert_eq!((start.1, end.1), (message.from as f64, message.to as f64));
+            let short_of = (end.1 - message.to as f64).abs() * SCALE.row;
+            let gap = if message.waiting() { SCALE.gap } else { 0.0 };
+            assert!((short_of - gap).abs() < 1e-6, "{name}: {k}");
+            assert_eq!(start.1, message.from as f64);
             // Between its checkpoints, both at the send and at the receipt.
             let own = &layout.checkpoints[message.from];
             assert!(
-                own[message.sent] < start.0 && start.0 < own[message.sent + 1],
+                own[message.sent].1 < start.0 && start.0 < own[message.sent + 1].1,
                 "{name}: {k}"
             );
             let own = &layout.checkpoints[message.to];
@@ -189,30 +374,20 @@ fn arrows_go_forward_where_time_has_an_order() {
                 message.received
             };
             assert!(
-                own[before - 1] < end.0 && end.0 < own[before],
+                own[before - 1].1 < end.0 && end.0 < own[before].1,
                 "{name}: {k}"
             );
-        }
-        for own in &layout.checkpoints {
-            assert!(own.windows(2).all(|pair| pair[0] < pair[1]), "{name}");
-        }
-        // No two events of a process in one column.
-        let mut columns: Vec<Vec<f64>> = layout.checkpoints.clone();
-        for corners in &layout.arrows {
-            for end in [corners[0], corners[corners.len() - 1]] {
-                columns[end.1 as usize].push(end.0);
-            }
+            columns[message.from].push(start.0);
+            columns[message.to].push(end.0);
         }
         for own in &mut columns {
             own.sort_by(f64::total_cmp);
             assert!(own.windows(2).all(|pair| pair[0] < pair[1]), "{name}");
         }
         // As drawn, too: a shaft goes to the right in each of its parts.
-        let svg = draw(&run, None);
-        let all = elements(&svg).expect("well formed");
-        for shaft in in_class(&all, "messages").step_by(2) {
+        for arrow in Picture::read(&draw(&run, None)).arrows.values() {
             assert!(
-                points(shaft).windows(2).all(|part| part[0].0 < part[1].0),
+                arrow.shaft.windows(2).all(|part| part[0].0 < part[1].0),
                 "{name}"
             );
         }
@@ -220,35 +395,92 @@ fn arrows_go_forward_where_time_has_an_order() {
     assert!(timed > 100, "{timed}");
 }
 
+/// What the table says of time: of events, which comes right before which. The
+/// checkpoints by process come first, then the sends, then the receipts.
+struct Events {
+    /// Where the checkpoints of each process begin; and how many there are.
+    first: Vec<usize>,
+    messages: usize,
+    after: Vec<(usize, usize)>,
+}
+
+impl Events {
+    fn of(run: &Run) -> Events {
+        let mut first = vec![0];
+        for count in &run.counts {
+            first.push(first[first.len() - 1] + count);
+        }
+        let mut events = Events {
+            first,
+            messages: run.messages.len(),
+            after: Vec::new(),
+        };
+        for (p, count) in run.counts.iter().enumerate() {
+            for number in 1..*count {
+                let pair = (
+                    events.checkpoint(p, number - 1),
+                    events.checkpoint(p, number),
+                );
+                events.after.push(pair);
+            }
+        }
+        for (k, message) in run.messages.iter().enumerate() {
+            let (send, receipt) = (events.send(k), events.receipt(k));
+            let sent = events.checkpoint(message.from, message.sent);
+            events.after.push((sent, send));
+            if message.sent + 1 < run.counts[message.from] {
+                events.after.push((send, sent + 1));
+            }
+            if !message.waiting() {
+                let received = events.checkpoint(message.to, message.received);
+                events.after.push((send, receipt));
+                events.after.push((received - 1, receipt));
+                events.after.push((receipt, received));
+            }
+        }
+        events
+    }
+
+    fn checkpoint(&self, p: usize, number: usize) -> usize {
+        self.first[p] + number
+    }
+
+    fn send(&self, k: usize) -> usize {
+        self.first[self.first.len() - 1] + k
+    }
+
+    fn receipt(&self, k: usize) -> usize {
+        self.send(k) + self.messages
+    }
+
+    fn len(&self) -> usize {
+        self.send(0) + 2 * self.messages
+    }
+
+    /// All that comes after an event.
+    fn all_after(&self, event: usize) -> BTreeSet<usize> {
+        let mut found = BTreeSet::new();
+        let mut left = vec![event];
+        while let Some(event) = left.pop() {
+            for (_, next) in self.after.iter().filter(|(one, _)| *one == event) {
+                if found.insert(*next) {
+                    left.push(*next);
+                }
+            }
+        }
+        found
+    }
+}
+
 /// Whether an order of time fits, by another way: taking away events that
 /// nothing before them holds back, one after another.
 fn has_order_by_taking_away(run: &Run) -> bool {
-    // Events: checkpoints by process, then sends and receipts.
-    let mut first = vec![0];
-    for count in &run.counts {
-        first.push(first[first.len() - 1] + count);
-    }
-    let (checkpoints, m) = (first[run.counts.len()], run.messages.len());
-    let mut after: Vec<(usize, usize)> = Vec::new();
-    for (p, count) in run.counts.iter().enumerate() {
-        after.extend((1..*count).map(|number| (first[p] + number - 1, first[p] + number)));
-    }
-    for (k, message) in run.messages.iter().enumerate() {
-        let (send, receipt) = (checkpoints + k, checkpoints + m + k);
-        after.push((first[message.from] + message.sent, send));
-        if message.sent + 1 < run.counts[message.from] {
-            after.push((send, first[message.from] + message.sent + 1));
-        }
-        if !message.waiting() {
-            after.push((send, receipt));
-            after.push((first[message.to] + message.received - 1, receipt));
-            after.push((receipt, first[message.to] + message.received));
-        }
-    }
-    let mut taken = vec![false; checkpoints + 2 * m];
+    let events = Events::of(run);
+    let mut taken = vec![false; events.len()];
     while let Some(event) = (0..taken.len()).find(|event| {
         !taken[*event]
-            && after
+            && events
+                .after
                 .iter()
                 .all(|(one, other)| other != event || taken[*one])
     }) {
@@ -262,16 +494,18 @@ fn the_grid_is_for_tables_without_an_order() {
     let mut random = Random(7);
     let (mut with, mut without) = (0, 0);
     for _ in 0..600 {
-        let run = Run::read(&random.table(4, 16, 4), None).expect("accepted");
+        let run = read(&random.table(4, 16, 4));
         let order = has_order_by_taking_away(&run);
         assert_eq!(layout::has_order(&run), order);
-        let svg = draw(&run, None);
-        elements(&svg).expect("well formed");
+        // The legend speaks of an order just where the table gives one.
+        let notes = Picture::read(&draw(&run, None)).notes();
         assert_eq!(
-            svg.contains("Grid: no order of time fits this table."),
+            notes.contains("Grid: no order of time fits this table."),
             !order
         );
-        assert_eq!(svg.contains("Time runs to the right"), order);
+        assert_eq!(notes.contains("Time runs to the right"), order);
+        let between = notes.contains("from a message's sending to its receipt");
+        assert_eq!(between, order && !run.messages.is_empty());
         if order {
             with += 1
         } else {
@@ -292,44 +526,621 @@ fn the_same_each_time() {
     assert_eq!(done(&["draw", "--hold", "2"], &table), first);
 }
 
+/// The checkpoints of a picture that a line goes through, by process, with so
+/// much to the side.
+fn through(picture: &Picture, line: &[(f64, f64)]) -> Vec<(usize, usize)> {
+    let near = |at: &(f64, f64)| {
+        line.iter()
+            .any(|corner| (corner.0 - at.0).abs() <= 5.05 && (corner.1 - at.1).abs() < 0.05)
+    };
+    let dots = picture.dots.iter().filter(|(_, dot)| near(&dot.at));
+    dots.map(|(key, _)| *key).collect()
+}
+
 #[test]
 fn lines_of_example_a() {
-    let svg = String::from_utf8(done(&["draw", "--hold", "1"], &example_a())).expect("UTF-8");
-    let all = elements(&svg).expect("well formed");
-    let dots: Vec<(f64, f64)> = in_class(&all, "checkpoints")
-        .map(|dot| {
-            let number = |name| {
-                dot.attribute(name)
-                    .and_then(|text| text.parse::<f64>().ok())
-            };
-            match number("cx") {
-                Some(x) => (x, number("cy").expect("cy")),
-                None => (number("x").expect("x") + 5.0, number("y").expect("y") + 5.0),
-            }
-        })
-        .collect();
-    // Checkpoints 0 to 2 and the virtual one of process 0, then of process 1.
-    let through = |class: &str| {
-        let line = all
-            .iter()
-            .find(|element| element.attribute("class") == Some(class));
-        let corners = points(line.expect("drawn"));
-        (0..8)
-            .filter(|dot| corners.contains(&dots[*dot]))
-            .collect::<Vec<_>>()
+    let picture = |arguments: &[&str]| {
+        let arguments = [&["draw"], arguments].concat();
+        let svg = String::from_utf8(done(&arguments, &example_a())).expect("UTF-8");
+        Picture::read(&svg)
     };
-    assert_eq!(through("recovery-line"), [1, 5]);
-    assert_eq!(through("hold-line"), [3, 6]);
-    assert!(
-        svg.contains(">recovery line: 1 1<") && svg.contains(">line of process 1 holding: 3 2<")
+    let one = picture(&["--hold", "1"]);
+    assert_eq!(
+        through(&one, &one.lines("recovery-line")[0]),
+        [(0, 1), (1, 1)]
     );
-    let none = String::from_utf8(done(&["draw"], &example_a())).expect("UTF-8");
-    assert!(!none.contains("hold-line") && !none.contains("holding"));
+    let hold = one.lines("hold-line");
+    assert_eq!(
+        (hold.len(), through(&one, &hold[0])),
+        (1, vec![(0, 3), (1, 2)])
+    );
+    let legend = one.texts("legend");
+    assert!(legend.contains(&"recovery line: 1 1"));
+    assert!(legend.contains(&"line of process 1 holding: 3 2"));
+    // One line needs no labels.
+    assert!(one.texts("holders").is_empty());
+
+    let none = picture(&[]);
+    assert!(none.lines("hold-line").is_empty());
+    assert!(!none
+        .texts("legend")
+        .iter()
+        .any(|text| text.contains("holding")));
+
+    let all = picture(&["--hold", "all"]);
+    let hold = all.lines("hold-line");
+    assert_eq!(hold.len(), 2);
+    assert_eq!(through(&all, &hold[0]), [(0, 1), (1, 1)]);
+    assert_eq!(through(&all, &hold[1]), [(0, 3), (1, 2)]);
+    assert!(all
+        .texts("legend")
+        .contains(&"h0, line of process 0 holding: 1 1"));
+    assert!(all
+        .texts("legend")
+        .contains(&"h1, line of process 1 holding: 3 2"));
+    assert_eq!(all.texts("holders"), ["h0", "h0", "h1"]);
+    // The same in other words.
+    let bytes = |hold: &str| done(&["draw", "--hold", hold], &example_a());
+    assert_eq!(bytes("0,1"), bytes("all"));
+    assert_eq!(bytes("1,0,1"), bytes("all"));
+    assert_eq!(bytes("1,1"), bytes("1"));
+}
+
+#[test]
+fn titles_of_example_a() {
+    let svg = String::from_utf8(done(&["draw"], &example_a())).expect("UTF-8");
+    let titles: Vec<String> = Picture::read(&svg).titles.into_iter().collect();
+    let expected = [
+        "checkpoint 0 of process 0, not kept",
+        "checkpoint 0 of process 1, not kept",
+        "checkpoint 1 of process 0, kept: on the line of process 0 holding",
+        "checkpoint 1 of process 1, kept: on the line of process 0 holding",
+        "checkpoint 2 of process 0, not kept",
+        "checkpoint 2 of process 1, kept: on the line of process 1 holding",
+        "message 0: from process 0 after its checkpoint 0, received by process 1 before its checkpoint 2, \
+         kept: sent before and received after the line of process 0 holding",
+        "message 1: from process 1 after its checkpoint 0, received by process 0 before its checkpoint 1, not kept",
+        "message 2: from process 1 after its checkpoint 1, received by process 0 before its checkpoint 2, not kept",
+        "message 3: from process 0 after its checkpoint 2, received by process 1 before its checkpoint 2, not kept",
+        "message 4: from process 1 after its checkpoint 2, waiting for process 0, kept",
+        "virtual checkpoint of process 0, numbered 3",
+        "virtual checkpoint of process 1, numbered 3",
+    ];
+    assert_eq!(titles, expected);
+}
+
+#[test]
+fn titles_say_what_stands_there_and_why_it_is_kept() {
+    let mut kept = 0;
+    for (name, run) in runs().into_iter().chain(any_runs(11, 80)) {
+        let titles = Picture::read(&draw(&run, None)).titles;
+        let count = checkpoints(&run) + run.counts.len() + run.messages.len();
+        assert_eq!(titles.len(), count, "{name}");
+        for title in titles {
+            let what = title.split(", kept: ").next().expect("one");
+            let numbers = numbers_in(what);
+            let why = title.split_once(", kept: ").map(|(_, why)| why);
+            let holders: Vec<usize> = match why {
+                Some(why) => {
+                    let list = why.rsplit_once("process").expect("named").1;
+                    let parts = list
+                        .split(',')
+                        .filter(|part| part.contains(|c: char| c.is_ascii_digit()));
+                    parts
+                        .flat_map(|part| match numbers_in(part)[..] {
+                            [one] => one..=one,
+                            [first, last] => first..=last,
+                            _ => panic!("{title}"),
+                        })
+                        .collect()
+                }
+                None => Vec::new(),
+            };
+            let expected = |crosses: &dyn Fn(&[usize]) -> bool| {
+                let all = 0..run.counts.len();
+                all.filter(|holder| crosses(&run.hold_lines[*holder]))
+                    .collect::<Vec<_>>()
+            };
+            if what.starts_with("checkpoint") {
+                let (number, p) = (numbers[0], numbers[1]);
+                assert_eq!(why.is_some(), run.kept[p][number], "{name}: {title}");
+                assert_eq!(
+                    title.ends_with("not kept"),
+                    !run.kept[p][number],
+                    "{name}: {title}"
+                );
+                assert_eq!(
+                    holders,
+                    expected(&|line| line[p] == number),
+                    "{name}: {title}"
+                );
+                kept += holders.len();
+            } else if what.starts_with("message") {
+                let message = &run.messages[numbers[0]];
+                assert_eq!(
+                    (message.from, message.sent),
+                    (numbers[1], numbers[2]),
+                    "{name}: {title}"
+                );
+                assert_eq!(message.to, numbers[3], "{name}: {title}");
+                assert_eq!(
+                    message.waiting(),
+                    title.contains("waiting for"),
+                    "{name}: {title}"
+                );
+                assert_eq!(
+                    message.kept,
+                    !title.ends_with("not kept"),
+                    "{name}: {title}"
+                );
+                if !message.waiting() {
+                    assert_eq!(message.received, numbers[4], "{name}: {title}");
+                    let crosses = |line: &[usize]| {
+                        message.sent < line[message.from] && message.received > line[message.to]
+                    };
+                    assert_eq!(holders, expected(&crosses), "{name}: {title}");
+                }
+            }
+        }
+    }
+    assert!(kept > 1_000, "{kept}");
+}
+
+#[test]
+fn every_hold_line_has_its_checkpoints() {
+    let mut many = 0;
+    for case in corpus() {
+        if refused(&case.listing).is_some() {
+            continue;
+        }
+        let run = Run::read(&case.table, &Holders::All).expect("accepted");
+        if checkpoints(&run) > 2_000 {
+            continue;
+        }
+        let n = run.counts.len();
+        let picture = Picture::read(&draw(&run, None));
+        picture.assert_inside(&case.name);
+        let lines = picture.lines("hold-line");
+        assert_eq!(lines.len(), n, "{}", case.name);
+        for (holder, line) in lines.iter().enumerate() {
+            let on_line = through(&picture, line);
+            for (p, number) in run.hold_lines[holder].iter().enumerate() {
+                assert!(on_line.contains(&(p, *number)), "{}: {holder}", case.name);
+            }
+        }
+        // A label beside each kept checkpoint, where there are several lines.
+        let kept = run.kept.iter().flatten().filter(|kept| **kept).count();
+        let labels = picture.texts("holders");
+        assert_eq!(labels.len(), if n > 1 { kept } else { 0 }, "{}", case.name);
+        assert!(
+            labels.iter().all(|label| label.starts_with('h')),
+            "{}",
+            case.name
+        );
+        // A few lines have an entry each; many do not fill the legend.
+        let legend = picture.texts("legend");
+        let entries = legend.iter().filter(|text| text.starts_with('h')).count();
+        assert!(entries <= 7, "{}", case.name);
+        many += usize::from(n == 32);
+    }
+    assert!(many > 3, "{many}");
+    // Told apart without colours, too.
+    let run = Run::read(&Random(5).history(6, 60), &Holders::All).expect("accepted");
+    let svg = draw(&run, None);
+    let all = elements(&svg).expect("well formed");
+    let lines = || all.iter().filter(|one| one.is("hold-line"));
+    for attribute in ["stroke", "stroke-dasharray"] {
+        let different: BTreeSet<_> = lines().map(|line| line.attribute(attribute)).collect();
+        assert_eq!(different.len(), 6, "{attribute}");
+    }
+}
+
+/// Choices for a run of n processes.
+fn choices(n: usize) -> Vec<Choice> {
+    let some: Vec<usize> = (0..n).rev().step_by(2).collect();
+    let mut choices = Vec::new();
+    for processes in [None, Some(some), Some(vec![n / 2])] {
+        for last in [None, Some(1), Some(2), Some(5), Some(4096)] {
+            for kept_only in [false, true] {
+                choices.push(Choice {
+                    processes: processes.clone(),
+                    last,
+                    kept_only,
+                });
+            }
+        }
+    }
+    choices
+}
+
+/// How a count of kept things stands in the note.
+fn counted(all: usize, kept: usize, what: &str) -> Option<String> {
+    let kept = match kept {
+        0 => "none".to_string(),
+        some => some.to_string(),
+    };
+    let plural = if all == 1 { "" } else { "s" };
+    (all > 0).then(|| format!("{all} {what}{plural} ({kept} kept)"))
+}
+
+#[test]
+fn a_choice_leaves_what_it_says() {
+    let (mut whole, mut cut_at_tail, mut cut_at_tip) = (0, 0, 0);
+    let small = runs()
+        .into_iter()
+        .filter(|(_, run)| checkpoints(run) <= 200);
+    for (name, run) in small.chain(histories(100..130, 9)).chain(any_runs(2, 40)) {
+        let n = run.counts.len();
+        for choice in choices(n) {
+            let name = format!("{name} {choice:?}");
+            let svg = draw::draw(&run, &choice, None).expect("not too large");
+            let picture = Picture::read(&svg);
+            picture.assert_inside(&name);
+            let rows = choice.processes.clone().unwrap_or((0..n).collect());
+            let first = |p: usize| run.counts[p].saturating_sub(choice.last.unwrap_or(4096));
+            let wants = |kept: bool| kept || !choice.kept_only;
+
+            // The lifelines, from the top.
+            let names: Vec<String> = rows.iter().map(|p| format!("process {p}")).collect();
+            assert_eq!(picture.texts("processes")[..rows.len()], names, "{name}");
+            let heights: Vec<f64> = rows
+                .iter()
+                .map(|p| picture.dots[&(*p, run.counts[*p])].at.1)
+                .collect();
+            assert!(heights.windows(2).all(|pair| pair[0] < pair[1]), "{name}");
+
+            // The checkpoints.
+            let mut dots: Vec<(usize, usize)> = Vec::new();
+            for p in &rows {
+                let own = (first(*p)..=run.counts[*p])
+                    .filter(|number| wants(run.kept[*p].get(*number) != Some(&false)));
+                dots.extend(own.map(|number| (*p, number)));
+            }
+            dots.sort_unstable();
+            assert!(picture.dots.keys().eq(&dots), "{name}");
+
+            // The messages, whole or cut.
+            let mut left_out = Vec::new();
+            for (k, message) in run.messages.iter().enumerate() {
+                let ends_before = match message.waiting() {
+                    true => run.counts[message.to],
+                    false => message.received,
+                };
+                let sent = rows.contains(&message.from) && message.sent >= first(message.from);
+                let ended = rows.contains(&message.to) && ends_before > first(message.to);
+                let arrow = picture.arrows.get(&k);
+                if !wants(message.kept) || !(sent || ended) {
+                    assert!(arrow.is_none(), "{name}: {k}");
+                    left_out.push(message.kept);
+                    continue;
+                }
+                let arrow = arrow.unwrap_or_else(|| panic!("{name}: {k} is not drawn"));
+                let near = |one: (f64, f64), other: (f64, f64)| {
+                    (one.0 - other.0).hypot(one.1 - other.1) < 5.0
+                };
+                match (sent, ended, arrow.ring) {
+                    (true, true, None) => whole += 1,
+                    (false, true, Some(ring)) if near(ring, arrow.shaft[0]) => cut_at_tail += 1,
+                    (true, false, Some(ring)) if near(ring, arrow.tip) => cut_at_tip += 1,
+                    _ => panic!("{name}: {k} is cut elsewhere"),
+                }
+                // The end that is drawn is on its lifeline.
+                let height = |p: usize| picture.dots[&(p, run.counts[p])].at.1;
+                if sent {
+                    assert!(
+                        (arrow.shaft[0].1 - height(message.from)).abs() < 0.11,
+                        "{name}: {k}"
+                    );
+                }
+                if ended {
+                    let gap = if message.waiting() { 12.0 } else { 0.0 };
+                    let short_of = (arrow.tip.1 - height(message.to)).abs();
+                    assert!((short_of - gap).abs() < 0.11, "{name}: {k}");
+                }
+            }
+
+            // What is left out is counted.
+            let drawn: BTreeSet<(usize, usize)> = dots.into_iter().collect();
+            let all = (0..n).flat_map(|p| (0..run.counts[p]).map(move |number| (p, number)));
+            let missing: Vec<(usize, usize)> = all.filter(|key| !drawn.contains(key)).collect();
+            let kept = missing.iter().filter(|(p, number)| run.kept[*p][*number]);
+            let kept_messages = left_out.iter().filter(|kept| **kept).count();
+            let parts: Vec<String> = [
+                counted(missing.len(), kept.count(), "checkpoint"),
+                counted(left_out.len(), kept_messages, "message"),
+            ]
+            .into_iter()
+            .flatten()
+            .collect();
+            let notes = picture.notes();
+            match parts.is_empty() {
+                true => assert!(!notes.contains("Left out"), "{name}: {notes}"),
+                false => {
+                    let said = format!("Left out: {}.", parts.join(" and "));
+                    assert!(notes.ends_with(&said), "{name}: {notes}");
+                }
+            }
+
+            // The lines are there: at their checkpoints, or left of those drawn.
+            let line = &picture.lines("recovery-line")[0];
+            let on_line = through(&picture, line);
+            for p in &rows {
+                let number = run.recovery_line[*p];
+                if number >= first(*p) {
+                    assert!(on_line.contains(&(*p, number)), "{name}: {p}");
+                    continue;
+                }
+                let left = picture.dots.iter().filter(|(key, _)| key.0 == *p);
+                let left = left.map(|(_, dot)| dot.at.0).fold(f64::MAX, f64::min);
+                let y = picture.dots[&(*p, run.counts[*p])].at.1;
+                let before = line
+                    .iter()
+                    .any(|at| (at.1 - y).abs() < 0.05 && at.0 < left - 10.0);
+                assert!(before, "{name}: {p}");
+                // With the numbers that it and the others have there.
+                let mut numbers: Vec<usize> = run.lines().map(|line| line[*p]).collect();
+                numbers.retain(|number| *number < first(*p));
+                numbers.sort_unstable();
+                numbers.dedup();
+                let plural = if numbers.len() == 1 { "" } else { "s" };
+                let numbers: Vec<String> = numbers.iter().map(usize::to_string).collect();
+                let title = format!(
+                    "left out: checkpoint{plural} {} of process {p}",
+                    numbers.join(", ")
+                );
+                let mut titles = in_class(&picture.all, "before");
+                assert!(titles.any(|one| one.text == title), "{name}: {title}");
+                assert!(picture.texts("before").iter().any(|text| {
+                    let ends = (text.split("..").next(), text.split("..").last());
+                    ends == (
+                        numbers.first().map(String::as_str),
+                        numbers.last().map(String::as_str),
+                    )
+                }));
+            }
+        }
+    }
+    assert!(
+        whole > 5_000 && cut_at_tail > 1_000 && cut_at_tip > 1_000,
+        "{whole} {cut_at_tail} {cut_at_tip}"
+    );
+}
+
+#[test]
+fn a_choice_of_all_is_the_whole_picture() {
+    let mut random = Random(17);
+    for table in [example_a(), random.history(7, 90), random.table(6, 40, 9)] {
+        let whole = done(&["draw"], &table);
+        let n = usize::from(table[0]);
+        let most = read(&table)
+            .counts
+            .into_iter()
+            .max()
+            .expect("one")
+            .to_string();
+        assert_eq!(done(&["draw", "--last", &most], &table), whole);
+        assert_eq!(done(&["draw", "--last", "65535"], &table), whole);
+        let all: Vec<String> = (0..n).map(|p| p.to_string()).collect();
+        assert_eq!(
+            done(&["draw", "--processes", &all.join(",")], &table),
+            whole
+        );
+    }
+    // One less than all is not all.
+    assert_ne!(
+        done(&["draw", "--last", "2"], &example_a()),
+        done(&["draw"], &example_a())
+    );
+}
+
+/// The columns of all events that are drawn.
+fn columns(run: &Run, view: &View, layout: &Layout, events: &Events) -> BTreeMap<usize, f64> {
+    let mut columns = BTreeMap::new();
+    for (row, p) in view.rows.iter().enumerate() {
+        for (number, column) in &layout.checkpoints[row] {
+            if *number < run.counts[*p] {
+                columns.insert(events.checkpoint(*p, *number), *column);
+            }
+        }
+    }
+    for (k, arrow) in layout.arrows.iter().enumerate() {
+        let (send, end) = match arrow {
+            Arrow::None => (None, None),
+            Arrow::Whole(corners) => (corners.first(), corners.last()),
+            Arrow::Send(place) => (Some(place), None),
+            Arrow::End(place) => (None, Some(place)),
+        };
+        if let Some((column, _)) = send {
+            columns.insert(events.send(k), *column);
+        }
+        if let Some((column, _)) = end.filter(|_| !run.messages[k].waiting()) {
+            columns.insert(events.receipt(k), *column);
+        }
+    }
+    columns
+}
+
+#[test]
+fn a_choice_keeps_the_order_of_the_whole_run() {
+    let mut pairs = 0;
+    for (name, run) in histories(200..240, 8) {
+        let events = Events::of(&run);
+        let after: Vec<BTreeSet<usize>> = (0..events.len())
+            .map(|event| events.all_after(event))
+            .collect();
+        for choice in choices(run.counts.len()) {
+            let view = View::of(&run, &choice).expect("a choice that it has");
+            let layout = layout::timed(&view, &SCALE);
+            let columns = columns(&run, &view, &layout, &events);
+            for (event, column) in &columns {
+                for later in after[*event].iter().filter_map(|later| columns.get(later)) {
+                    assert!(column < later, "{name} {choice:?}");
+                    pairs += 1;
+                }
+                assert!(*column < layout.last, "{name} {choice:?}");
+            }
+        }
+    }
+    assert!(pairs > 100_000, "{pairs}");
+}
+
+#[test]
+fn a_waiting_arrow_ends_right_of_its_receivers_last_checkpoint() {
+    let mut seen = 0;
+    let all = runs().into_iter().chain(histories(300..340, 32));
+    for (name, run) in all.chain(any_runs(4, 200)) {
+        let n = run.counts.len();
+        for choice in [
+            Choice::default(),
+            choices(n)[2].clone(),
+            choices(n)[12].clone(),
+        ] {
+            let svg = draw::draw(&run, &choice, None).expect("not too large");
+            let picture = Picture::read(&svg);
+            for (k, arrow) in &picture.arrows {
+                let message = &run.messages[*k];
+                let last = (message.to, run.counts[message.to] - 1);
+                let (true, Some(last)) = (message.waiting(), picture.dots.get(&last)) else {
+                    continue;
+                };
+                let end = &picture.dots[&(message.to, run.counts[message.to])];
+                assert!(arrow.tip.0 > last.at.0, "{name} {choice:?}: {k}");
+                assert!(arrow.tip.0 < end.at.0, "{name} {choice:?}: {k}");
+                seen += 1;
+            }
+        }
+    }
+    assert!(seen > 2_000, "{seen}");
+}
+
+#[test]
+fn a_picture_is_no_wider_than_renderers_draw() {
+    let process = |count: u16| bytes(&[1, 0, count]);
+    let width = |arguments: &[&str], table: &[u8]| {
+        let svg = String::from_utf8(done(arguments, table)).expect("UTF-8");
+        elements(&svg).expect("well formed")[0].number("width")
+    };
+    // One more checkpoint is 14 px more.
+    assert_eq!(width(&["draw"], &process(2325)), 32_758.0);
+    let message = |words: &str| {
+        format!(
+            "the picture would be {words}, --processes or --kept-only (see `keeper draw --help`)"
+        )
+    };
+    let too_wide = "32772 by 150 px, and many renderers stop at 32767: draw less, with --last 2322";
+    fails(&["draw"], &process(2326), 2, &message(too_wide));
+    let named = width(&["draw", "--last", "2322"], &process(4096));
+    assert!(named <= 32_767.0, "{named}");
+    let too_wide = "32778 by 188 px, and many renderers stop at 32767: draw less, with --last 2322";
+    fails(
+        &["draw", "--last", "2323"],
+        &process(4096),
+        2,
+        &message(too_wide),
+    );
+    // Nothing of that is in a file.
+    let file = std::env::temp_dir().join(format!("keeper-wide-{}", std::process::id()));
+    let name = file.to_str().expect("UTF-8");
+    let ran = common::keeper(&["draw", "-o", name], &process(4096));
+    assert_eq!((ran.status, file.exists()), (2, false));
+
+    // The last checkpoint alone may be too much: all that waits is after it.
+    let mut table = vec![2, 4096, 1, 1];
+    table.extend([0, 0].repeat(4096));
+    table.extend([1, 0].repeat(4096));
+    let run = read(&bytes(&table));
+    let Err(Undrawn::TooLarge { width, last, .. }) = draw::draw(&run, &Choice::default(), None)
+    else {
+        panic!("drawn");
+    };
+    assert!(width > draw::MOST_PIXELS);
+    assert_eq!(last, None);
+
+    // And no higher.
+    let run = read(&example_a());
+    for (lines, is_drawn) in [(1_300, true), (1_400, false)] {
+        let title = "words ".repeat(10 * lines);
+        match draw::draw(&run, &Choice::default(), Some(&title)) {
+            Ok(svg) => assert!(is_drawn && Picture::read(&svg).height <= 32_767.0),
+            Err(Undrawn::TooLarge { height, last, .. }) => {
+                assert!(!is_drawn && height > draw::MOST_PIXELS);
+                assert_eq!(last, None);
+            }
+            Err(other) => panic!("{other}"),
+        }
+    }
+}
+
+#[test]
+fn choices_that_a_run_has_not() {
+    let run = read(&example_a());
+    let undrawn = |choice: Choice| match draw::draw(&run, &choice, None) {
+        Err(Undrawn::Choice(bad)) => bad,
+        other => panic!("{other:?}"),
+    };
+    let processes = |processes: &[usize]| Choice {
+        processes: Some(processes.to_vec()),
+        ..Choice::default()
+    };
+    assert_eq!(undrawn(processes(&[])), BadChoice::NoProcesses);
+    assert_eq!(undrawn(processes(&[1, 0, 1])), BadChoice::ProcessTwice(1));
+    let bad = BadChoice::NoProcess {
+        process: 2,
+        processes: 2,
+    };
+    assert_eq!(undrawn(processes(&[0, 2])), bad);
+    let none = Choice {
+        last: Some(0),
+        ..Choice::default()
+    };
+    assert_eq!(undrawn(none), BadChoice::NoCheckpoints);
+
+    let wrong = |arguments: &[&str], message: &str| {
+        let arguments = [&["draw"], arguments].concat();
+        let message = format!("{message} (see `keeper draw --help`)");
+        fails(&arguments, &example_a(), 2, &message);
+    };
+    wrong(&["--last", "0"], "--last needs a number above 0");
+    wrong(&["--last"], "--last needs NUMBER");
+    wrong(&["--last", "-1"], "`-1` is not a number from 0 to 65535");
+    wrong(
+        &["--last", "65536"],
+        "`65536` is not a number from 0 to 65535",
+    );
+    wrong(&["--last", "1", "--last", "2"], "--last stands twice");
+    wrong(&["--processes"], "--processes needs LIST");
+    wrong(&["--processes", ""], "`` is not a number from 0 to 65535");
+    wrong(&["--processes", "0,"], "`` is not a number from 0 to 65535");
+    wrong(
+        &["--processes", "0;1"],
+        "`0;1` is not a number from 0 to 65535",
+    );
+    wrong(&["--processes", "2"], "there is no process 2 (N is 2)");
+    wrong(&["--processes", "0,1,0"], "process 0 is to be drawn twice");
+    wrong(
+        &["--processes", "0", "--processes", "1"],
+        "--processes stands twice",
+    );
+    wrong(&["--kept-only=yes"], "--kept-only takes no value");
+    wrong(
+        &["--hold", "every"],
+        "`every` is neither a number nor `all`",
+    );
+    wrong(&["--hold", ""], "`` is neither a number nor `all`");
+    wrong(
+        &["--hold", "0,all"],
+        "`all` is not a number from 0 to 65535",
+    );
+    wrong(
+        &["--hold", "0,32"],
+        "`32`: a process that holds is numbered 0 to 31",
+    );
+    wrong(&["--hold", "all", "--hold", "1"], "--hold stands twice");
 }
 
 #[test]
 fn titles() {
-    let run = Run::read(&example_a(), None).expect("accepted");
+    let run = read(&example_a());
     let texts = |title: &str| {
         let svg = draw(&run, Some(title));
         let all = elements(&svg).expect("well formed");
@@ -367,13 +1178,13 @@ fn draw_as_a_subcommand() {
         &["draw", "--hold"],
         &a,
         2,
-        "--hold needs PROCESS (see `keeper draw --help`)",
+        "--hold needs LIST (see `keeper draw --help`)",
     );
     fails(
         &["draw", "--hold", "x"],
         &a,
         2,
-        "`x` is not a number from 0 to 65535 (see `keeper draw --help`)",
+        "`x` is neither a number nor `all` (see `keeper draw --help`)",
     );
     fails(
         &["draw", "--hold", "0", "--hold", "1"],
@@ -407,7 +1218,7 @@ fn draw_as_a_subcommand() {
     // The largest run is drawn, too.
     let largest = common::corpus_folder().join("largest_history.table");
     done(&["draw", largest.to_str().expect("UTF-8")], b"");
-    done(&["draw"], &bytes(&[1, 0, 4096]));
+    done(&["draw", "--last", "2000"], &bytes(&[1, 0, 4096]));
 }
 
 #[test]

@@ -45,6 +45,13 @@ impl Box2 {
         }
     }
 
+    fn is_within(&self, other: &Box2) -> bool {
+        other.left <= self.left
+            && self.right <= other.right
+            && other.top <= self.top
+            && self.bottom <= other.bottom
+    }
+
     fn meets(&self, other: &Box2) -> bool {
         self.left < other.right
             && other.left < self.right
@@ -74,8 +81,9 @@ impl Box2 {
 }
 
 /// What is drawn already, by squares of the drawing, for finding free places.
-#[derive(Default)]
 pub struct Space {
+    /// Beyond it no place is free.
+    bounds: Box2,
     lines: BTreeMap<(i64, i64), Vec<(Point, Point)>>,
     boxes: BTreeMap<(i64, i64), Vec<Box2>>,
 }
@@ -89,6 +97,19 @@ fn squares(own: &Box2) -> impl Iterator<Item = (i64, i64)> {
 }
 
 impl Space {
+    pub fn new(width: f64, height: f64) -> Space {
+        Space {
+            bounds: Box2 {
+                left: 0.0,
+                top: 0.0,
+                right: width,
+                bottom: height,
+            },
+            lines: BTreeMap::new(),
+            boxes: BTreeMap::new(),
+        }
+    }
+
     pub fn add_line(&mut self, from: Point, to: Point) {
         // Square by square across, so that a long line takes few squares.
         let (from, to) = if from.x <= to.x {
@@ -135,10 +156,11 @@ impl Space {
     }
 
     fn is_free_of_boxes(&self, own: &Box2) -> bool {
-        squares(own).all(|square| {
+        let free = squares(own).all(|square| {
             let boxes = self.boxes.get(&square).map_or(&[][..], Vec::as_slice);
             !boxes.iter().any(|other| own.meets(other))
-        })
+        });
+        free && own.is_within(&self.bounds)
     }
 }
 

@@ -4,6 +4,8 @@
 pub struct Element {
     pub name: String,
     pub attributes: Vec<(String, String)>,
+    /// The place, among all, of the element that it stands in.
+    pub parent: Option<usize>,
     /// The words of the `class` attributes of the elements around it.
     pub within: Vec<String>,
     /// The text before its first child, as written.
@@ -14,6 +16,19 @@ impl Element {
     pub fn attribute(&self, name: &str) -> Option<&str> {
         let found = self.attributes.iter().find(|(own, _)| own == name);
         found.map(|(_, value)| value.as_str())
+    }
+
+    pub fn is(&self, class: &str) -> bool {
+        self.attribute("class") == Some(class)
+    }
+
+    pub fn is_within(&self, class: &str) -> bool {
+        self.within.iter().any(|within| within == class)
+    }
+
+    pub fn number(&self, name: &str) -> f64 {
+        let text = self.attribute(name).expect(name);
+        text.parse().expect("a number")
     }
 }
 
@@ -69,6 +84,7 @@ pub fn elements(text: &str) -> Result<Vec<Element>, String> {
             all.push(Element {
                 name,
                 attributes,
+                parent: open.last().copied(),
                 within,
                 text: String::new(),
             });
