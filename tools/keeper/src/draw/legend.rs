@@ -171,7 +171,7 @@ fn entries(view: &View, layout: &Layout) -> Vec<(Sample, String)> {
             }
         }
         _ => {
-            let words = "lines of single processes holding; h3 beside a checkpoint: that of process 3 has it";
+            let words = "lines of single holders; h3: the line of process 3 holding";
             entries.push((Sample::Line(hold_paint(0, holders)), words.to_string()));
         }
     }

@@ -235,7 +235,7 @@ pub fn wrap(text: &str, size: f64, width: f64) -> Vec<String> {
 
 /// The room that a text takes with its centre there.
 fn room(text: &str, size: f64, centre: Point) -> Box2 {
-    let half = width_of(text, size) / 2.0 + 1.0;
+    let half = width_of(text, size) / 2.0 + 2.0;
     Box2 {
         left: centre.x - half,
         right: centre.x + half,
