@@ -324,11 +324,9 @@ impl<'a> Timer<'a> {
         let mut moved = false;
         loop {
             let before = self.undrawn[p].len();
-            let (sends, view, column) = (&self.sends, self.view, self.column);
-            self.undrawn[p].retain(|k| match sends[*k] {
-                Some(sent) => sent + usize::from(view.has_send(*k)) > column,
-                None => true,
-            });
+            let (sends, view) = (&self.sends, self.view);
+            // What has been sent was sent before this column.
+            self.undrawn[p].retain(|k| sends[*k].is_none());
             moved |= self.undrawn[p].len() < before;
             let goes_on = self.is_through(p)
                 && self.next[p] < view.run.counts[p]
