@@ -350,7 +350,7 @@ mod tests {
 
     static FLAG: Opt = option(&["--flag", "-f"], Takes::Nothing);
     static NUMBERS: Opt = option(&["--numbers", "-n"], Takes::Numbers);
-    static EITHER: Opt = option(&["--either"], Takes::NumberOr(&["all", "none"]));
+    static EITHER: Opt = option(&["--either"], Takes::NumbersOr(&["all", "none"]));
     static ROW: Subcommand = Subcommand {
         name: "row",
         arguments: &[
@@ -387,14 +387,18 @@ mod tests {
         assert_eq!(one.word("FIRST"), Some("one"));
         assert_eq!(one.numbers("--numbers"), [1, 2, 3]);
         assert_eq!(
-            (one.word("--either"), one.number("--either")),
-            (Some("all"), None)
+            (one.word("--either"), one.numbers("--either")),
+            (Some("all"), &[][..])
         );
         assert!(one.has("--flag") && one.file.is_none() && one.numbers("REST").is_empty());
         let two = given(&["--either=7", "two", "4", "5", "--numbers", "65535", "six"]);
         assert_eq!(
-            (two.word("--either"), two.number("--either")),
-            (None, Some(7))
+            (two.word("--either"), two.numbers("--either")),
+            (None, &[7][..])
+        );
+        assert_eq!(
+            given(&["one", "--either", "7,8"]).numbers("--either"),
+            [7, 8]
         );
         assert_eq!(two.numbers("--numbers"), [65535]);
         assert_eq!(two.numbers("REST"), [4, 5]);
@@ -419,6 +423,10 @@ mod tests {
             ),
             (&["one", "-n"], "-n needs VALUE"),
             (&["one", "-n1", "--numbers=2"], "--numbers stands twice"),
+            (
+                &["one", "--either=7,all"],
+                "`all` is not a number from 0 to 65535",
+            ),
             (
                 &["one", "--either=some"],
                 "`some` is neither a number nor `all` or `none`",

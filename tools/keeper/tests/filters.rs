@@ -557,7 +557,7 @@ fn options_and_their_values() {
         ),
         (
             &["draw", "--hold="],
-            "`` is not a number from 0 to 65535 (see `keeper draw --help`)",
+            "`` is neither a number nor `all` (see `keeper draw --help`)",
         ),
         (
             &["draw", "--hold=1", "--hold=1"],
