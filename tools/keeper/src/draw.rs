@@ -49,9 +49,8 @@ fn scale(view: &View, timed: bool) -> Scale {
         true => column,
         // All between two checkpoints stands in one column here.
         false => {
-            let counts = view.rows.iter().map(|p| view.checkpoints(*p).count());
-            let last = counts.max().map_or(1.0, |count| count as f64);
-            column.max((14.0 * (most.interval + 1) as f64).min(4_000.0 / last))
+            let columns = layout::numbers(view).len() as f64;
+            column.max((14.0 * (most.interval + 1) as f64).min(4_000.0 / columns))
         }
     };
     let row = match view.rows.len() {

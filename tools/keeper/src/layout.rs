@@ -468,12 +468,17 @@ pub fn timed(view: &View, scale: &Scale) -> Layout {
     }
 }
 
+/// The numbers of all checkpoints drawn, rising.
+pub fn numbers(view: &View) -> Vec<usize> {
+    let drawn = view.rows.iter().flat_map(|p| view.checkpoints(*p));
+    drawn.collect::<BTreeSet<usize>>().into_iter().collect()
+}
+
 /// The layout by checkpoint number. The numbers of all checkpoints drawn stand
 /// in a row, and a checkpoint's column is the place of its number there.
 pub fn by_number(view: &View, scale: &Scale) -> Layout {
     let run = view.run;
-    let drawn = view.rows.iter().flat_map(|p| view.checkpoints(*p));
-    let numbers: Vec<usize> = drawn.collect::<BTreeSet<usize>>().into_iter().collect();
+    let numbers = numbers(view);
     // A column more where an event lies before the first of them.
     let intervals = intervals(run);
     let is_before = |p: usize| {

@@ -1072,6 +1072,40 @@ fn a_picture_is_no_wider_than_renderers_draw() {
 }
 
 #[test]
+fn the_grid_has_a_column_for_each_number_drawn() {
+    let mut random = Random(21);
+    let mut seen = 0;
+    for _ in 0..20 {
+        let run = read(&random.table(32, 400, 300));
+        if layout::has_order(&run) {
+            continue;
+        }
+        for choice in choices(run.counts.len()) {
+            let svg = draw::draw(&run, &choice, None).expect("not too large");
+            let picture = Picture::read(&svg);
+            let mut columns: BTreeMap<usize, f64> = BTreeMap::new();
+            for ((_, number), dot) in &picture.dots {
+                assert_eq!(*columns.entry(*number).or_insert(dot.at.0), dot.at.0);
+            }
+            let places: Vec<f64> = columns.values().copied().collect();
+            assert!(
+                places.windows(2).all(|pair| pair[0] < pair[1]),
+                "{choice:?}"
+            );
+            // No column is wider than what stands in it needs.
+            let most = f64::max(4_000.0, 40.0 * columns.len() as f64);
+            assert!(
+                picture.width <= 200.0 + most,
+                "{choice:?}: {}",
+                picture.width
+            );
+            seen += 1;
+        }
+    }
+    assert!(seen > 300, "{seen}");
+}
+
+#[test]
 fn choices_that_a_run_has_not() {
     let run = read(&example_a());
     let undrawn = |choice: Choice| match draw::draw(&run, &choice, None) {
