@@ -529,9 +529,17 @@ impl<'a> Picture<'a> {
                 "<g class=\"processes\" font-size=\"13\" text-anchor=\"{anchor}\">"
             );
             for (row, p) in self.rows() {
-                let y = short(self.point((0.0, row as f64)).y + 4.5);
-                let x = short(x);
-                let _ = writeln!(self.svg, "<text x=\"{x}\" y=\"{y}\">process {p}</text>");
+                let (name, y) = (format!("process {p}"), self.point((0.0, row as f64)).y);
+                let width = width_of(&name, 13.0);
+                let left = if anchor == "end" { x - width } else { x };
+                self.space.add_box(Box2 {
+                    left,
+                    right: left + width,
+                    top: y - 6.0,
+                    bottom: y + 7.0,
+                });
+                let (x, y) = (short(x), short(y + 4.5));
+                let _ = writeln!(self.svg, "<text x=\"{x}\" y=\"{y}\">{name}</text>");
             }
             let _ = writeln!(self.svg, "</g>");
         }
