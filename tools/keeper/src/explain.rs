@@ -184,6 +184,7 @@ fn in_list(table: &[u8], process: u16, list: &[u16]) -> Option<String> {
         if k >= m {
             return Some(match m {
                 0 => format!("message {k}: there are none (M is 0)"),
+                1 => format!("message {k}: there is only one (M is 1)"),
                 _ => format!("message {k}: there are only {m} (M is {m})"),
             });
         }

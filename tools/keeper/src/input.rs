@@ -62,7 +62,11 @@ impl Input {
             Failure::trouble(match text::looks_like_table(&bytes) {
                 false => format!("{place}: {error}"),
                 true if arguments.text_in() => {
-                    format!("{name}: this is a table, and no text: read it without --text")
+                    let instead = match arguments.text_out() {
+                        true => ", or with --text-out to have a text written",
+                        false => "",
+                    };
+                    format!("{name}: this is a table, and no text: read it without --text{instead}")
                 }
                 true => format!("{name}: this is a table, and no text"),
             })

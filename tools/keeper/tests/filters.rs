@@ -176,6 +176,9 @@ fn saves() {
     let empty = bytes(&[2, 0, 1, 1]);
     let message = "refused 13: message 0: there are none (M is 0)";
     fails(&["save", "0", "0"], &empty, 1, message);
+    let one = bytes(&[2, 1, 1, 1, 1, 0, 0, 0]);
+    let message = "refused 13: message 1: there is only one (M is 1)";
+    fails(&["save", "0", "0", "1"], &one, 1, message);
     let message = "refused 14: process 0 has 4096 checkpoints, and takes no more";
     fails(&["save", "0"], &bytes(&[1, 0, 4096]), 1, message);
 }
@@ -322,6 +325,9 @@ fn texts_and_tables_are_told_apart() {
         for option in ["--text", "--text-in"] {
             fails(&["list", option], table, 2, message);
         }
+        let message = "(standard input): this is a table, and no text: read it without --text, \
+                       or with --text-out to have a text written";
+        fails(&["sheet", "--text"], table, 2, message);
         let message = "(standard input): this is a table, and no text";
         fails(&["encode"], table, 2, message);
     }

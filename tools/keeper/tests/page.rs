@@ -7,7 +7,8 @@
 //! ```
 
 use std::fs;
-use std::path::PathBuf;
+use std::os::unix::fs::symlink;
+use std::path::{Path, PathBuf};
 use std::process::Command;
 
 use keeper_command::page;
@@ -100,13 +101,11 @@ fn section() -> String {
         .to_string()
 }
 
-/// What the manual shows behind `$` is what happens.
-#[test]
-fn sessions_of_the_manual() {
-    let section = section();
+/// The commands that a text shows behind `$`, each with what it prints.
+fn sessions(text: &str) -> Vec<(&str, String)> {
     let mut sessions: Vec<(&str, String)> = Vec::new();
     let mut inside = false;
-    for line in section.lines() {
+    for line in text.lines() {
         match line.strip_prefix("    ") {
             Some(shown) if shown.starts_with("$ keeper ") => {
                 sessions.push((&shown[2..], String::new()));
@@ -120,20 +119,49 @@ fn sessions_of_the_manual() {
             _ => inside = false,
         }
     }
-    assert!(sessions.len() >= 3, "{sessions:?}");
+    sessions
+}
+
+/// Runs them one after another in a folder of their own that has the corpus, as a
+/// shell does where the command is on the path.
+fn happens(sessions: &[(&str, String)], name: &str) {
+    let folder = PathBuf::from(env!("CARGO_TARGET_TMPDIR")).join(name);
+    let _ = fs::remove_dir_all(&folder);
+    fs::create_dir_all(&folder).expect("a folder");
+    let tests = fs::canonicalize(file("tests")).expect("tests/");
+    symlink(tests, folder.join("tests")).expect("a link");
+    let own = Path::new(env!("CARGO_BIN_EXE_keeper")).parent();
+    let mut path = own.expect("its folder").as_os_str().to_os_string();
+    path.push(":");
+    path.push(std::env::var_os("PATH").unwrap_or_default());
     for (command, expected) in sessions {
-        let output = Command::new(env!("CARGO_BIN_EXE_keeper"))
-            .args(command.split(' ').skip(1))
-            .current_dir(file("."))
+        let output = Command::new("sh")
+            .args(["-c", command])
+            .env("PATH", &path)
+            .current_dir(&folder)
             .output()
-            .expect("the command starts");
+            .expect("a shell starts");
+        let printed = String::from_utf8_lossy(&output.stdout);
         assert_eq!(
-            String::from_utf8_lossy(&output.stdout),
-            expected,
+            (&*printed, output.stderr),
+            (expected.as_str(), vec![]),
             "{command}"
         );
         assert!(output.status.success(), "{command}");
     }
+}
+
+/// What the manual and README.md show is what happens.
+#[test]
+fn sessions_of_the_documents() {
+    let section = section();
+    let manual = sessions(&section);
+    assert!(manual.len() >= 3, "{manual:?}");
+    happens(&manual, "manual");
+    let readme = fs::read_to_string(file("README.md")).expect("README.md");
+    let readme = sessions(&readme);
+    assert!(readme.len() >= 4, "{readme:?}");
+    happens(&readme, "readme");
 }
 
 #[test]
