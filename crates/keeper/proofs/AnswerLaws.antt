@@ -1,10 +1,8 @@
 -- What a call yields where a check catches, where the buffer is too short, and where nothing refuses.
---     Quiet              none of a call's checks before 16 catches
 --     refused            one of them catches
 --     too-short          16 alone catches
 --     answered           nothing catches, and the answer was put at the front of the buffer
 -- Assumes nothing.
-use mathlib.Core.Bool.{true}
 use mathlib.Core.List.{List, [], _∷_, _++_}
 use mathlib.Core.Path.{_≡_, refl, sym, _∙_, subst}
 use Prim.Native.Nat.{ℕ, zero, suc, _≤_, _<_}
@@ -14,7 +12,8 @@ use borrow.Author.Tests.{le-ltb, lt-ltb}
 use lib.Dec.{ltb}
 use lib.ListN.{length, drop}
 use Rattle.keeper.specs.Answers.{Yields, answer, bufferAfter, lengthAfter, numberOf, unless}
-use Rattle.run_table.proofs.CheckLaws.{append-passed, areRefusals, caught-first, passed, quiet-none, stopped}
+use Rattle.refusals.proofs.RefusalLaws.{Quiet}
+use Rattle.run_table.proofs.CheckLaws.{append-passed, caught-first, passed, quiet-none, stopped}
 use Rattle.run_table.specs.Checks.{Check, firstCaught}
 use Rattle.run_table.specs.Numbers.{putAt}
 
@@ -26,11 +25,6 @@ put-in-front buffer bytes = rw zero-add
 -- 16 is no success
 pub sixteen : {P : Type 0} → _≡_ {A = ℕ} 16 0 → P
 sixteen e = absurd (omega (arith, e))
-
--- None of these checks catches; each has the number of a refusal.
-pub record Quiet (checks : List Check) : Type 0 where
-  pub refusals : areRefusals checks ≡ true
-  pub quiet : firstCaught checks ≡ 0
 
 module _ (checks : List Check) (bytes : List ℕ) (room : ℕ) where
   abbrev last : List Check

@@ -1,15 +1,13 @@
 -- The laws of the keeper's calls.
 --     AnswerLaws    what a refusal and an answer leave
---     RefusalLaws   the checks of a call on a table
 --     LineAnswers   the answers of the line calls
 --     MarkedCases   the marked cases
 --     SheetBytes    the keep sheet, read back from the buffer
---     SheetAnswer   the checks and the scratch of the keep sheet
+--     SheetAnswer   the scratch of the keep sheet
 --     StepAnswers   the answers of the steps
 pub mod AnswerLaws
 pub mod LineAnswers
 pub mod MarkedCases
-pub mod RefusalLaws
 pub mod SheetAnswer
 pub mod SheetBytes
 pub mod StepAnswers

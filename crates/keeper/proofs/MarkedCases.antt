@@ -15,7 +15,8 @@ use Rattle.process_set.specs.Sets.{highBit, member}
 use Rattle.futures.specs.Steps.{afterRollback, putBack, remaining, stays}
 use Rattle.futures.specs.Sheet.{crosses, holderLine, keepsCheckpoint, keepsMessage, keptCheckpoints, keptMessages, sheet}
 use Rattle.keeper.specs.Answers.{answer, unless}
-use Rattle.keeper.specs.Calls.{keepSheetAnswer, keepSheetChecks, lineOfSetAnswer, lineOfSetChecks, recoveryLineAnswer, rollbackAnswer}
+use Rattle.keeper.specs.Calls.{keepSheetAnswer, lineOfSetAnswer, recoveryLineAnswer, rollbackAnswer}
+use Rattle.refusals.specs.CallChecks.{keepSheetChecks, lineOfSetChecks}
 use Rattle.keeper.specs.Cases.{allHold, answerOf, lateReceipt, lateSend, markedCases, sameAnswer, sameBytes, tableA, tableB, tableC, tableD}
 
 pub marked-cases : allHold markedCases ≡ true

@@ -17,8 +17,9 @@ use Rattle.futures.proofs.StepLaws.{quiet-send, rollback-limits, rollback-proce
 use Rattle.futures.proofs.StepLaws.{step-taken, step-well-formed}
 use Rattle.futures.specs.Steps.{Step, afterCheckpoint, afterRollback, afterSend, checkpoint, checkpointChecks, rollback, send, sendChecks, step}
 use Rattle.keeper.proofs.AnswerLaws.{put-in-front}
-use Rattle.keeper.proofs.RefusalLaws.{QuietCall, quiet-by}
-use Rattle.keeper.specs.Calls.{HoldsTable, checkpointCallChecks, sendCallChecks}
+use Rattle.refusals.proofs.RefusalLaws.{QuietCall, quiet-by}
+use Rattle.keeper.specs.Calls.{HoldsTable}
+use Rattle.refusals.specs.CallChecks.{checkpointCallChecks, sendCallChecks}
 use Rattle.run_table.proofs.AcceptLaws.{accepted-encode, facts, reread}
 use Rattle.run_table.proofs.CheckLaws.{caughtBy, passed, quiet-none}
 use Rattle.run_table.proofs.FormatLaws.{encode-length}

@@ -1,39 +1,30 @@
--- The answer of each call, from the table's bytes, its other arguments and the length of the answer buffer.
--- Assumes nothing.
-use mathlib.Core.List.{List, [], _∷_, _++_}
+-- The answer of each call, from the table's bytes, its other arguments and the length of the answer buffer. The checks
+-- before 16 are those of `refusals`. Assumes nothing.
+use mathlib.Core.List.{List, _++_}
 use mathlib.Core.Logic.{_↔_}
 use mathlib.Core.Path.{_≡_}
 use Prim.Native.Nat.{ℕ, zero, suc, _+_, _*_, _<_}
-use lib.Dec.{leb, ltb}
 use lib.ListN.{length, take, drop}
 use Rattle.consistency.specs.Ceilings.{lineOf, recoveryLine}
 use Rattle.consistency.specs.Lines.{Latest, asLine}
 use Rattle.futures.specs.Futures.{CheckpointNeeded, MessageNeeded}
 use Rattle.futures.specs.Sheet.{holderLines, sheet}
-use Rattle.futures.specs.Steps.{afterCheckpoint, afterRollback, afterSend, checkpointChecks, sendChecks}
+use Rattle.futures.specs.Steps.{afterCheckpoint, afterRollback, afterSend}
 use Rattle.keeper.specs.Answers.{Answer, answer}
-use Rattle.process_set.specs.Sets.{highBit, member}
-use Rattle.run_table.specs.Checks.{Accepted, Check, firstCaught, tableChecks}
+use Rattle.process_set.specs.Sets.{member}
+use Rattle.refusals.specs.CallChecks.{checkpointCallChecks, keepSheetChecks, lineOfSetChecks, sendCallChecks}
+use Rattle.run_table.specs.Checks.{Accepted, firstCaught, tableChecks}
 use Rattle.run_table.specs.Format.{decode, encode}
 use Rattle.run_table.specs.Lists.{tabulate}
 use Rattle.run_table.specs.Numbers.{u16At, u16s}
-use Rattle.run_table.specs.Table.{Table, countOf, messageCount, mostCheckpoints, mostMessages, processCount}
-
--- The checks of a call on a table: the table's, and then the call's own.
-abbrev pub onTable : List ℕ → List Check → List Check
-onTable table own = tableChecks table ++ own
+use Rattle.run_table.specs.Table.{Table, processCount}
 
 -- ---- lines
 -- The recovery line of the run: the table's checks, 16.
 unfoldable pub recoveryLineAnswer : List ℕ → ℕ → Answer
 recoveryLineAnswer table room = answer (tableChecks table) (u16s (recoveryLine (decode table))) room
 
--- The checks of the line of a set: the table's; 12, that the set has a bit at N or above.
-unfoldable pub lineOfSetChecks : List ℕ → ℕ → List Check
-lineOfSetChecks table set =
-    onTable table (record { caught = highBit set (processCount (decode table)); number = 12 } ∷ [])
-
--- The line of a set: these, and 16.
+-- The line of a set: its checks, 16.
 unfoldable pub lineOfSetAnswer : List ℕ → ℕ → ℕ → Answer
 lineOfSetAnswer table set room = answer (lineOfSetChecks table set) (u16s (lineOf (decode table) (member set))) room
 
@@ -45,23 +36,11 @@ HoldsLatest table ceiling buffer =
     (asLine (tabulate (processCount (decode table)) (λ p. u16At buffer (2 * p))))
 
 -- ---- the steps
--- The checks of a send: the table's; 10 and 11; 14, that M is 4,096 already.
-unfoldable pub sendCallChecks : List ℕ → ℕ → ℕ → List Check
-sendCallChecks table from to =
-    onTable table (sendChecks (decode table) from to
-    ++ (record { caught = leb mostMessages (messageCount (decode table)); number = 14 } ∷ []))
-
--- The table after a send: these, and 16.
+-- The table after a send: its checks, 16.
 unfoldable pub sendAnswer : List ℕ → ℕ → ℕ → ℕ → Answer
 sendAnswer table from to room = answer (sendCallChecks table from to) (encode (afterSend (decode table) from to)) room
 
--- The checks of a checkpoint: the table's; 10 and 13; 14, that the count of the process is 4,096 already.
-unfoldable pub checkpointCallChecks : List ℕ → ℕ → List ℕ → List Check
-checkpointCallChecks table process list =
-    onTable table (checkpointChecks (decode table) process list
-    ++ (record { caught = leb mostCheckpoints (countOf (decode table) process); number = 14 } ∷ []))
-
--- The table after a checkpoint: these, and 16.
+-- The table after a checkpoint: its checks, 16.
 unfoldable pub checkpointAnswer : List ℕ → ℕ → List ℕ → ℕ → Answer
 checkpointAnswer table process list room =
     answer (checkpointCallChecks table process list) (encode (afterCheckpoint (decode table) process list)) room
@@ -76,13 +55,7 @@ pub record HoldsTable (t : Table) (buffer : List ℕ) (size : ℕ) : Type 0 wher
   pub reads : decode (take size buffer) ≡ t
 
 -- ---- the keep sheet
--- The checks of the keep sheet: the table's; 15, that the scratch is shorter than N × N numbers.
-unfoldable pub keepSheetChecks : List ℕ → ℕ → List Check
-keepSheetChecks table numbers =
-    onTable table
-    (record { caught = ltb numbers (processCount (decode table) * processCount (decode table)); number = 15 } ∷ [])
-
--- The keep sheet: these, and 16.
+-- The keep sheet: its checks, 16.
 unfoldable pub keepSheetAnswer : List ℕ → ℕ → ℕ → Answer
 keepSheetAnswer table numbers room = answer (keepSheetChecks table numbers) (sheet (decode table)) room
 
@@ -91,8 +64,7 @@ unfoldable pub linesUnless : ℕ → List ℕ → List ℕ → List ℕ
 linesUnless zero lines scratch = lines ++ drop (length lines) scratch
 linesUnless (suc n) lines scratch = scratch
 
--- The scratch afterwards, by what these checks, those before 16, refuse: it has the lines of single holders,
--- or is unchanged.
+-- The scratch afterwards, by what the checks before 16 refuse: it has the lines of single holders, or is unchanged.
 unfoldable pub scratchAfter : List ℕ → List ℕ → List ℕ
 scratchAfter table scratch =
     linesUnless (firstCaught (keepSheetChecks table (length scratch))) (holderLines (decode table)) scratch

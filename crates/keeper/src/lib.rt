@@ -4,7 +4,6 @@
 // scratch of a keep sheet holds the lines.
 //
 // Each call reads alike: its refusal by the checks before 16, the size of its answer, 16, the answer.
-pub mod refusals;
 pub mod sizes;
 
 use lines::recovery_line;

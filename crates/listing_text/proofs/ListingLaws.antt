@@ -17,12 +17,13 @@ use lib.Seq.{getD-drop, take-append-seam}
 use Rattle.consistency.proofs.CeilingLaws.{set-length}
 use Rattle.consistency.specs.Ceilings.{recoveryLine}
 use Rattle.futures.specs.Sheet.{Checkpoint, holderLine, holderLines, keptCheckpoints, keptMessages, sheet}
-use Rattle.keeper.proofs.AnswerLaws.{Quiet, answered, put-in-front, refused, too-short}
-use Rattle.keeper.proofs.RefusalLaws.{table-caught}
+use Rattle.keeper.proofs.AnswerLaws.{answered, put-in-front, refused, too-short}
+use Rattle.refusals.proofs.RefusalLaws.{Quiet, long-scratch, table-caught}
 use Rattle.keeper.proofs.SheetBytes.{read-checkpoint, read-kept, read-logged, read-position, read-process}
-use Rattle.keeper.proofs.SheetAnswer.{long-scratch, scratch-filled}
+use Rattle.keeper.proofs.SheetAnswer.{scratch-filled}
 use Rattle.keeper.specs.Answers.{Yields, answer, bufferAfter, lengthAfter, numberOf, unless}
-use Rattle.keeper.specs.Calls.{keepSheetAnswer, keepSheetChecks, scratchAfter}
+use Rattle.keeper.specs.Calls.{keepSheetAnswer, scratchAfter}
+use Rattle.refusals.specs.CallChecks.{keepSheetChecks}
 use Rattle.listing_text.proofs.RowLaws.{line-in}
 use Rattle.listing_text.proofs.SizeLaws.{listing-few}
 use Rattle.listing_text.proofs.TextLaws.{Left, all-left, each-rows, overlay-front}

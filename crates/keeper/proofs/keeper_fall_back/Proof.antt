@@ -6,7 +6,7 @@ use mathlib.Core.List.{[]}
 use mathlib.Core.Path.{refl}
 use denote.Ref.{now}
 use Rattle.keeper.proofs.AnswerLaws.{answered, refused, sixteen, too-short}
-use Rattle.keeper.proofs.RefusalLaws.{QuietCall, quiet-call}
+use Rattle.refusals.proofs.RefusalLaws.{QuietCall, quiet-call}
 use Rattle.keeper.proofs.StepAnswers.{rollback-bytes, rollback-taken, table-holds}
 use Rattle.keeper.specs.Calls.{rollbackAnswer}
 use Rattle.rollback.specs.Rollback.{AtLine}

@@ -9,10 +9,11 @@ use denote.Ref.{now}
 use lib.ListN.{length}
 use Rattle.futures.specs.Sheet.{sheet}
 use Rattle.keeper.proofs.AnswerLaws.{answered, refused, sixteen, too-short}
-use Rattle.keeper.proofs.RefusalLaws.{QuietCall, quiet-call}
+use Rattle.refusals.proofs.RefusalLaws.{QuietCall, quiet-call, scratch-long}
 use Rattle.keeper.proofs.SheetBytes.{sheet-holds}
-use Rattle.keeper.proofs.SheetAnswer.{scratch-filled, scratch-kept, scratch-long}
-use Rattle.keeper.specs.Calls.{keepSheetAnswer, keepSheetChecks}
+use Rattle.keeper.proofs.SheetAnswer.{scratch-filled, scratch-kept}
+use Rattle.keeper.specs.Calls.{keepSheetAnswer}
+use Rattle.refusals.specs.CallChecks.{keepSheetChecks}
 use Rattle.sheet_writer.proofs.SheetReads.{kept-few, lines-stand, sheet-length}
 use Rattle.sheet_writer.specs.SheetParts.{LinesOf}
 use Rattle.run_table.proofs.CheckLaws.{areRefusals}

@@ -6,8 +6,9 @@ use denote.Ref.{now}
 use Rattle.consistency.proofs.CeilingLaws.{set-length}
 use Rattle.keeper.proofs.AnswerLaws.{answered, refused, sixteen, too-short}
 use Rattle.keeper.proofs.LineAnswers.{line-room, set-holds}
-use Rattle.keeper.proofs.RefusalLaws.{QuietCall, quiet-call}
-use Rattle.keeper.specs.Calls.{lineOfSetAnswer, lineOfSetChecks}
+use Rattle.refusals.proofs.RefusalLaws.{QuietCall, quiet-call}
+use Rattle.keeper.specs.Calls.{lineOfSetAnswer}
+use Rattle.refusals.specs.CallChecks.{lineOfSetChecks}
 use Rattle.run_table.proofs.CheckLaws.{areRefusals}
 use Rattle.keeper.proofs.keeper_line_of_set.Statement.{statement}
 use Rattle.keeper.proofs.keeper_line_of_set.Tie as tie

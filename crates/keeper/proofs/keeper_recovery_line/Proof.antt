@@ -8,7 +8,7 @@ use Rattle.consistency.proofs.CeilingLaws.{set-length}
 use Rattle.consistency.specs.Ceilings.{recoveryLine}
 use Rattle.keeper.proofs.AnswerLaws.{answered, refused, sixteen, too-short}
 use Rattle.keeper.proofs.LineAnswers.{line-room, recovery-put, set-holds}
-use Rattle.keeper.proofs.RefusalLaws.{QuietCall, quiet-call}
+use Rattle.refusals.proofs.RefusalLaws.{QuietCall, quiet-call}
 use Rattle.keeper.specs.Calls.{recoveryLineAnswer}
 use Rattle.process_set.specs.Sets.{allProcesses}
 use Rattle.run_table.proofs.CheckLaws.{areRefusals}

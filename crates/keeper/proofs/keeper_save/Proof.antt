@@ -5,9 +5,10 @@ use mathlib.Core.Path.{refl}
 use denote.Ref.{now}
 use Rattle.futures.specs.Steps.{checkpointChecks}
 use Rattle.keeper.proofs.AnswerLaws.{answered, refused, sixteen, too-short}
-use Rattle.keeper.proofs.RefusalLaws.{QuietCall, quiet-call}
+use Rattle.refusals.proofs.RefusalLaws.{QuietCall, quiet-call}
 use Rattle.keeper.proofs.StepAnswers.{can-checkpoint, checkpoint-room, checkpoint-taken, table-holds}
-use Rattle.keeper.specs.Calls.{checkpointAnswer, checkpointCallChecks}
+use Rattle.keeper.specs.Calls.{checkpointAnswer}
+use Rattle.refusals.specs.CallChecks.{checkpointCallChecks}
 use Rattle.run_table.proofs.CheckLaws.{areRefusals}
 use Rattle.keeper.proofs.keeper_save.Statement.{statement}
 use Rattle.keeper.proofs.keeper_save.Tie as tie

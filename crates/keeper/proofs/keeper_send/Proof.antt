@@ -5,9 +5,10 @@ use mathlib.Core.Path.{refl}
 use denote.Ref.{now}
 use Rattle.futures.specs.Steps.{sendChecks}
 use Rattle.keeper.proofs.AnswerLaws.{answered, refused, sixteen, too-short}
-use Rattle.keeper.proofs.RefusalLaws.{QuietCall, quiet-call}
+use Rattle.refusals.proofs.RefusalLaws.{QuietCall, quiet-call}
 use Rattle.keeper.proofs.StepAnswers.{send-room, send-taken, sender-known, table-holds}
-use Rattle.keeper.specs.Calls.{sendAnswer, sendCallChecks}
+use Rattle.keeper.specs.Calls.{sendAnswer}
+use Rattle.refusals.specs.CallChecks.{sendCallChecks}
 use Rattle.run_table.proofs.CheckLaws.{areRefusals}
 use Rattle.keeper.proofs.keeper_send.Statement.{statement}
 use Rattle.keeper.proofs.keeper_send.Tie as tie

@@ -1,4 +1,4 @@
--- `refusals::checkpoint_refusal` meets its contract: the checks, one after another.
+-- `checkpoint_refusal` meets its contract: the checks, one after another.
 -- Assumes nothing.
 use borrow.Author.Needs.{needs}
 use mathlib.Core.Bool.{false, _||_}
@@ -6,15 +6,15 @@ use mathlib.Core.Path.{_≡_, sym, _∙_}
 use denote.Ref.{now}
 use lib.Dec.{leb}
 use Rattle.futures.specs.Steps.{badPosition, checkpointChecks, notRising}
-use Rattle.keeper.proofs.RefusalLaws.{first-of, le-read, lt-read, neither, own-caught, read-le, read-lt, second-of, table-caught}
-use Rattle.keeper.specs.Calls.{checkpointCallChecks}
+use Rattle.refusals.proofs.RefusalLaws.{first-of, le-read, lt-read, neither, own-caught, read-le, read-lt, second-of, table-caught}
+use Rattle.refusals.specs.CallChecks.{checkpointCallChecks}
 use Rattle.run_table.proofs.CheckLaws.{passed, quiet-none, stopped}
 use Rattle.run_table.specs.Checks.{tableRefusal}
 use Rattle.run_table.specs.Format.{decode}
 use Rattle.run_table.specs.Lists.{any}
 use Rattle.run_table.specs.Table.{processCount}
-use Rattle.keeper.proofs.refusals.checkpoint_refusal.Statement.{statement}
-use Rattle.keeper.proofs.refusals.checkpoint_refusal.Tie as tie
+use Rattle.refusals.proofs.checkpoint_refusal.Statement.{statement}
+use Rattle.refusals.proofs.checkpoint_refusal.Tie as tie
 
 -- ---- the places: the entry; where the table's checks caught nothing; where the process is known; where the positions are good
 abbrev entry : tie.Else1 → tie.Start

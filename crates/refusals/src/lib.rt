@@ -9,7 +9,8 @@ use run_table::parts;
 use steps::checkpoint::bad_position;
 use steps::checkpoint::not_rising;
 ghost use mathlib.Core.Path.{_≡_};
-ghost use Rattle.keeper.specs.Calls.{checkpointCallChecks, keepSheetChecks, lineOfSetChecks, sendCallChecks};
+ghost use Rattle.refusals.specs.CallChecks.{checkpointCallChecks, keepSheetChecks, lineOfSetChecks};
+ghost use Rattle.refusals.specs.CallChecks.{sendCallChecks};
 ghost use Rattle.run_table.specs.Checks.{firstCaught};
 
 // The line of a set: the table's checks, 12.

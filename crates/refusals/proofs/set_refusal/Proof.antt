@@ -1,17 +1,17 @@
--- `refusals::set_refusal` meets its contract: the checks, one after another.
+-- `set_refusal` meets its contract: the checks, one after another.
 -- Assumes nothing.
 use borrow.Author.Needs.{needs}
 use mathlib.Core.Path.{_≡_, sym, ap, _∙_}
 use denote.Ref.{now}
-use Rattle.keeper.proofs.RefusalLaws.{own-caught, table-caught}
-use Rattle.keeper.specs.Calls.{lineOfSetChecks}
+use Rattle.refusals.proofs.RefusalLaws.{own-caught, table-caught}
+use Rattle.refusals.specs.CallChecks.{lineOfSetChecks}
 use Rattle.process_set.specs.Sets.{highBit}
 use Rattle.run_table.proofs.CheckLaws.{passed, quiet-none, stopped}
 use Rattle.run_table.specs.Checks.{tableRefusal}
 use Rattle.run_table.specs.Format.{decode}
 use Rattle.run_table.specs.Table.{processCount}
-use Rattle.keeper.proofs.refusals.set_refusal.Statement.{statement}
-use Rattle.keeper.proofs.refusals.set_refusal.Tie as tie
+use Rattle.refusals.proofs.set_refusal.Statement.{statement}
+use Rattle.refusals.proofs.set_refusal.Tie as tie
 
 -- ---- the places: the entry; where the table's checks caught nothing
 abbrev entry : tie.Else1 → tie.Start

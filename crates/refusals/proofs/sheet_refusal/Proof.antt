@@ -1,4 +1,4 @@
--- `refusals::sheet_refusal` meets its contract: the checks, one after another.
+-- `sheet_refusal` meets its contract: the checks, one after another.
 -- Assumes nothing.
 use borrow.Author.Needs.{needs}
 use native.Mathlib.Nat.{mul-le-mul}
@@ -6,13 +6,13 @@ use native.Mathlib.Omega.{arith}
 use mathlib.Core.Path.{_≡_, sym, ap, _∙_}
 use Prim.Native.Nat.{ℕ, _*_, _≤_}
 use denote.Ref.{now}
-use Rattle.keeper.proofs.RefusalLaws.{table-caught}
-use Rattle.keeper.proofs.SheetAnswer.{long-scratch, short-scratch}
-use Rattle.keeper.specs.Calls.{keepSheetChecks}
+use Rattle.refusals.proofs.RefusalLaws.{table-caught}
+use Rattle.refusals.proofs.RefusalLaws.{long-scratch, short-scratch}
+use Rattle.refusals.specs.CallChecks.{keepSheetChecks}
 use Rattle.run_table.proofs.ReadLaws.{processes-few}
 use Rattle.run_table.specs.Checks.{tableRefusal}
-use Rattle.keeper.proofs.refusals.sheet_refusal.Statement.{statement}
-use Rattle.keeper.proofs.refusals.sheet_refusal.Tie as tie
+use Rattle.refusals.proofs.sheet_refusal.Statement.{statement}
+use Rattle.refusals.proofs.sheet_refusal.Tie as tie
 
 -- ---- the places: the entry, from where the table was checked
 abbrev entry : tie.After-check → tie.Start

@@ -1,22 +1,26 @@
 -- The refusals of the calls on a table: the table's checks, and behind them the call's own.
 --     table-caught, own-caught    the call's refusal, where the table is refused and where it is accepted
 --     table-accepted              where no check of the call catches, none of the table's does
---     QuietCall, quiet-call       no check of the call before 16 catches, by the refusal that was found
+--     Quiet                       none of a call's checks before 16 catches
+--     QuietCall, quiet-call       so it is, of a call on a table, by the refusal that was found
 --     quiet-by                    then the check of any number is quiet
 --     first-of, second-of, neither    a check of two tests
 --     read-le, read-lt, le-read, lt-read    a test of a number, by what was read
+--     short-scratch, long-scratch, scratch-long    15, by the scratch's length
 -- Assumes nothing.
 use mathlib.Core.Bool.{Bool, true, false, _||_}
 use mathlib.Core.List.{List}
-use mathlib.Core.Path.{_≡_, sym, _∙_}
-use Prim.Native.Nat.{ℕ, _≤_, _<_}
+use mathlib.Core.Path.{_≡_, refl, sym, _∙_}
+use Prim.Native.Nat.{ℕ, _*_, _≤_, _<_}
 use native.Mathlib.Omega.{arith}
-use borrow.Author.Tests.{le-leb, lt-leb}
+use borrow.Author.Tests.{le-leb, le-ltb, lt-leb, lt-ltb, ltb-false}
 use lib.Dec.{leb}
-use Rattle.keeper.proofs.AnswerLaws.{Quiet}
-use Rattle.keeper.specs.Calls.{onTable}
-use Rattle.run_table.proofs.CheckLaws.{append-passed, areRefusals, caught-first, caughtBy, quiet-front, quiet-number, table-refusals}
+use Rattle.refusals.specs.CallChecks.{keepSheetChecks, onTable}
+use Rattle.run_table.proofs.CheckLaws.{append-passed, areRefusals, caught-first, caughtBy, passed, quiet-front, quiet-none, quiet-number}
+use Rattle.run_table.proofs.CheckLaws.{stopped, table-refusals}
 use Rattle.run_table.specs.Checks.{Check, firstCaught, tableChecks, tableRefusal}
+use Rattle.run_table.specs.Format.{decode}
+use Rattle.run_table.specs.Table.{processCount}
 
 module _ (table : List ℕ) (own : List Check) where
   pub table-caught : {r : ℕ} → r ≡ tableRefusal table → (r ≡ 0 → ⊥) → r ≡ firstCaught (onTable table own)
@@ -30,6 +34,11 @@ module _ (table : List ℕ) (own : List Check) where
   table-accepted : firstCaught (onTable table own) ≡ 0 → tableRefusal table ≡ 0
   unfolding tableRefusal
   table-accepted quiet = quiet-front (tableChecks table) own quiet
+
+-- None of these checks catches; each has the number of a refusal.
+pub record Quiet (checks : List Check) : Type 0 where
+  pub refusals : areRefusals checks ≡ true
+  pub quiet : firstCaught checks ≡ 0
 
 -- None of these checks of a call on a table catches, all but 16, so that the table is accepted.
 pub record QuietCall (table : List ℕ) (checks : List Check) : Type 0 where
@@ -68,3 +77,21 @@ module _ {n m i : ℕ} (read : n ≡ m) where
 
   pub lt-read : n < i → leb i m ≡ false
   lt-read h = lt-leb i m (omega arith)
+
+-- ---- the scratch of a keep sheet
+module _ (table : List ℕ) where
+  abbrev square : ℕ
+  square = processCount (decode table) * processCount (decode table)
+
+  pub long-scratch : (numbers : ℕ) → tableRefusal table ≡ 0 → square ≤ numbers → Quiet (keepSheetChecks table numbers)
+  unfolding keepSheetChecks tableChecks areRefusals
+  long-scratch numbers accepted long =
+      record { refusals = refl; quiet = sym (own-caught table _ accepted (passed _ _ 0 (le-ltb numbers square long) quiet-none)) }
+
+  pub short-scratch : (numbers : ℕ) → tableRefusal table ≡ 0 → numbers < square → _≡_ {A = ℕ} 15 (firstCaught (keepSheetChecks table numbers))
+  unfolding keepSheetChecks
+  short-scratch numbers accepted short = own-caught table _ accepted (stopped _ _ (lt-ltb numbers square short))
+
+  pub scratch-long : (numbers : ℕ) → Quiet (keepSheetChecks table numbers) → square ≤ numbers
+  unfolding keepSheetChecks tableChecks caughtBy
+  scratch-long numbers q = ltb-false numbers square (quiet-number (keepSheetChecks table numbers) (q .refusals) (q .quiet) 15)

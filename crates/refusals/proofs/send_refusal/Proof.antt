@@ -1,4 +1,4 @@
--- `refusals::send_refusal` meets its contract: the checks, one after another.
+-- `send_refusal` meets its contract: the checks, one after another.
 -- Assumes nothing.
 use borrow.Author.Needs.{needs}
 use borrow.Author.Tests.{eq-eqb, ne-eqb}
@@ -7,14 +7,14 @@ use mathlib.Core.Path.{_≡_, sym, _∙_}
 use denote.Ref.{now}
 use lib.Dec.{leb}
 use Rattle.futures.specs.Steps.{sendChecks}
-use Rattle.keeper.proofs.RefusalLaws.{first-of, le-read, lt-read, neither, own-caught, read-le, read-lt, second-of, table-caught}
-use Rattle.keeper.specs.Calls.{sendCallChecks}
+use Rattle.refusals.proofs.RefusalLaws.{first-of, le-read, lt-read, neither, own-caught, read-le, read-lt, second-of, table-caught}
+use Rattle.refusals.specs.CallChecks.{sendCallChecks}
 use Rattle.run_table.proofs.CheckLaws.{passed, quiet-none, stopped}
 use Rattle.run_table.specs.Checks.{tableRefusal}
 use Rattle.run_table.specs.Format.{decode}
 use Rattle.run_table.specs.Table.{processCount}
-use Rattle.keeper.proofs.refusals.send_refusal.Statement.{statement}
-use Rattle.keeper.proofs.refusals.send_refusal.Tie as tie
+use Rattle.refusals.proofs.send_refusal.Statement.{statement}
+use Rattle.refusals.proofs.send_refusal.Tie as tie
 
 -- ---- the places: the entry; where the table's checks caught nothing, from where both processes are known
 abbrev entry : tie.Else1 → tie.Start

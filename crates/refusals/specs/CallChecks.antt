@@ -1,0 +1,37 @@
+-- The checks of each call on a table before 16, in checking order, from the table's bytes and the call's other
+-- arguments (docs/MANUAL.md, "Refusals"). Assumes nothing.
+use mathlib.Core.List.{List, [], _∷_, _++_}
+use Prim.Native.Nat.{ℕ, _*_}
+use lib.Dec.{leb, ltb}
+use Rattle.futures.specs.Steps.{checkpointChecks, sendChecks}
+use Rattle.process_set.specs.Sets.{highBit}
+use Rattle.run_table.specs.Checks.{Check, tableChecks}
+use Rattle.run_table.specs.Format.{decode}
+use Rattle.run_table.specs.Table.{countOf, messageCount, mostCheckpoints, mostMessages, processCount}
+
+-- The checks of a call on a table: the table's, and then the call's own.
+abbrev pub onTable : List ℕ → List Check → List Check
+onTable table own = tableChecks table ++ own
+
+-- The line of a set: the table's; 12, that the set has a bit at N or above.
+unfoldable pub lineOfSetChecks : List ℕ → ℕ → List Check
+lineOfSetChecks table set =
+    onTable table (record { caught = highBit set (processCount (decode table)); number = 12 } ∷ [])
+
+-- A send: the table's; 10 and 11; 14, that M is 4,096 already.
+unfoldable pub sendCallChecks : List ℕ → ℕ → ℕ → List Check
+sendCallChecks table from to =
+    onTable table (sendChecks (decode table) from to
+    ++ (record { caught = leb mostMessages (messageCount (decode table)); number = 14 } ∷ []))
+
+-- A checkpoint: the table's; 10 and 13; 14, that the count of the process is 4,096 already.
+unfoldable pub checkpointCallChecks : List ℕ → ℕ → List ℕ → List Check
+checkpointCallChecks table process list =
+    onTable table (checkpointChecks (decode table) process list
+    ++ (record { caught = leb mostCheckpoints (countOf (decode table) process); number = 14 } ∷ []))
+
+-- The keep sheet, by the length of the scratch: the table's; 15, that it is shorter than N × N numbers.
+unfoldable pub keepSheetChecks : List ℕ → ℕ → List Check
+keepSheetChecks table numbers =
+    onTable table
+    (record { caught = ltb numbers (processCount (decode table) * processCount (decode table)); number = 15 } ∷ [])
