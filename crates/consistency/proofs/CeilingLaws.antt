@@ -1,7 +1,10 @@
 -- Laws of ceilings and of the lines of sets.
+--     ceiling-quiet, ceiling-checked    a ceiling is what checks 17 and 18 let through
+--     under-length, under-below     the line under a ceiling
 --     ceiling-length, ceiling-at    the ceiling of a set, process by process
+--     set-ceiling                   it is a ceiling
 --     orphan-in                     an orphan is a message of the table
---     set-latest, set-length        the line of a set is the latest one under its ceiling
+--     set-latest, set-length, set-below    the line of a set is the latest one under its ceiling
 --     counts-consistent, counts-latest    the counts are a consistent line, and the line under themselves
 --     line-of-none                  the line of the empty set is the counts
 --     line-smallest                 the line of a set is the minimum of the counts and of its members' lines
@@ -9,21 +12,23 @@
 --     line-of-members               the line of a non-empty set is the minimum of its members' lines
 -- Assumes nothing.
 use mathlib.Core.Bool.{Bool, true, false, cond, _&&_, and-true, and-false}
+use mathlib.Core.List.{List}
 use mathlib.Core.Logic.{_⊎_, inl, inr, ⊎-elim}
 use mathlib.Core.Path.{_≡_, refl, sym, ap, _∙_, subst⁻¹}
 use Prim.Native.Nat.{ℕ, zero, suc, _-_, _≤_, _<_, min}
 use native.Mathlib.Decide.{decLe, decLt, ℕ-discrete}
 use native.Mathlib.Nat.{le-refl, le-trans}
 use native.Mathlib.Omega.{arith}
-use borrow.Author.Tests.{eq-eqb, ne-eqb, lt-ltb, le-ltb}
+use borrow.Author.Tests.{eq-eqb, ne-eqb, lt-ltb, le-ltb, ltb-false}
 use lib.Dec.{eqb, ltb}
 use lib.ListN.{length, getD, List·getD-eq-default}
 use Rattle.consistency.proofs.LineLaws.{latest-min, latest-same, latest-unique}
 use Rattle.consistency.proofs.LoweringLaws.{line-is, line-latest, line-length}
-use Rattle.consistency.specs.Ceilings.{Holders, ceilingOf, lineOf, single}
+use Rattle.consistency.specs.Ceilings.{Ceiling, Holders, aboveCounts, ceilingOf, lineOf, single}
 use Rattle.consistency.specs.Lines.{AtOrBelow, Consistent, Latest, Line, Orphan, asLine}
+use Rattle.consistency.specs.Lowering.{lineUnder}
 use Rattle.run_table.proofs.FormatLaws.{count-beyond, message-beyond}
-use Rattle.run_table.proofs.ListLaws.{getD-tabulate, length-tabulate}
+use Rattle.run_table.proofs.ListLaws.{anyBelow-none, getD-tabulate, length-tabulate, none-below}
 use Rattle.run_table.specs.Checks.{WellFormed}
 use Rattle.run_table.specs.Lists.{tabulate}
 use Rattle.run_table.specs.Table.{Message, Table, countOf, messageCount, messageOf, processCount}
@@ -38,6 +43,31 @@ pub all-zero : (b : Bool) (c : ℕ) → c ≡ 0 → cond b (c - 1) c ≡ 0
 all-zero true c e = omega arith
 all-zero false c e = e
 
+-- ---- ceilings
+module _ (t : Table) (ceiling : List ℕ) where
+  pub ceiling-quiet : Ceiling t ceiling → aboveCounts t ceiling ≡ false
+  unfolding aboveCounts
+  ceiling-quiet c = anyBelow-none _ (processCount t) (λ p _. le-ltb (countOf t p) (asLine ceiling p) (c .within p))
+
+  pub ceiling-checked : length ceiling ≡ processCount t → aboveCounts t ceiling ≡ false → Ceiling t ceiling
+  unfolding aboveCounts
+  ceiling-checked e none = record { for-each = e; within = λ p. go p (decLt p (processCount t)) }
+    where
+      go : (p : ℕ) → Dec (p < processCount t) → asLine ceiling p ≤ countOf t p
+      go p (yes l) = ltb-false (countOf t p) (asLine ceiling p) (none-below _ (processCount t) none p l)
+      go p (no l) =
+          let beyond : length ceiling ≤ p = omega arith in
+          omega (arith, List·getD-eq-default ceiling 0 beyond)
+
+  module _ (c : Ceiling t ceiling) where
+    pub under-length : length (lineUnder (t .messages) ceiling) ≡ processCount t
+    under-length = line-length (t .messages) ceiling ∙ c .for-each
+
+    -- no line goes beyond the virtual checkpoints
+    pub under-below : (p : ℕ) → asLine (lineUnder (t .messages) ceiling) p ≤ countOf t p
+    under-below p = le-trans (line-latest (t .messages) ceiling .under p) (c .within p)
+
+-- ---- the ceiling of a set, and its line
 module _ (t : Table) (holds : Holders) where
   abbrev height : Line
   height p = cond (holds p) (countOf t p - 1) (countOf t p)
@@ -56,24 +86,24 @@ module _ (t : Table) (holds : Holders) where
           List·getD-eq-default (tabulate (processCount t) height) 0 (rw length-tabulate (omega arith))
           ∙ sym (all-zero (holds p) (countOf t p) (count-beyond t p (omega arith)))
 
+  pub set-ceiling : Ceiling t (ceilingOf t holds)
+  set-ceiling = record { for-each = ceiling-length; within = λ p. subst⁻¹ (λ (x : ℕ). x ≤ countOf t p) (ceiling-at p) (go p (holds p)) }
+    where
+      go : (p : ℕ) (b : Bool) → cond b (countOf t p - 1) (countOf t p) ≤ countOf t p
+      go p true = omega arith
+      go p false = le-refl (countOf t p)
+
   pub set-latest : Latest (t .messages) (asLine (ceilingOf t holds)) (asLine (lineOf t holds))
   unfolding lineOf
   set-latest = line-latest (t .messages) (ceilingOf t holds)
 
   pub set-length : length (lineOf t holds) ≡ processCount t
   unfolding lineOf
-  set-length = line-length (t .messages) (ceilingOf t holds) ∙ ceiling-length
+  set-length = under-length t (ceilingOf t holds) set-ceiling
 
-  ceiling-below : (p : ℕ) → asLine (ceilingOf t holds) p ≤ countOf t p
-  ceiling-below p = subst⁻¹ (λ (x : ℕ). x ≤ countOf t p) (ceiling-at p) (go (holds p))
-    where
-      go : (b : Bool) → cond b (countOf t p - 1) (countOf t p) ≤ countOf t p
-      go true = omega arith
-      go false = le-refl (countOf t p)
-
-  -- no line goes beyond the virtual checkpoints
   pub set-below : (p : ℕ) → asLine (lineOf t holds) p ≤ countOf t p
-  set-below p = le-trans (set-latest .under p) (ceiling-below p)
+  unfolding lineOf
+  set-below = under-below t (ceilingOf t holds) set-ceiling
 
 -- an orphan is a message of the table
 pub orphan-in : (t : Table) (k : ℕ) (l : Line) → Orphan (messageOf t k) l → k < messageCount t

@@ -6,6 +6,7 @@
 --     pass-under .. pass-progress   one pass
 --     line-latest                   the computed line is the latest one under its ceiling
 --     line-length                   it has a number for each of the ceiling's
+--     line-monotone                 a lower ceiling gives no later line
 --     line-is                       a line that is the latest one under a ceiling is the computed one
 --     line-from, line-put-back      any start between the line and its ceiling ends at the same line
 --     line-consistent               a consistent line is the line under itself
@@ -22,7 +23,7 @@ use borrow.Author.Tests.{leb-true, ltb-true, le-leb, lt-ltb}
 use lib.Dec.{leb, ltb}
 use lib.ListN.{length, getD, set, length-set, List·getD-eq-default}
 use lib.Seq.{ext-getD, getD-set-same, getD-set-other}
-use Rattle.consistency.proofs.LineLaws.{latest-from, latest-unique, orphan-free, zero-consistent}
+use Rattle.consistency.proofs.LineLaws.{latest-from, latest-monotone, latest-unique, orphan-free, zero-consistent}
 use Rattle.consistency.specs.Lines.{AtOrBelow, Consistent, Latest, Line, Orphan, asLine}
 use Rattle.consistency.specs.Lowering.{isOrphan, lineUnder, lower, pass, passes}
 use Rattle.run_table.proofs.ListLaws.{and-left, and-right}
@@ -233,6 +234,12 @@ module _ (ms : List Message) (ceiling : List ℕ) where
   line-is l e a =
       ext-getD 0 l (lineUnder ms ceiling) (e ∙ sym line-length)
       (λ p _. latest-unique ms (asLine ceiling) (asLine l) (asLine (lineUnder ms ceiling)) a line-latest p)
+
+-- a lower ceiling gives no later line
+pub line-monotone : (ms : List Message) (ceiling ceiling′ : List ℕ) → AtOrBelow (asLine ceiling) (asLine ceiling′)
+    → AtOrBelow (asLine (lineUnder ms ceiling)) (asLine (lineUnder ms ceiling′))
+line-monotone ms ceiling ceiling′ below =
+    latest-monotone ms (asLine ceiling) (asLine ceiling′) _ _ below (line-latest ms ceiling) (line-latest ms ceiling′)
 
 -- any start between the line and its ceiling ends at the same line
 pub line-from : (ms : List Message) (ceiling start : List ℕ) → length start ≡ length ceiling → AtOrBelow (asLine (lineUnder ms ceiling)) (asLine start)

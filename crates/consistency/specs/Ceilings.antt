@@ -1,18 +1,32 @@
--- The ceiling of processes that do not checkpoint (that hold), their line, and the recovery line. Assumes nothing.
+-- Ceilings; the ceiling of processes that do not checkpoint (that hold), their line, and the recovery line. Assumes
+-- nothing.
 use mathlib.Core.Bool.{Bool, cond, true}
 use mathlib.Core.List.{List}
+use mathlib.Core.Path.{_≡_}
 use Prim.Native.Nat.{ℕ, _-_}
-use lib.Dec.{eqb}
+use lib.Dec.{eqb, ltb}
+use lib.ListN.{length}
+use Rattle.consistency.specs.Lines.{AtOrBelow, asLine}
 use Rattle.consistency.specs.Lowering.{lineUnder}
-use Rattle.run_table.specs.Lists.{tabulate}
+use Rattle.run_table.specs.Lists.{anyBelow, tabulate}
 use Rattle.run_table.specs.Table.{Table, countOf, processCount}
+
+-- A ceiling of a run: a number for each process, the latest at which it may stand. That is one of its checkpoints, or
+-- its count, for the virtual one.
+pub record Ceiling (t : Table) (ceiling : List ℕ) : Type 0 where
+  pub for-each : length ceiling ≡ processCount t
+  pub within : AtOrBelow (asLine ceiling) (countOf t)
+
+-- Check 18: one of the numbers is above the count of its process.
+unfoldable pub aboveCounts : Table → List ℕ → Bool
+aboveCounts t ceiling = anyBelow (processCount t) (λ p. ltb (countOf t p) (asLine ceiling p))
 
 -- A set of processes: whether each holds.
 abbrev pub Holders : Type 0
 Holders = ℕ → Bool
 
--- A holding process stands at no later than its last checkpoint, count − 1; any other may also stand at its virtual
--- checkpoint, numbered count.
+-- The ceiling of a set. A holding process stands at no later than its last checkpoint, count − 1; any other may also
+-- stand at its virtual checkpoint, numbered count.
 unfoldable pub ceilingOf : Table → Holders → List ℕ
 ceilingOf t holds = tabulate (processCount t) (λ p. cond (holds p) (countOf t p - 1) (countOf t p))
 

@@ -1,25 +1,36 @@
 -- The answers of the line calls.
 --     line-room          a buffer with room for a line of n numbers
---     set-holds          the numbers of an answer are the latest consistent line under the ceiling of a set
---     recovery-put       the line of all 32 bits is the recovery line
+--     line-holds         the numbers of an answer are the latest consistent line under a ceiling
+--     recovery-put       the line of all 32 bits is that under the ceiling of all processes
+--     ceilings-good      where no check of the call catches, the ceilings that were lent are a ceiling
+--     set-under          the line of a set is the line under the set's ceiling, byte for byte and whatever is refused
 -- Assumes nothing.
-use mathlib.Core.List.{List}
-use mathlib.Core.Path.{_≡_, sym, ap, _∙_, subst⁻¹}
+use mathlib.Core.Bool.{false, not}
+use mathlib.Core.List.{List, [], _∷_, append-assoc}
+use mathlib.Core.Path.{_≡_, refl, sym, ap, _∙_, subst⁻¹}
 use Prim.Native.Nat.{ℕ, _*_, _≤_, _<_}
 use native.Mathlib.Omega.{arith}
+use borrow.Author.Tests.{eq-eqb, eqb-true, not-false}
+use lib.Dec.{eqb, ltb}
 use lib.ListN.{length, getD, drop}
 use lib.Seq.{ext-getD}
-use Rattle.consistency.proofs.CeilingLaws.{set-below, set-latest, set-length}
-use Rattle.consistency.specs.Ceilings.{Holders, ceilingOf, lineOf, recoveryLine}
+use Rattle.consistency.proofs.CeilingLaws.{ceiling-checked, ceiling-quiet, set-ceiling, under-below, under-length}
+use Rattle.consistency.proofs.LoweringLaws.{line-latest}
+use Rattle.consistency.specs.Ceilings.{Ceiling, aboveCounts, ceilingOf, lineOf, recoveryLine}
 use Rattle.consistency.specs.Lines.{Latest, asLine}
+use Rattle.consistency.specs.Lowering.{lineUnder}
 use Rattle.keeper.proofs.AnswerLaws.{put-in-front}
-use Rattle.keeper.specs.Calls.{HoldsLatest}
+use Rattle.keeper.specs.Answers.{answer, unless}
+use Rattle.keeper.specs.Calls.{HoldsLatest, lineAnswer, lineOfSetAnswer, lineUnderAnswer}
 use Rattle.lines.proofs.LineReads.{all-hold}
-use Rattle.process_set.specs.Sets.{allProcesses, member}
+use Rattle.process_set.specs.Sets.{allProcesses, highBit, member}
+use Rattle.refusals.proofs.RefusalLaws.{QuietCall, own-same, quiet-by}
+use Rattle.refusals.specs.CallChecks.{lineOfSetChecks, lineUnderChecks}
 use Rattle.run_table.proofs.AcceptLaws.{facts}
+use Rattle.run_table.proofs.CheckLaws.{caughtBy, passed}
 use Rattle.run_table.proofs.ListLaws.{getD-tabulate, length-tabulate}
 use Rattle.run_table.proofs.NumberLaws.{length-u16s, u16At-u16s}
-use Rattle.run_table.specs.Checks.{tableRefusal}
+use Rattle.run_table.specs.Checks.{Check, firstCaught, tableChecks, tableRefusal}
 use Rattle.run_table.specs.Format.{decode}
 use Rattle.run_table.specs.Lists.{tabulate}
 use Rattle.run_table.specs.Numbers.{putAt, u16At, u16s}
@@ -36,29 +47,60 @@ module _ (table : List ℕ) (accepted : tableRefusal table ≡ 0) where
   abbrev t : Table
   t = decode table
 
-  -- the line of a set was put at the front of a buffer
-  module _ (holds : Holders) (buffer : List ℕ) {buffer′ : List ℕ} (put : buffer′ ≡ putAt buffer 0 (u16s (lineOf t holds))) where
+  -- the line under a ceiling was put at the front of a buffer
+  module _ {ceiling : List ℕ} (c : Ceiling t ceiling) (buffer : List ℕ) {buffer′ : List ℕ}
+      (put : buffer′ ≡ putAt buffer 0 (u16s (lineUnder (t .messages) ceiling))) where
     abbrev line : List ℕ
-    line = lineOf t holds
+    line = lineUnder (t .messages) ceiling
 
     number-read : (p : ℕ) → p < processCount t → u16At buffer′ (2 * p) ≡ getD line p 0
     number-read p l =
         ap (λ (b : List ℕ). u16At b (2 * p)) (put ∙ put-in-front buffer (u16s line))
-        ∙ u16At-u16s line (drop (length (u16s line)) buffer) p (omega (arith, set-length t holds))
-        (omega (arith, set-below t holds p, facts table accepted .limits .counts-limit p l))
+        ∙ u16At-u16s line (drop (length (u16s line)) buffer) p (omega (arith, under-length t ceiling c))
+        (omega (arith, under-below t ceiling c p, facts table accepted .limits .counts-limit p l))
 
     numbers-read : tabulate (processCount t) (λ p. u16At buffer′ (2 * p)) ≡ line
     numbers-read =
         let size = length-tabulate (processCount t) (λ p. u16At buffer′ (2 * p)) in
-        ext-getD 0 _ line (size ∙ sym (set-length t holds))
+        ext-getD 0 _ line (size ∙ sym (under-length t ceiling c))
         (λ p l.
         let below : p < processCount t = omega (arith, size) in
         getD-tabulate (processCount t) _ p 0 below ∙ number-read p below)
 
-    pub set-holds : HoldsLatest table (ceilingOf t holds) buffer′
+    pub line-holds : HoldsLatest table ceiling buffer′
     unfolding HoldsLatest
-    set-holds = subst⁻¹ (λ (l : List ℕ). Latest (t .messages) (asLine (ceilingOf t holds)) (asLine l)) numbers-read (set-latest t holds)
+    line-holds = subst⁻¹ (λ (l : List ℕ). Latest (t .messages) (asLine ceiling) (asLine l)) numbers-read (line-latest (t .messages) ceiling)
 
   pub recovery-put : (buffer : List ℕ) {buffer′ : List ℕ} → buffer′ ≡ putAt buffer 0 (u16s (lineOf t (member allProcesses)))
       → buffer′ ≡ putAt buffer 0 (u16s (recoveryLine t))
   recovery-put buffer put = put ∙ ap (λ (l : List ℕ). putAt buffer 0 (u16s l)) (all-hold table accepted)
+
+pub ceilings-good : {table ceilings : List ℕ} → QuietCall table (lineUnderChecks table ceilings) → Ceiling (decode table) ceilings
+unfolding lineUnderChecks tableChecks caughtBy
+ceilings-good q = ceiling-checked _ _ (eqb-true _ _ (not-false _ (quiet-by q 17))) (quiet-by q 18)
+
+-- The ceiling of a set passes 17 and 18; so where 12 catches nothing either, both calls answer alike, also where the table is refused or
+-- the buffer is too short.
+pub set-under : (table : List ℕ) (set : ℕ) → highBit set (processCount (decode table)) ≡ false
+    → (room : ℕ) → lineOfSetAnswer table set room ≡ lineUnderAnswer table (ceilingOf (decode table) (member set)) room
+unfolding lineOfSetAnswer lineUnderAnswer lineAnswer answer lineOfSetChecks lineUnderChecks
+set-under table set quiet room =
+    ap (λ (n : ℕ). unless n (u16s (lineUnder (t .messages) ceiling)))
+    (ap firstCaught (append-assoc (tableChecks table) _ last)
+    ∙ own-same table _ _ (passed _ last _ quiet refl ∙ sym (passed _ _ _ all-there (passed _ last _ none-above refl)))
+    ∙ ap firstCaught (sym (append-assoc (tableChecks table) _ last)))
+  where
+    t : Table
+    t = decode table
+
+    ceiling : List ℕ
+    ceiling = ceilingOf t (member set)
+
+    last : List Check
+    last = record { caught = ltb room (length (u16s (lineUnder (t .messages) ceiling))); number = 16 } ∷ []
+
+    all-there : not (eqb (length ceiling) (processCount t)) ≡ false
+    all-there = ap not (eq-eqb _ _ (set-ceiling t (member set) .for-each))
+
+    none-above : aboveCounts t ceiling ≡ false
+    none-above = ceiling-quiet t ceiling (set-ceiling t (member set))

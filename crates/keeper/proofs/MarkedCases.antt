@@ -15,7 +15,7 @@ use Rattle.process_set.specs.Sets.{highBit, member}
 use Rattle.futures.specs.Steps.{afterRollback, putBack, remaining, stays}
 use Rattle.futures.specs.Sheet.{crosses, holderLine, keepsCheckpoint, keepsMessage, keptCheckpoints, keptMessages, sheet}
 use Rattle.keeper.specs.Answers.{answer, unless}
-use Rattle.keeper.specs.Calls.{keepSheetAnswer, lineOfSetAnswer, recoveryLineAnswer, rollbackAnswer}
+use Rattle.keeper.specs.Calls.{keepSheetAnswer, lineAnswer, lineOfSetAnswer, recoveryLineAnswer, rollbackAnswer}
 use Rattle.refusals.specs.CallChecks.{keepSheetChecks, lineOfSetChecks}
 use Rattle.keeper.specs.Cases.{allHold, answerOf, lateReceipt, lateSend, markedCases, sameAnswer, sameBytes, tableA, tableB, tableC, tableD}
 
@@ -24,6 +24,6 @@ unfolding firstCaught outside tooShort badProcessCount tooManyMessages badLength
     tableRefusal processesIn messagesIn countsPart sendsPart receiptsPart countAt processAt checkpointAt messageAt decode entriesOf encode u16At
     u16Bytes u16s tabulate any anyBelow processCount messageCount countOf messageOf ceilingOf lineOf recoveryLine single isOrphan lower pass passes
     sum lineUnder member highBit stays putBack remaining afterRollback holderLine keepsCheckpoint crosses keepsMessage select rows keptCheckpoints
-    keptMessages sheet unless answer recoveryLineAnswer lineOfSetChecks lineOfSetAnswer keepSheetChecks keepSheetAnswer rollbackAnswer tableA tableB
+    keptMessages sheet unless answer lineAnswer recoveryLineAnswer lineOfSetChecks lineOfSetAnswer keepSheetChecks keepSheetAnswer rollbackAnswer tableA tableB
     tableC tableD lateReceipt lateSend answerOf sameBytes sameAnswer allHold markedCases
 marked-cases = refl

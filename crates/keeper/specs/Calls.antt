@@ -1,35 +1,47 @@
 -- The answer of each call, from the table's bytes, its other arguments and the length of the answer buffer. The checks
 -- before 16 are those of `refusals`. Assumes nothing.
+use mathlib.Core.Bool.{true}
 use mathlib.Core.List.{List, _++_}
 use mathlib.Core.Logic.{_↔_}
 use mathlib.Core.Path.{_≡_}
 use Prim.Native.Nat.{ℕ, zero, suc, _+_, _*_, _<_}
 use lib.ListN.{length, take, drop}
-use Rattle.consistency.specs.Ceilings.{lineOf, recoveryLine}
+use Rattle.consistency.specs.Ceilings.{ceilingOf}
 use Rattle.consistency.specs.Lines.{Latest, asLine}
+use Rattle.consistency.specs.Lowering.{lineUnder}
 use Rattle.futures.specs.Futures.{CheckpointNeeded, MessageNeeded}
 use Rattle.futures.specs.Sheet.{holderLines, sheet}
 use Rattle.futures.specs.Steps.{afterCheckpoint, afterRollback, afterSend}
 use Rattle.keeper.specs.Answers.{Answer, answer}
 use Rattle.process_set.specs.Sets.{member}
-use Rattle.refusals.specs.CallChecks.{checkpointCallChecks, keepSheetChecks, lineOfSetChecks, sendCallChecks}
-use Rattle.run_table.specs.Checks.{Accepted, firstCaught, tableChecks}
+use Rattle.refusals.specs.CallChecks.{checkpointCallChecks, keepSheetChecks, lineOfSetChecks, lineUnderChecks}
+use Rattle.refusals.specs.CallChecks.{sendCallChecks}
+use Rattle.run_table.specs.Checks.{Accepted, Check, firstCaught, tableChecks}
 use Rattle.run_table.specs.Format.{decode, encode}
 use Rattle.run_table.specs.Lists.{tabulate}
 use Rattle.run_table.specs.Numbers.{u16At, u16s}
 use Rattle.run_table.specs.Table.{Table, processCount}
 
 -- ---- lines
--- The recovery line of the run: the table's checks, 16.
-unfoldable pub recoveryLineAnswer : List ℕ → ℕ → Answer
-recoveryLineAnswer table room = answer (tableChecks table) (u16s (recoveryLine (decode table))) room
+-- The answer of every line call: the line under a ceiling. Checks: the call's, 16.
+unfoldable pub lineAnswer : List Check → List ℕ → List ℕ → ℕ → Answer
+lineAnswer checks table ceiling room = answer checks (u16s (lineUnder (decode table .messages) ceiling)) room
 
--- The line of a set: its checks, 16.
+-- The line under ceilings that the caller lends.
+unfoldable pub lineUnderAnswer : List ℕ → List ℕ → ℕ → Answer
+lineUnderAnswer table ceilings room = lineAnswer (lineUnderChecks table ceilings) table ceilings room
+
+-- The line of a set: that under the set's ceiling.
 unfoldable pub lineOfSetAnswer : List ℕ → ℕ → ℕ → Answer
-lineOfSetAnswer table set room = answer (lineOfSetChecks table set) (u16s (lineOf (decode table) (member set))) room
+lineOfSetAnswer table set room =
+    lineAnswer (lineOfSetChecks table set) table (ceilingOf (decode table) (member set)) room
 
--- The line that an answer's first N numbers give is the latest consistent one, of the table's messages,
--- under this ceiling.
+-- The recovery line of the run: that under the ceiling of all processes. Of its checks all but 16 are the table's.
+unfoldable pub recoveryLineAnswer : List ℕ → ℕ → Answer
+recoveryLineAnswer table room = lineAnswer (tableChecks table) table (ceilingOf (decode table) (λ p. true)) room
+
+-- What a line call leaves: the line that an answer's first N numbers give is the latest consistent one, of the
+-- table's messages, under this ceiling.
 unfoldable pub HoldsLatest : List ℕ → List ℕ → List ℕ → Type 0
 HoldsLatest table ceiling buffer =
     Latest (decode table .messages) (asLine ceiling)

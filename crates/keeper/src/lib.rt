@@ -6,7 +6,9 @@
 // Each call reads alike: its refusal by the checks before 16, the size of its answer, 16, the answer.
 pub mod sizes;
 
+use chosen_ceilings::put_line_under;
 use lines::recovery_line;
+use refusals::ceilings_refusal;
 use refusals::checkpoint_refusal;
 use refusals::send_refusal;
 use refusals::set_refusal;
@@ -33,8 +35,8 @@ ghost use Rattle.consistency.specs.Ceilings.{ceilingOf};
 ghost use Rattle.futures.specs.Steps.{checkpoint, rollback, send, step};
 ghost use Rattle.keeper.specs.Answers.{Yields};
 ghost use Rattle.keeper.specs.Calls.{HoldsLatest, HoldsSheet, HoldsTable, scratchAfter};
-ghost use Rattle.keeper.specs.Calls.{checkpointAnswer, keepSheetAnswer, lineOfSetAnswer, recoveryLineAnswer};
-ghost use Rattle.keeper.specs.Calls.{rollbackAnswer, sendAnswer};
+ghost use Rattle.keeper.specs.Calls.{checkpointAnswer, keepSheetAnswer, lineOfSetAnswer, lineUnderAnswer};
+ghost use Rattle.keeper.specs.Calls.{recoveryLineAnswer, rollbackAnswer, sendAnswer};
 ghost use Rattle.process_set.specs.Sets.{member};
 ghost use Rattle.run_table.specs.Checks.{tableRefusal};
 ghost use Rattle.run_table.specs.Format.{decode};
@@ -90,6 +92,34 @@ pub extern "C" fn keeper_line_of_set(
         return 16;
     }
     lines::put_line_of_set(table, set, answer);
+    *written = size;
+    0
+}
+
+// The line under ceilings: N numbers by process. The list has a ceiling for each process, at most its
+// count, which stands for its virtual checkpoint.
+#[no_mangle]
+pub extern "C" fn keeper_line_under(
+    table: &[u8],
+    ceilings: &[u16],
+    answer: &mut [u8],
+    written: &mut usize,
+) -> u32
+    ensures outcome { λ r. ⌜ Yields
+        (lineUnderAnswer (now (table .entry)) (now (ceilings .entry)) (length (now (answer .entry)))) r
+        (now (answer .entry)) (now (answer .exit)) (now (written .entry)) (now (written .exit)) ⌝ }
+    ensures latest { λ (r : ℕ). ⌜ (r ≡ 0 → HoldsLatest (now (table .entry)) (now (ceilings .entry))
+        (now (answer .exit))) ⌝ }
+{
+    let refusal = ceilings_refusal(table, ceilings);
+    if refusal != 0 {
+        return refusal;
+    }
+    let size = line_size(table);
+    if answer.len() < size {
+        return 16;
+    }
+    put_line_under(table, ceilings, answer);
     *written = size;
     0
 }

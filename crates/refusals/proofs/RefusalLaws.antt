@@ -1,6 +1,7 @@
 -- The refusals of the calls on a table: the table's checks, and behind them the call's own.
 --     table-caught, own-caught    the call's refusal, where the table is refused and where it is accepted
 --     table-accepted              where no check of the call catches, none of the table's does
+--     own-same                    own checks that refuse alike, behind the table's
 --     Quiet                       none of a call's checks before 16 catches
 --     QuietCall, quiet-call       so it is, of a call on a table, by the refusal that was found
 --     quiet-by                    then the check of any number is quiet
@@ -9,14 +10,14 @@
 --     short-scratch, long-scratch, scratch-long    15, by the scratch's length
 -- Assumes nothing.
 use mathlib.Core.Bool.{Bool, true, false, _||_}
-use mathlib.Core.List.{List}
+use mathlib.Core.List.{List, _++_}
 use mathlib.Core.Path.{_≡_, refl, sym, _∙_}
-use Prim.Native.Nat.{ℕ, _*_, _≤_, _<_}
+use Prim.Native.Nat.{ℕ, zero, suc, _*_, _≤_, _<_}
 use native.Mathlib.Omega.{arith}
 use borrow.Author.Tests.{le-leb, le-ltb, lt-leb, lt-ltb, ltb-false}
 use lib.Dec.{leb}
 use Rattle.refusals.specs.CallChecks.{keepSheetChecks, onTable}
-use Rattle.run_table.proofs.CheckLaws.{append-passed, areRefusals, caught-first, caughtBy, passed, quiet-front, quiet-none, quiet-number}
+use Rattle.run_table.proofs.CheckLaws.{append-passed, append-stopped, areRefusals, caught-first, caughtBy, passed, quiet-front, quiet-none, quiet-number}
 use Rattle.run_table.proofs.CheckLaws.{stopped, table-refusals}
 use Rattle.run_table.specs.Checks.{Check, firstCaught, tableChecks, tableRefusal}
 use Rattle.run_table.specs.Format.{decode}
@@ -35,6 +36,17 @@ module _ (table : List ℕ) (own : List Check) where
   unfolding tableRefusal
   table-accepted quiet = quiet-front (tableChecks table) own quiet
 
+pub own-same : (table : List ℕ) (own own′ : List Check) → firstCaught own ≡ firstCaught own′
+    → firstCaught (onTable table own) ≡ firstCaught (onTable table own′)
+own-same table own own′ e = go (firstCaught front) refl
+  where
+    front : List Check
+    front = tableChecks table
+
+    go : (n : ℕ) → firstCaught front ≡ n → firstCaught (front ++ own) ≡ firstCaught (front ++ own′)
+    go zero q = append-passed front own (table-refusals table) q ∙ e ∙ sym (append-passed front own′ (table-refusals table) q)
+    go (suc n) q = append-stopped front own n q ∙ sym (append-stopped front own′ n q)
+
 -- None of these checks catches; each has the number of a refusal.
 pub record Quiet (checks : List Check) : Type 0 where
   pub refusals : areRefusals checks ≡ true
@@ -48,8 +60,8 @@ pub record QuietCall (table : List ℕ) (checks : List Check) : Type 0 where
 pub quiet-call : (table : List ℕ) (own : List Check) → areRefusals own ≡ true → {r : ℕ} → r ≡ firstCaught (onTable table own) → r ≡ 0
     → QuietCall table (onTable table own)
 unfolding tableChecks areRefusals
-quiet-call table own refusals e zero =
-    record { accepted = table-accepted table own (sym e ∙ zero); quiet = record { refusals = refusals; quiet = sym e ∙ zero } }
+quiet-call table own refusals e none =
+    record { accepted = table-accepted table own (sym e ∙ none); quiet = record { refusals = refusals; quiet = sym e ∙ none } }
 
 pub quiet-by : {table : List ℕ} {checks : List Check} → QuietCall table checks → (n : ℕ) → caughtBy n checks ≡ false
 quiet-by {checks = checks} q = quiet-number checks (q .quiet .refusals) (q .quiet .quiet)

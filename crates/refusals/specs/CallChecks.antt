@@ -1,8 +1,11 @@
 -- The checks of each call on a table before 16, in checking order, from the table's bytes and the call's other
 -- arguments (docs/MANUAL.md, "Refusals"). Assumes nothing.
+use mathlib.Core.Bool.{not}
 use mathlib.Core.List.{List, [], _∷_, _++_}
 use Prim.Native.Nat.{ℕ, _*_}
-use lib.Dec.{leb, ltb}
+use lib.Dec.{eqb, leb, ltb}
+use lib.ListN.{length}
+use Rattle.consistency.specs.Ceilings.{aboveCounts}
 use Rattle.futures.specs.Steps.{checkpointChecks, sendChecks}
 use Rattle.process_set.specs.Sets.{highBit}
 use Rattle.run_table.specs.Checks.{Check, tableChecks}
@@ -17,6 +20,13 @@ onTable table own = tableChecks table ++ own
 unfoldable pub lineOfSetChecks : List ℕ → ℕ → List Check
 lineOfSetChecks table set =
     onTable table (record { caught = highBit set (processCount (decode table)); number = 12 } ∷ [])
+
+-- The line under ceilings: the table's; 17, that they are not N; 18, that one is above the count of its process.
+unfoldable pub lineUnderChecks : List ℕ → List ℕ → List Check
+lineUnderChecks table ceilings =
+    onTable table (record { caught = not (eqb (length ceilings) (processCount (decode table))); number = 17 }
+    ∷ record { caught = aboveCounts (decode table) ceilings; number = 18 }
+    ∷ [])
 
 -- A send: the table's; 10 and 11; 14, that M is 4,096 already.
 unfoldable pub sendCallChecks : List ℕ → ℕ → ℕ → List Check

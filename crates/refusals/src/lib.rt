@@ -1,5 +1,6 @@
 // The refusals of the calls: the number of the first check before 16 that catches, or 0. The table's
 // checks come first, so what stands behind them judges an accepted table.
+use chosen_ceilings::above_counts;
 use process_set::has_high_bit;
 use run_table::checks::check;
 use run_table::format::MOST_CHECKPOINTS;
@@ -10,7 +11,7 @@ use steps::checkpoint::bad_position;
 use steps::checkpoint::not_rising;
 ghost use mathlib.Core.Path.{_≡_};
 ghost use Rattle.refusals.specs.CallChecks.{checkpointCallChecks, keepSheetChecks, lineOfSetChecks};
-ghost use Rattle.refusals.specs.CallChecks.{sendCallChecks};
+ghost use Rattle.refusals.specs.CallChecks.{lineUnderChecks, sendCallChecks};
 ghost use Rattle.run_table.specs.Checks.{firstCaught};
 
 // The line of a set: the table's checks, 12.
@@ -23,6 +24,23 @@ pub fn set_refusal(table: &[u8], set: u32) -> u32
     }
     if has_high_bit(set, parts::process_count(table)) {
         return 12;
+    }
+    0
+}
+
+// The line under ceilings: the table's checks, 17, 18.
+pub fn ceilings_refusal(table: &[u8], ceilings: &[u16]) -> u32
+    ensures { λ r. ⌜ r ≡ firstCaught (lineUnderChecks (now (table .entry)) (now (ceilings .entry))) ⌝ }
+{
+    let refusal = check(table);
+    if refusal != 0 {
+        return refusal;
+    }
+    if ceilings.len() != parts::process_count(table) {
+        return 17;
+    }
+    if above_counts(table, ceilings) {
+        return 18;
     }
     0
 }

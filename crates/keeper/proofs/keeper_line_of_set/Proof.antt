@@ -3,11 +3,12 @@
 use borrow.Author.Needs.{needs}
 use mathlib.Core.Path.{refl}
 use denote.Ref.{now}
-use Rattle.consistency.proofs.CeilingLaws.{set-length}
+use Rattle.consistency.proofs.CeilingLaws.{set-ceiling, set-length}
 use Rattle.keeper.proofs.AnswerLaws.{answered, refused, sixteen, too-short}
-use Rattle.keeper.proofs.LineAnswers.{line-room, set-holds}
+use Rattle.keeper.proofs.LineAnswers.{line-holds, line-room}
 use Rattle.refusals.proofs.RefusalLaws.{QuietCall, quiet-call}
-use Rattle.keeper.specs.Calls.{lineOfSetAnswer}
+use Rattle.consistency.specs.Ceilings.{lineOf}
+use Rattle.keeper.specs.Calls.{lineAnswer, lineOfSetAnswer}
 use Rattle.refusals.specs.CallChecks.{lineOfSetChecks}
 use Rattle.run_table.proofs.CheckLaws.{areRefusals}
 use Rattle.keeper.proofs.keeper_line_of_set.Statement.{statement}
@@ -30,7 +31,7 @@ quiet c = quiet-call _ _ refl (c .before .set-refusal .ensures) (c .if1 .left)
 
 -- ---- the needs, in the code's course
 pub keeper-line-of-set-spec : {M : Type 1} → statement M
-unfolding lineOfSetAnswer
+unfolding lineOfSetAnswer lineAnswer lineOf
 keeper-line-of-set-spec =
     tie.close
     (tie.spec
@@ -52,4 +53,4 @@ keeper-line-of-set-spec =
     let size = sized put .line-size .ensures _ (set-length _ _) in
     let here = quiet (judged (sized put)) in
     let line = put .put-line-of-set .ensures in
-    (answered _ _ _ (here .quiet) size (put .before .before .if2 .left) line, λ _. set-holds _ (here .accepted) _ _ line)))
+    (answered _ _ _ (here .quiet) size (put .before .before .if2 .left) line, λ _. line-holds _ (here .accepted) (set-ceiling _ _) _ line)))

@@ -4,12 +4,12 @@ use borrow.Author.Needs.{needs}
 use mathlib.Core.List.{[]}
 use mathlib.Core.Path.{refl}
 use denote.Ref.{now}
-use Rattle.consistency.proofs.CeilingLaws.{set-length}
-use Rattle.consistency.specs.Ceilings.{recoveryLine}
+use Rattle.consistency.proofs.CeilingLaws.{set-ceiling, set-length}
+use Rattle.consistency.specs.Ceilings.{lineOf, recoveryLine}
 use Rattle.keeper.proofs.AnswerLaws.{answered, refused, sixteen, too-short}
-use Rattle.keeper.proofs.LineAnswers.{line-room, recovery-put, set-holds}
+use Rattle.keeper.proofs.LineAnswers.{line-holds, line-room, recovery-put}
 use Rattle.refusals.proofs.RefusalLaws.{QuietCall, quiet-call}
-use Rattle.keeper.specs.Calls.{recoveryLineAnswer}
+use Rattle.keeper.specs.Calls.{lineAnswer, recoveryLineAnswer}
 use Rattle.process_set.specs.Sets.{allProcesses}
 use Rattle.run_table.proofs.CheckLaws.{areRefusals}
 use Rattle.run_table.specs.Checks.{tableChecks, tableRefusal}
@@ -33,7 +33,7 @@ quiet c = quiet-call _ [] refl (c .before .check .ensures) (c .if1 .left)
 
 -- ---- the needs, in the code's course
 pub keeper-recovery-line-spec : {M : Type 1} → statement M
-unfolding recoveryLineAnswer tableRefusal recoveryLine allProcesses
+unfolding recoveryLineAnswer lineAnswer tableRefusal recoveryLine lineOf allProcesses
 keeper-recovery-line-spec =
     tie.close
     (tie.spec
@@ -55,4 +55,4 @@ keeper-recovery-line-spec =
     let size = sized put .line-size .ensures _ (set-length _ _) in
     let here = quiet (judged (sized put)) in
     let line = recovery-put _ (here .accepted) _ (put .put-line-of-set .ensures) in
-    (answered _ _ _ (here .quiet) size (put .before .before .if2 .left) line, λ _. set-holds _ (here .accepted) _ _ line)))
+    (answered _ _ _ (here .quiet) size (put .before .before .if2 .left) line, λ _. line-holds _ (here .accepted) (set-ceiling _ _) _ line)))
