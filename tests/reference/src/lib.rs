@@ -3,15 +3,16 @@
 //! comparison, so it prefers short and direct ways, and ways that do not
 //! resemble the lowering rule, over speed and small memory.
 //!
-//! Doc comments quote the sentence of the scope document that they follow.
+//! Doc comments quote the sentence that they follow, of the scope document or
+//! of a change request.
 //!
 //! * `table`   - lookups in raw bytes, the table's checks, reading and writing
-//! * `lines`   - orphans, consistency and latest consistent lines
+//! * `lines`   - orphans, consistency and latest consistent lines under ceilings
 //! * `steps`   - send, save and fall back
 //! * `sheet`   - the keep sheet
 //! * `futures` - a search over lists of steps for what they need
 //! * `listing` - the text of the listing program
-//! * `gen`     - tables made by chance, by pattern and by enumeration
+//! * `gen`     - tables made by chance, by pattern and by enumeration; ceilings
 
 pub mod futures;
 pub mod gen;
@@ -22,7 +23,7 @@ pub mod steps;
 pub mod table;
 
 pub use futures::needed_by_futures;
-pub use lines::{line_of_set, recovery_line};
+pub use lines::{line_of_set, line_under, recovery_line};
 pub use listing::listing;
 pub use sheet::keep_sheet;
 pub use steps::{fall_back, save, send};

@@ -1,5 +1,6 @@
 //! Lines: orphans, consistency, and the latest consistent line under a
-//! ceiling, found in two ways.
+//! ceiling, found in two ways. The ceiling is lent, or is that of a set: every
+//! line here is the line under some ceiling.
 
 use std::cmp::Reverse;
 use std::collections::VecDeque;
@@ -44,8 +45,9 @@ pub fn all_hold(n: usize) -> u32 {
     (0..n).map(single_holder).sum()
 }
 
-/// "a holding process may stand at no later than its last state, count - 1;
-/// any other may also stand at its new state, numbered count".
+/// The ceiling of a set: "A holding set becomes one kind of ceiling". "a
+/// holding process may stand at no later than its last state, count - 1; any
+/// other may also stand at its new state, numbered count".
 pub fn ceiling(table: &Table, set: u32) -> Line {
     table
         .counts
@@ -149,8 +151,8 @@ impl SendIndex {
     }
 }
 
-/// "so a latest one exists under any ceiling.", found with the work list of
-/// [`SendIndex::latest_under`]. Fit for the largest tables.
+/// "the latest consistent line at or below all ceilings.", found with the work
+/// list of [`SendIndex::latest_under`]. Fit for the largest tables.
 pub fn line_by_work_list(table: &Table, ceiling: &[u32]) -> Line {
     SendIndex::new(table).latest_under(ceiling)
 }
@@ -208,4 +210,28 @@ pub fn line_of_set(bytes: &[u8], set: u32, answer_len: usize) -> Outcome {
         return Outcome::refused(12);
     }
     Outcome::answered(line_to_bytes(&line_of_holders(&table, set)), answer_len)
+}
+
+/// The call for the line under lent ceilings, "one ceiling for each process, a
+/// state number up to and including its count, where the count stands for the
+/// new state. The answer is the latest consistent line at or below all
+/// ceilings."
+///
+/// Checks: the table's, 17, 18, 16.
+pub fn line_under(bytes: &[u8], ceilings: &[u16], answer_len: usize) -> Outcome {
+    let table = match Table::read(bytes) {
+        Err(number) => return Outcome::refused(number),
+        Ok(table) => table,
+    };
+    // 17. The list of ceilings does not have N numbers.
+    if ceilings.len() != table.processes() {
+        return Outcome::refused(17);
+    }
+    // 18. A ceiling is above its process's count.
+    let ceiling: Line = ceilings.iter().map(|&number| u32::from(number)).collect();
+    if (0..ceiling.len()).any(|p| ceiling[p] > table.counts[p]) {
+        return Outcome::refused(18);
+    }
+    let line = line_by_work_list(&table, &ceiling);
+    Outcome::answered(line_to_bytes(&line), answer_len)
 }

@@ -14,6 +14,7 @@ const USAGE: &str = "usage: reference list < table
 calls: check
        line ANSWER_LEN
        set SET ANSWER_LEN
+       under ANSWER_LEN CEILING...
        send FROM TO ANSWER_LEN
        save PROCESS ANSWER_LEN POSITION...
        fall-back ANSWER_LEN
@@ -31,17 +32,21 @@ fn number<T: std::str::FromStr>(args: &[String], at: usize) -> Option<T> {
     args.get(at)?.parse().ok()
 }
 
+/// The decimal arguments from one on.
+fn list(args: &[String], from: usize) -> Option<Vec<u16>> {
+    (from..args.len()).map(|at| number(args, at)).collect()
+}
+
 /// The call that the arguments name, done on the table.
 fn outcome(bytes: &[u8], args: &[String]) -> Option<Outcome> {
     Some(match (args.first()?.as_str(), args.len()) {
         ("check", 1) => Outcome::refused(reference::check_table(bytes)),
         ("line", 2) => reference::recovery_line(bytes, number(args, 1)?),
         ("set", 3) => reference::line_of_set(bytes, number(args, 1)?, number(args, 2)?),
+        ("under", 2..) => reference::line_under(bytes, &list(args, 2)?, number(args, 1)?),
         ("send", 4) => reference::send(bytes, number(args, 1)?, number(args, 2)?, number(args, 3)?),
         ("save", 3..) => {
-            let list = (3..args.len()).map(|at| number(args, at));
-            let list = list.collect::<Option<Vec<u16>>>()?;
-            reference::save(bytes, number(args, 1)?, &list, number(args, 2)?)
+            reference::save(bytes, number(args, 1)?, &list(args, 3)?, number(args, 2)?)
         }
         ("fall-back", 2) => reference::fall_back(bytes, number(args, 1)?),
         ("keep", 3) => reference::keep_sheet(bytes, number(args, 1)?, number(args, 2)?),

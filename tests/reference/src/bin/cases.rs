@@ -9,6 +9,9 @@ use reference as keeper;
 /// The bytes of the test programs' table buffer.
 const SPACE: usize = 33_000;
 
+/// The numbers of their list of ceilings.
+const CEILINGS: usize = 64;
+
 struct Bench {
     table: Vec<u8>,
     answer: Vec<u8>,
@@ -121,7 +124,8 @@ impl Bench {
             return;
         }
         if ![
-            "check", "whole", "lookup", "recovery", "hold", "send", "save", "fall", "sheet",
+            "check", "whole", "lookup", "recovery", "hold", "under", "send", "save", "fall",
+            "sheet",
         ]
         .contains(&word)
         {
@@ -154,6 +158,12 @@ impl Bench {
             }
             "recovery" => self.outcome(keeper::recovery_line(&whole, a[0])),
             "hold" => self.outcome(keeper::line_of_set(&whole, a[0] as u32, a[1])),
+            "under" => {
+                // The last ceiling given goes on to the end; 0 if none is.
+                let mut list: Vec<u16> = small[2..].iter().map(|&c| c as u16).collect();
+                list.resize(a[0].min(CEILINGS), list.last().copied().unwrap_or(0));
+                self.outcome(keeper::line_under(&whole, &list, a[1]));
+            }
             "send" => self.outcome(keeper::send(&whole, small[0] as u16, small[1] as u16, a[2])),
             "save" => {
                 let list: Vec<u16> = small[2..].iter().map(|&k| k as u16).collect();
