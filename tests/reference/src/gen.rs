@@ -1,5 +1,6 @@
 //! Tables for tests: by chance, by pattern, damaged on purpose, and all of
-//! them up to a size. The same seed always gives the same table.
+//! them up to a size; and ceilings for a table. The same seed always gives the
+//! same table.
 
 use crate::steps::{do_fall_back, do_save, do_send};
 use crate::table::{
@@ -310,6 +311,69 @@ pub fn limit_tables(rng: &mut Rng) -> Vec<Table> {
     }
     tables.push(stairs);
     tables
+}
+
+// ---------------------------------------------------------------------------
+// Ceilings for an accepted table.
+
+/// Ceilings by chance that no check refuses: "one ceiling for each process, a
+/// state number up to and including its count". Some are 0, the last state or
+/// the count, some stand at a send or receipt of their process or next to it,
+/// the others anywhere.
+pub fn ceilings(rng: &mut Rng, table: &Table) -> Vec<u16> {
+    let mut list = Vec::new();
+    for (p, &count) in table.counts.iter().enumerate() {
+        let count = count as usize;
+        let at = match rng.between(0, 6) {
+            0 => 0,
+            1 => count - 1,
+            2 | 3 => count,
+            4 => rng.between(0, count),
+            _ => near_a_message(rng, table, p).unwrap_or(count).min(count),
+        };
+        list.push(at as u16);
+    }
+    list
+}
+
+/// The number of a send or receipt of process p, or one next to it.
+fn near_a_message(rng: &mut Rng, table: &Table, p: usize) -> Option<usize> {
+    let messages = table.messages.iter();
+    let numbers: Vec<u32> = messages
+        .filter(|message| p == message.sender || p == message.receiver)
+        .map(|message| {
+            if p == message.sender {
+                message.sent
+            } else {
+                message.received
+            }
+        })
+        .collect();
+    let last = numbers.len().checked_sub(1)?;
+    let number = numbers[rng.between(0, last)] as usize;
+    Some((number + rng.between(0, 2)).saturating_sub(1))
+}
+
+/// Lists on both sides of "A ceiling list whose length isn't N gives 17 and a
+/// ceiling above its process's count gives 18": the counts, the last states,
+/// zeros; the counts with one of them 0, lower by one, higher by one or
+/// 65,535; and lists of 0, N - 1 and N + 1 numbers, zeros or 65,535.
+pub fn boundary_ceilings(table: &Table) -> Vec<Vec<u16>> {
+    let n = table.processes();
+    let counts: Vec<u16> = table.counts.iter().map(|&count| count as u16).collect();
+    let last = counts.iter().map(|count| count - 1).collect();
+    let mut lists = vec![counts.clone(), last, vec![0; n]];
+    for p in 0..n {
+        for at in [0, counts[p] - 1, counts[p] + 1, u16::MAX] {
+            let mut list = counts.clone();
+            list[p] = at;
+            lists.push(list);
+        }
+    }
+    for length in [0, n - 1, n + 1] {
+        lists.extend([vec![0; length], vec![u16::MAX; length]]);
+    }
+    lists
 }
 
 // ---------------------------------------------------------------------------

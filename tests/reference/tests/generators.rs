@@ -71,6 +71,80 @@ fn chance_tables_are_not_trivial() {
     }
 }
 
+/// Chance ceilings are accepted, and not all of the easy kinds: those of a set,
+/// those that are lines themselves, those under which all goes back to zero.
+#[test]
+fn chance_ceilings_are_accepted_and_not_trivial() {
+    let mut rng = Rng::new(18);
+    let (mut lowered, mut stayed, mut zeros, mut no_set) = (0, 0, 0, 0);
+    for round in 0..900 {
+        let n = rng.between(1, 8);
+        let m = rng.between(0, 40);
+        let table = match round % 3 {
+            0 => history(&mut rng, n, m),
+            1 => clustered(&mut rng, n, m),
+            _ => arbitrary(&mut rng, n, m, 20),
+        };
+        let list = ceilings(&mut rng, &table);
+        assert_eq!(list.len(), n);
+        for (p, &at) in list.iter().enumerate() {
+            assert!(u32::from(at) <= table.counts[p], "{list:?} {table:?}");
+        }
+        let outcome = line_under(&table.to_bytes(), &list, 2 * n);
+        assert_eq!(outcome.number, 0);
+        let bytes: Vec<u8> = list.iter().flat_map(|at| at.to_le_bytes()).collect();
+        lowered += usize::from(outcome.answer != bytes);
+        stayed += usize::from(outcome.answer == bytes);
+        zeros += usize::from(outcome.answer.iter().all(|&byte| byte == 0));
+        no_set += usize::from((0..n).any(|p| u32::from(list[p]) + 1 < table.counts[p]));
+    }
+    assert!(
+        lowered > 300 && stayed > 200 && zeros < 500 && no_set > 500,
+        "{lowered} {stayed} {zeros} {no_set}"
+    );
+}
+
+#[test]
+fn boundary_ceilings_are_on_both_sides() {
+    let table = Table {
+        counts: vec![1, 4096],
+        messages: Vec::new(),
+    };
+    let lists = boundary_ceilings(&table);
+    let expected: [(&[u16], u32); 17] = [
+        (&[1, 4096], 0),
+        (&[0, 4095], 0),
+        (&[0, 0], 0),
+        (&[0, 4096], 0),
+        (&[0, 4096], 0),
+        (&[2, 4096], 18),
+        (&[65535, 4096], 18),
+        (&[1, 0], 0),
+        (&[1, 4095], 0),
+        (&[1, 4097], 18),
+        (&[1, 65535], 18),
+        (&[], 17),
+        (&[], 17),
+        (&[0], 17),
+        (&[65535], 17),
+        (&[0, 0, 0], 17),
+        (&[65535, 65535, 65535], 17),
+    ];
+    assert_eq!(lists, expected.map(|(list, _)| list.to_vec()));
+    for (list, number) in expected {
+        assert_eq!(line_under(&table.to_bytes(), list, 4).number, number);
+    }
+    // One process and thirty-two.
+    for n in [1, 32] {
+        let mut met = BTreeMap::new();
+        for list in boundary_ceilings(&Table::start(n)) {
+            let number = line_under(&Table::start(n).to_bytes(), &list, 64).number;
+            *met.entry(number).or_insert(0) += 1;
+        }
+        assert_eq!(met, BTreeMap::from([(0, 3 + 2 * n), (17, 6), (18, 2 * n)]));
+    }
+}
+
 #[test]
 fn damage_meets_its_refusal() {
     let mut rng = Rng::new(13);
@@ -148,6 +222,9 @@ fn any_bytes_can_be_looked_up_and_refused() {
             }
         }
         assert_eq!(recovery_line(&bytes, 64).number, number);
+        let n = if number == 0 { processes(&bytes) } else { 99 };
+        let zeros = vec![0; usize::from(n)];
+        assert_eq!(line_under(&bytes, &zeros, 64).number, number);
         assert_eq!(keep_sheet(&bytes, 1024, 20_000).number, number);
         assert_eq!(
             listing(&bytes) == format!("refused {number}\n"),
