@@ -1,6 +1,8 @@
 //! The ways to find a line agree, on all small tables and on chance ones, and
 //! the general claims about lines and steps hold.
 
+use std::collections::HashMap;
+
 use reference::gen::*;
 use reference::lines::*;
 use reference::sheet::{kept, kept_under};
@@ -25,31 +27,39 @@ fn line_by_lowering(table: &Table, ceiling: &[u32]) -> Line {
     }
 }
 
-/// All sets of holders: work list, lowering and (if small) enumeration agree.
-fn lines_agree(table: &Table, enumerate: bool) {
-    let n = table.processes();
-    let index = SendIndex::new(table);
-    let sets: Vec<u32> = if n <= 4 {
+/// Under one ceiling: work list, lowering and (if small) enumeration agree.
+fn line_agrees(table: &Table, index: &SendIndex, ceiling: &[u32], enumerate: bool) -> Line {
+    let line = index.latest_under(ceiling);
+    assert!(is_consistent(table, &line));
+    assert_eq!(line, line_by_work_list(table, ceiling));
+    let lowered = line_by_lowering(table, ceiling);
+    assert_eq!(line, lowered, "{table:?} {ceiling:?}");
+    if enumerate {
+        let enumerated = line_by_enumeration(table, ceiling);
+        assert_eq!(line, enumerated, "{table:?} {ceiling:?}");
+    }
+    line
+}
+
+/// All sets of holders of few processes; of many the single ones, none, all
+/// and all but the last.
+fn sets_of(n: usize) -> Vec<u32> {
+    if n <= 4 {
         (0..1 << n).collect()
     } else {
         (0..n)
             .map(single_holder)
             .chain([0, all_hold(n), all_hold(n - 1)])
             .collect()
-    };
-    for set in sets {
-        let ceiling = ceiling(table, set);
-        let line = index.latest_under(&ceiling);
-        assert!(is_consistent(table, &line));
-        assert_eq!(line, line_by_work_list(table, &ceiling));
-        assert_eq!(line, line_by_lowering(table, &ceiling), "{table:?} {set}");
-        if enumerate {
-            assert_eq!(
-                line,
-                line_by_enumeration(table, &ceiling),
-                "{table:?} {set}"
-            );
-        }
+    }
+}
+
+/// The ways agree under the ceilings of sets.
+fn lines_agree(table: &Table, enumerate: bool) {
+    let n = table.processes();
+    let index = SendIndex::new(table);
+    for set in sets_of(n) {
+        let line = line_agrees(table, &index, &ceiling(table, set), enumerate);
         if set == 0 {
             // "The line of the empty set is the counts."
             assert_eq!(line, table.counts);
@@ -57,6 +67,201 @@ fn lines_agree(table: &Table, enumerate: bool) {
     }
     // "The line of zeros is always consistent".
     assert!(is_consistent(table, &vec![0; n]));
+}
+
+/// Every list of numbers at or below the given ones, place by place.
+fn all_at_or_below(top: &[u32]) -> Vec<Vec<u16>> {
+    let mut lists = vec![Vec::new()];
+    for &most in top {
+        let longer = |list: &Vec<u16>, at: u32| [&list[..], &[at as u16]].concat();
+        lists = lists
+            .iter()
+            .flat_map(|list| (0..=most).map(move |at| longer(list, at)))
+            .collect();
+    }
+    lists
+}
+
+/// Whether the one is at or below the other in every place.
+fn at_or_below(one: &[u16], other: &[u16]) -> bool {
+    one.len() == other.len() && one.iter().zip(other).all(|(a, b)| a <= b)
+}
+
+/// "of line L when y >= L of j and r <= L of i", from lookups in the bytes.
+fn has_orphan(bytes: &[u8], line: &[u16]) -> bool {
+    (0..usize::from(messages(bytes))).any(|k| {
+        let (j, i) = (sender(bytes, k), receiver(bytes, k));
+        let (y, r) = (sent(bytes, k), received(bytes, k));
+        r != 0 && y >= line[usize::from(j)] && r <= line[usize::from(i)]
+    })
+}
+
+/// The line that a call answers.
+fn line_in(outcome: Outcome) -> Vec<u16> {
+    assert_eq!(outcome.number, 0);
+    let pairs = outcome.answer.chunks_exact(2);
+    pairs
+        .map(|pair| u16::from_le_bytes([pair[0], pair[1]]))
+        .collect()
+}
+
+/// The small tables whose every ceiling is tried.
+fn small_tables() -> impl Iterator<Item = Table> {
+    [(2, 2, 4), (2, 3, 3), (2, 4, 2), (3, 2, 2), (3, 3, 1)]
+        .into_iter()
+        .flat_map(|(n, c, m)| all_tables(n, c, m))
+}
+
+/// All ways to find a line, under all ceilings.
+#[test]
+fn under_all_ceilings_of_all_small_tables() {
+    let mut ceilings = 0;
+    for table in small_tables() {
+        let index = SendIndex::new(&table);
+        for ceiling in all_at_or_below(&table.counts) {
+            let ceiling: Line = ceiling.into_iter().map(u32::from).collect();
+            line_agrees(&table, &index, &ceiling, true);
+            ceilings += 1;
+        }
+    }
+    assert!(ceilings > 200_000, "{ceilings}");
+}
+
+/// "The answer is the latest consistent line at or below all ceilings.": it is
+/// consistent and not above a ceiling, and no consistent line that is not above
+/// a ceiling either is later at any process. All lines are tried.
+#[test]
+fn the_answer_is_the_latest_under_the_ceilings() {
+    for table in small_tables() {
+        let bytes = table.to_bytes();
+        let all = all_at_or_below(&table.counts);
+        let consistent: Vec<&Vec<u16>> = all
+            .iter()
+            .filter(|line| !has_orphan(&bytes, line))
+            .collect();
+        for ceiling in &all {
+            let line = line_in(line_under(&bytes, ceiling, 2 * ceiling.len()));
+            assert!(at_or_below(&line, ceiling));
+            assert!(!has_orphan(&bytes, &line));
+            for other in &consistent {
+                if at_or_below(other, ceiling) {
+                    assert!(at_or_below(other, &line), "{table:?} {ceiling:?}");
+                }
+            }
+        }
+    }
+}
+
+/// A lower ceiling never gives a later line, for all pairs of ceilings; under
+/// the smaller of any two the line is the smaller of their lines; and a line is
+/// the line under itself.
+#[test]
+fn lower_ceilings_give_lower_lines() {
+    let smaller = |one: &[u16], other: &[u16]| -> Vec<u16> {
+        let pairs = one.iter().zip(other);
+        pairs.map(|(&a, &b)| a.min(b)).collect()
+    };
+    for table in [(2, 3, 2), (2, 2, 3), (3, 2, 2)]
+        .into_iter()
+        .flat_map(|(n, c, m)| all_tables(n, c, m))
+    {
+        let bytes = table.to_bytes();
+        let all = all_at_or_below(&table.counts);
+        let line_at = |ceiling: &[u16]| line_in(line_under(&bytes, ceiling, 64));
+        let lines: HashMap<&[u16], Vec<u16>> = all
+            .iter()
+            .map(|ceiling| (&ceiling[..], line_at(ceiling)))
+            .collect();
+        for (low, line) in &lines {
+            assert_eq!(&lines[&line[..]], line);
+            for (high, other) in &lines {
+                if at_or_below(low, high) {
+                    assert!(at_or_below(line, other), "{table:?} {low:?} {high:?}");
+                }
+                let both = &lines[&smaller(low, high)[..]];
+                assert_eq!(both, &smaller(line, other), "{table:?} {low:?} {high:?}");
+            }
+        }
+    }
+}
+
+/// "A holding set becomes one kind of ceiling": the line under the counts, with
+/// those of the holders lowered by one, is the line of the set.
+#[test]
+fn a_set_is_one_kind_of_ceiling() {
+    let same = |table: &Table, sets: &[u32]| {
+        let bytes = table.to_bytes();
+        let n = table.processes();
+        for &set in sets {
+            let ceilings: Vec<u16> = (0..n)
+                .map(|p| count(&bytes, p) - (set >> p & 1) as u16)
+                .collect();
+            for room in [2 * n, 2 * n - 1] {
+                let under = line_under(&bytes, &ceilings, room);
+                assert_eq!(under, line_of_set(&bytes, set, room), "{table:?} {set}");
+            }
+        }
+        let last: Vec<u16> = (0..n).map(|p| count(&bytes, p) - 1).collect();
+        assert_eq!(line_under(&bytes, &last, 64), recovery_line(&bytes, 64));
+    };
+    for table in small_tables() {
+        same(&table, &Vec::from_iter(0..1 << table.processes()));
+    }
+    let mut rng = Rng::new(19);
+    for round in 0..300 {
+        let n = rng.between(1, 8);
+        let m = rng.between(0, 60);
+        let table = match round % 3 {
+            0 => arbitrary(&mut rng, n, m, 9),
+            1 => clustered(&mut rng, n, m),
+            _ => history(&mut rng, n, m),
+        };
+        same(&table, &Vec::from_iter(0..1 << n));
+    }
+    for table in limit_tables(&mut rng) {
+        same(&table, &sets_of(32));
+    }
+}
+
+/// Chance ceilings on chance tables, small ones with enumeration, and on the
+/// largest ones.
+#[test]
+fn under_chance_ceilings() {
+    let mut rng = Rng::new(20);
+    let agree = |rng: &mut Rng, table: &Table, times: usize, enumerate: bool| {
+        let index = SendIndex::new(table);
+        for _ in 0..times {
+            let list = ceilings(rng, table);
+            let ceiling: Line = list.iter().copied().map(u32::from).collect();
+            let line = line_agrees(table, &index, &ceiling, enumerate);
+            let outcome = line_under(&table.to_bytes(), &list, 64);
+            assert_eq!((outcome.number, outcome.answer), (0, line_to_bytes(&line)));
+        }
+    };
+    for round in 0..3000 {
+        let n = rng.between(1, 4);
+        let m = rng.between(0, 12);
+        let table = match round % 3 {
+            0 => arbitrary(&mut rng, n, m, 5),
+            1 => clustered(&mut rng, n, m),
+            _ => history(&mut rng, n, m),
+        };
+        let lines: u32 = table.counts.iter().map(|&count| count + 1).product();
+        agree(&mut rng, &table, 4, lines < 4000);
+    }
+    for table in limit_tables(&mut rng) {
+        agree(&mut rng, &table, 20, false);
+    }
+    for round in 0..20 {
+        let n = rng.between(2, 32);
+        let most = [2, 30, 4096][round % 3];
+        let table = arbitrary(&mut rng, n, 4096, most);
+        agree(&mut rng, &table, 10, false);
+        let table = clustered(&mut rng, n, 4096);
+        agree(&mut rng, &table, 10, false);
+        let table = ring_domino(&mut rng, n, 4096, Order::ALL[round % 5]);
+        agree(&mut rng, &table, 3, false);
+    }
 }
 
 #[test]

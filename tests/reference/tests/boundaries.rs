@@ -1,6 +1,6 @@
 //! Limits, buffers that just fit or just do not, and the order of the checks.
 
-use reference::gen::{arbitrary, history, limit_tables, staircase, Rng};
+use reference::gen::{arbitrary, ceilings, history, limit_tables, staircase, Rng};
 use reference::sheet::kept;
 use reference::*;
 
@@ -208,6 +208,115 @@ fn sets() {
     }
 }
 
+/// Each ceiling from 0 to one above the count, the others at their counts. Without
+/// messages the line is the ceilings themselves.
+#[test]
+fn ceilings_up_to_the_count() {
+    for counts in [vec![1], vec![5], vec![4096], vec![3, 1, 4096], vec![2; 32]] {
+        let n = counts.len();
+        let bytes = numbers(&[&[n as u16, 0], &counts[..]].concat());
+        for p in 0..n {
+            let count = counts[p];
+            let accepted = [0, 1, count / 2, count - 1, count];
+            for at in accepted {
+                let mut list = counts.clone();
+                list[p] = at;
+                let outcome = line_under(&bytes, &list, 2 * n);
+                assert_eq!(outcome.number, 0, "{list:?}");
+                assert_eq!(outcome.answer, numbers(&list));
+                assert_eq!(line_under(&bytes, &list, 2 * n - 1), Outcome::refused(16));
+            }
+            for at in [count + 1, count + 2, 4097, 32_768, 65_535] {
+                // The others as high, as low and as wrong as can be.
+                for others in [&counts, &vec![0; n], &vec![65_535; n]] {
+                    let mut list = others.clone();
+                    list[p] = at;
+                    for room in [2 * n, 2 * n - 1, 0] {
+                        assert_eq!(line_under(&bytes, &list, room), Outcome::refused(18));
+                    }
+                }
+            }
+        }
+    }
+}
+
+/// The ceiling of a process is compared with its own count, and not with that
+/// of another or with the largest.
+#[test]
+fn each_ceiling_has_its_own_count() {
+    let bytes = numbers(&[3, 0, 2, 7, 5]);
+    assert_eq!(
+        line_under(&bytes, &[2, 7, 5], 6).answer,
+        numbers(&[2, 7, 5])
+    );
+    for list in [[7, 2, 5], [5, 7, 2], [2, 5, 7], [3, 0, 0], [0, 8, 0]] {
+        assert_eq!(line_under(&bytes, &list, 6), Outcome::refused(18));
+    }
+}
+
+/// Any length but N gives 17, before 18 looks at a ceiling and before 16.
+#[test]
+fn lengths_of_the_list() {
+    for n in [1, 2, 3, 31, 32] {
+        let bytes = numbers(&[&[n as u16, 0], &vec![7; n][..]].concat());
+        let lengths = [
+            0,
+            n - 1,
+            n,
+            n + 1,
+            2 * n,
+            255,
+            256,
+            65_535,
+            65_536,
+            65_536 + n,
+        ];
+        for length in lengths {
+            for at in [0, 7, 8, 65_535] {
+                let list = vec![at; length];
+                let number = match (length == n, at <= 7) {
+                    (false, _) => 17,
+                    (true, false) => 18,
+                    (true, true) => 0,
+                };
+                assert_eq!(line_under(&bytes, &list, ROOM).number, number);
+                let short = if number == 0 { 16 } else { number };
+                assert_eq!(
+                    line_under(&bytes, &list, 2 * n - 1),
+                    Outcome::refused(short)
+                );
+                assert_eq!(line_under(&bytes, &list, 0), Outcome::refused(short));
+            }
+        }
+    }
+}
+
+/// A refused table answers its own number, whatever the list and the buffer.
+#[test]
+fn tables_before_ceilings() {
+    let refused = [
+        (vec![2, 0, 5], 1),
+        (numbers(&[0, 0]), 2),
+        (numbers(&[33, 0]), 2),
+        (numbers(&[2, 4097, 1, 1]), 3),
+        (numbers(&[2, 0, 1]), 4),
+        (numbers(&[2, 0, 1, 4097]), 5),
+        (numbers(&[2, 1, 2, 2, 2, 0, 1, 0]), 6),
+        (numbers(&[2, 1, 2, 2, 1, 0, 1, 0]), 7),
+        (numbers(&[2, 1, 2, 2, 0, 2, 1, 0]), 8),
+        (numbers(&[2, 1, 2, 2, 0, 1, 1, 2]), 9),
+    ];
+    for (bytes, number) in refused {
+        let lists: [&[u16]; 5] = [&[], &[0], &[0, 0], &[9, 9], &[9, 9, 9]];
+        for list in lists {
+            assert_eq!(line_under(&bytes, list, 0), Outcome::refused(number));
+            assert_eq!(line_under(&bytes, list, ROOM), Outcome::refused(number));
+        }
+    }
+    let accepted = numbers(&[2, 1, 2, 2, 0, 1, 1, 1]);
+    assert_eq!(line_under(&accepted, &[9, 9], 0), Outcome::refused(18));
+}
+
 /// Each call with its buffer exact and one byte short, over many tables.
 #[test]
 fn buffers() {
@@ -221,14 +330,16 @@ fn buffers() {
             arbitrary(&mut rng, n, m, 6)
         };
         let bytes = table.to_bytes();
-        let calls: [&dyn Fn(usize) -> Outcome; 5] = [
+        let list = ceilings(&mut rng, &table);
+        let calls: [&dyn Fn(usize) -> Outcome; 6] = [
             &|room| recovery_line(&bytes, room),
             &|room| line_of_set(&bytes, 1, room),
+            &|room| line_under(&bytes, &list, room),
             &|room| save(&bytes, 0, &[], room),
             &|room| fall_back(&bytes, room),
             &|room| send(&bytes, 0, 1, room),
         ];
-        for call in &calls[..if n > 1 { 5 } else { 4 }] {
+        for call in &calls[..if n > 1 { 6 } else { 5 }] {
             let long = call(ROOM);
             assert_eq!(long.number, 0);
             assert_eq!(call(long.answer.len()), long);

@@ -77,6 +77,32 @@ fn a1_hold_lines() {
     assert_eq!(line_of_set(&A, 0, 4).answer, [3, 0, 3, 0]);
 }
 
+/// The consistent lines of A are 0 0, 0 1, 1 1, 3 2 and 3 3: message 0 asks
+/// that L of 0 > 0 or L of 1 < 2, message 1 that L of 1 > 0 or L of 0 < 1,
+/// message 2 that L of 1 > 1 or L of 0 < 2, message 3 that L of 0 > 2 or L of
+/// 1 < 2. So the latest at or below each pair of ceilings, worked out by hand:
+#[test]
+fn a_lines_under_all_ceilings() {
+    let lines: [[[u8; 2]; 4]; 4] = [
+        [[0, 0], [0, 1], [0, 1], [0, 1]],
+        [[0, 0], [1, 1], [1, 1], [1, 1]],
+        [[0, 0], [1, 1], [1, 1], [1, 1]],
+        [[0, 0], [1, 1], [3, 2], [3, 3]],
+    ];
+    for a in 0..=3u16 {
+        for b in 0..=3u16 {
+            let outcome = line_under(&A, &[a, b], 4);
+            let [at_0, at_1] = lines[usize::from(a)][usize::from(b)];
+            assert_eq!(outcome.number, 0);
+            assert_eq!(outcome.answer, [at_0, 0, at_1, 0], "{a} {b}");
+            assert_eq!(outcome.lines, None);
+        }
+    }
+    for above in [[4, 3], [3, 4], [4, 4], [0, 65535], [65535, 0]] {
+        assert_eq!(line_under(&A, &above, 4), Outcome::refused(18));
+    }
+}
+
 #[test]
 fn a2_sheet() {
     let sheet = [
@@ -123,6 +149,9 @@ fn b() {
     let b = table(&[1], &[]);
     assert_eq!(b, [1, 0, 0, 0, 1, 0]);
     assert_eq!(recovery_line(&b, 2).answer, [0, 0]);
+    assert_eq!(line_under(&b, &[0], 2).answer, [0, 0]);
+    assert_eq!(line_under(&b, &[1], 2).answer, [1, 0]);
+    assert_eq!(line_under(&b, &[2], 2), Outcome::refused(18));
     let sheet = keep_sheet(&b, 1, 8);
     assert_eq!(sheet.number, 0);
     assert_eq!(sheet.answer, [1, 0, 0, 0, 0, 0, 0, 0]);
@@ -135,6 +164,9 @@ fn c() {
     let c = table(&[1, 4], &[]);
     let sheet = keep_sheet(&c, 4, ROOM);
     assert_eq!(sheet.lines, Some(vec![0, 4, 1, 3]));
+    // Without messages every ceiling is its own line.
+    assert_eq!(line_under(&c, &[0, 4], 4).answer, [0, 0, 4, 0]);
+    assert_eq!(line_under(&c, &[1, 2], 4).answer, [1, 0, 2, 0]);
     assert_eq!(sheet.answer, [2, 0, 0, 0, 0, 0, 1, 0, 0, 0, 3, 0]);
     assert_eq!(
         listing(&c),
@@ -146,6 +178,11 @@ fn c() {
 fn d() {
     let d = table(&[2, 2], &[((0, 1), (1, 1)), ((1, 0), (0, 1))]);
     assert_eq!(recovery_line(&d, ROOM).answer, [0, 0, 0, 0]);
+    // 2 1 is the latest line but the counts; all others go back to zero.
+    assert_eq!(line_under(&d, &[2, 1], 4).answer, [2, 0, 1, 0]);
+    assert_eq!(line_under(&d, &[1, 2], 4).answer, [0, 0, 0, 0]);
+    assert_eq!(line_under(&d, &[1, 1], 4).answer, [0, 0, 0, 0]);
+    assert_eq!(line_under(&d, &[2, 0], 4).answer, [0, 0, 0, 0]);
     let sheet = keep_sheet(&d, 4, ROOM);
     assert_eq!(sheet.lines, Some(vec![0, 0, 2, 1]));
     assert_eq!(
@@ -164,6 +201,9 @@ fn refused_everywhere(bytes: &[u8], number: u32) {
     let refused = Outcome::refused(number);
     assert_eq!(recovery_line(bytes, ROOM), refused);
     assert_eq!(line_of_set(bytes, u32::MAX, ROOM), refused);
+    assert_eq!(line_under(bytes, &[], 0), refused);
+    assert_eq!(line_under(bytes, &[65535, 65535], ROOM), refused);
+    assert_eq!(line_under(bytes, &[0, 0], ROOM), refused);
     assert_eq!(send(bytes, 99, 99, 0), refused);
     assert_eq!(save(bytes, 99, &[9, 9], 0), refused);
     assert_eq!(fall_back(bytes, 0), refused);
