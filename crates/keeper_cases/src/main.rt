@@ -5,6 +5,8 @@
 // The file stdout has what docs/MANUAL.md says of each.
 //     recovery LEN        the recovery line, into a buffer of LEN bytes, 32,968 at most
 //     hold SET LEN        the line of a set
+//     under COUNT LEN C ...    the line under a list of COUNT ceilings, 64 at most: the numbers C, of which
+//                         the last goes on to the end of a longer list
 //     send FROM TO LEN    the table after a send
 //     save P LEN K ...    the table after a save of P, which receives the messages at positions K
 //     fall LEN            the table after a fall back
@@ -66,6 +68,47 @@ fn behind_two(numbers: &[u16], count: usize) -> &[u16]
     &numbers[2..count]
 }
 
+// The most ceilings that a line lends.
+const MOST_CEILINGS: usize = 64;
+
+// Ceilings, from the numbers of a line behind its first two, of which it has so many: the last goes on to
+// the end, and without one they are 0.
+fn ceilings_of(numbers: &[u16; 16], count: usize) -> [u16; 64]
+    requires { ⌜ count ≤ 16 ⌝ }
+{
+    let mut ceilings = [0u16; MOST_CEILINGS];
+    let mut last = 0;
+    let mut k = 0;
+    while k < MOST_CEILINGS {
+        if k + 2 < count {
+            last = numbers[k + 2];
+        }
+        ceilings[k] = last;
+        k += 1;
+    }
+    ceilings
+}
+
+// How many ceilings a line lends.
+fn ceiling_count(list: &[u64; 16]) -> usize
+    ensures { λ r. ⌜ r ≤ 64 ⌝ }
+{
+    let count = size(list, 0);
+    if MOST_CEILINGS < count {
+        return MOST_CEILINGS;
+    }
+    count
+}
+
+// The line under the ceilings of a line.
+fn line_under(table: &[u8], line: Line, answer: &mut [u8], written: &mut usize) -> u32
+    requires { ⌜ line .count ≤ 16 ⌝ }
+{
+    let ceilings = ceilings_of(&smalls(&line.numbers), line.count);
+    let count = ceiling_count(&line.numbers);
+    keeper::keeper_line_under(table, &ceilings[..count], answer, written)
+}
+
 // Makes the call that a line asks for, and answers its number: the one place that knows the calls.
 fn ask(table: &[u8], line: Line, scratch: &mut [u16], answer: &mut [u8], written: &mut usize) -> u32
     requires { ⌜ line .count ≤ 16 ⌝ }
@@ -76,6 +119,9 @@ fn ask(table: &[u8], line: Line, scratch: &mut [u16], answer: &mut [u8], written
     if starts(line.code, b'h', b'o') {
         let set = (size(&line.numbers, 0) % 4294967296) as u32;
         return keeper::keeper_line_of_set(table, set, answer, written);
+    }
+    if starts(line.code, b'u', b'n') {
+        return line_under(table, line, answer, written);
     }
     if starts(line.code, b's', b'e') {
         return keeper::keeper_send(
