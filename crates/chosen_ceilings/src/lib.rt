@@ -4,7 +4,6 @@ use lines::line_under;
 use lines::put_line;
 use run_table::numbers::u16_at;
 use run_table::parts;
-use table_writer::store_numbers;
 ghost use mathlib.Core.Path.{_≡_};
 ghost use Prim.Native.Nat.{_*_, _≤_};
 ghost use lib.ListN.{length};
@@ -39,7 +38,11 @@ fn ceiling_array(ceilings: &[u16]) -> [u16; 32]
     ensures { λ r. ⌜ r ≡ arrayOf (now (ceilings .entry)) ⌝ }
 {
     let mut ceiling = [0u16; 32];
-    store_numbers(&mut ceiling, 0, ceilings);
+    let mut p = 0;
+    while p < ceilings.len() {
+        ceiling[p] = ceilings[p];
+        p += 1;
+    }
     ceiling
 }
 

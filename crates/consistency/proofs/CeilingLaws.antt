@@ -1,5 +1,5 @@
 -- Laws of ceilings and of the lines of sets.
---     ceiling-quiet, ceiling-checked    a ceiling is what checks 17 and 18 let through
+--     ceiling-checked, ceiling-quiet    a ceiling is what checks 17 and 18 let through
 --     under-length, under-below     the line under a ceiling
 --     ceiling-length, ceiling-at    the ceiling of a set, process by process
 --     set-ceiling                   it is a ceiling
@@ -45,10 +45,6 @@ all-zero false c e = e
 
 -- ---- ceilings
 module _ (t : Table) (ceiling : List ℕ) where
-  pub ceiling-quiet : Ceiling t ceiling → aboveCounts t ceiling ≡ false
-  unfolding aboveCounts
-  ceiling-quiet c = anyBelow-none _ (processCount t) (λ p _. le-ltb (countOf t p) (asLine ceiling p) (c .within p))
-
   pub ceiling-checked : length ceiling ≡ processCount t → aboveCounts t ceiling ≡ false → Ceiling t ceiling
   unfolding aboveCounts
   ceiling-checked e none = record { for-each = e; within = λ p. go p (decLt p (processCount t)) }
@@ -58,6 +54,10 @@ module _ (t : Table) (ceiling : List ℕ) where
       go p (no l) =
           let beyond : length ceiling ≤ p = omega arith in
           omega (arith, List·getD-eq-default ceiling 0 beyond)
+
+  pub ceiling-quiet : Ceiling t ceiling → aboveCounts t ceiling ≡ false
+  unfolding aboveCounts
+  ceiling-quiet c = anyBelow-none _ (processCount t) (λ p _. le-ltb (countOf t p) (asLine ceiling p) (c .within p))
 
   module _ (c : Ceiling t ceiling) where
     pub under-length : length (lineUnder (t .messages) ceiling) ≡ processCount t
