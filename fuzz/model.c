@@ -72,17 +72,16 @@ static uint32_t read_run(const uint8_t *table, size_t length, struct run *run)
     return 0;
 }
 
-/* "Lines": the latest consistent line in which the processes of the set hold. A process whose number fell
-   stands on a stack; its messages that now lie at or after it are undone at their receivers. */
-static void latest_line(const struct run *run, uint32_t set, unsigned line[MOST_PROCESSES])
+/* "Lines": the latest consistent line at or below the ceilings that stand in `line`. A process that stands
+   below its new state is put on a stack, and again whenever its number falls; its messages that lie at or
+   after it are undone at their receivers. */
+static void latest_under(const struct run *run, unsigned line[MOST_PROCESSES])
 {
     unsigned stack[MOST_PROCESSES], height = 0;
     bool on_stack[MOST_PROCESSES];
     for (unsigned p = 0; p < run->n; p++) {
-        bool holding = (set >> p) % 2 == 1;
-        line[p] = holding ? run->count[p] - 1 : run->count[p];
-        on_stack[p] = holding;
-        if (holding)
+        on_stack[p] = line[p] < run->count[p];
+        if (on_stack[p])
             stack[height++] = p;
     }
     while (height > 0) {
@@ -99,6 +98,16 @@ static void latest_line(const struct run *run, uint32_t set, unsigned line[MOST_
             }
         }
     }
+}
+
+/* The latest consistent line in which the processes of the set hold: a set is one kind of ceiling. */
+static void latest_line(const struct run *run, uint32_t set, unsigned line[MOST_PROCESSES])
+{
+    for (unsigned p = 0; p < run->n; p++) {
+        bool holding = (set >> p) % 2 == 1;
+        line[p] = holding ? run->count[p] - 1 : run->count[p];
+    }
+    latest_under(run, line);
 }
 
 /* An answer that is being written. */
@@ -140,12 +149,11 @@ static uint32_t answer_run(const struct run *run, uint8_t *answer, size_t room, 
     return 0;
 }
 
-static uint32_t answer_line(const struct run *run, uint32_t set, uint8_t *answer, size_t room, size_t *written)
+static uint32_t answer_line(const struct run *run, const unsigned line[MOST_PROCESSES], uint8_t *answer, size_t room,
+                            size_t *written)
 {
     if (room < 2 * (size_t)run->n)
         return 16;
-    unsigned line[MOST_PROCESSES];
-    latest_line(run, set, line);
     struct out out = {answer, 0};
     for (unsigned p = 0; p < run->n; p++)
         put(&out, line[p]);
@@ -171,7 +179,9 @@ uint32_t MODEL(recovery_line)(const uint8_t *table, size_t length, uint8_t *answ
     uint32_t refusal = read_run(table, length, &run);
     if (refusal != 0)
         return refusal;
-    return answer_line(&run, all_processes(&run), answer, room, written);
+    unsigned line[MOST_PROCESSES];
+    latest_line(&run, all_processes(&run), line);
+    return answer_line(&run, line, answer, room, written);
 }
 
 uint32_t MODEL(line_of_set)(const uint8_t *table, size_t length, uint32_t set, uint8_t *answer, size_t room,
@@ -182,7 +192,28 @@ uint32_t MODEL(line_of_set)(const uint8_t *table, size_t length, uint32_t set, u
         return refusal;
     if ((set & ~all_processes(&run)) != 0)
         return 12;
-    return answer_line(&run, set, answer, room, written);
+    unsigned line[MOST_PROCESSES];
+    latest_line(&run, set, line);
+    return answer_line(&run, line, answer, room, written);
+}
+
+/* "Restart no later than a chosen hour". */
+uint32_t MODEL(line_under)(const uint8_t *table, size_t length, const uint16_t *ceilings, size_t entries,
+                           uint8_t *answer, size_t room, size_t *written)
+{
+    uint32_t refusal = read_run(table, length, &run);
+    if (refusal != 0)
+        return refusal;
+    if (entries != run.n)
+        return 17;
+    for (unsigned p = 0; p < run.n; p++)
+        if (ceilings[p] > run.count[p])
+            return 18;
+    unsigned line[MOST_PROCESSES];
+    for (unsigned p = 0; p < run.n; p++)
+        line[p] = ceilings[p];
+    latest_under(&run, line);
+    return answer_line(&run, line, answer, room, written);
 }
 
 /* "Steps". */

@@ -10,7 +10,8 @@
    messages are repeated up to nearly 4,096, which is slow and so is rare.
 
    A call is a byte for which call, a byte for the lengths of the answer buffer and the scratch, and its
-   arguments. Bit 7 of the first byte: the answer of a step becomes the table. */
+   arguments. The low four bits of the first byte say which: 14 and 15 are the line under a list of ceilings,
+   below them it is by the remainder of 7. Bit 7: the answer of a step becomes the table. */
 #include "keeper.h"
 #include "model.h"
 
@@ -28,7 +29,8 @@ enum {
     LARGEST_RAW = 40000,
     LARGEST_ROOM = KEEPER_LARGEST_TABLE + 8 + 64,
     LARGEST_SCRATCH = KEEPER_SCRATCH_NUMBERS + 64,
-    LARGEST_LIST = 300,
+    LARGEST_LIST = 65536 + 40,
+    MOST_POSITIONS = 300,
     MOST_WORK = 60000,
     GUARDS = 32
 };
@@ -69,7 +71,7 @@ struct call {
     uint16_t from, to;
     size_t entries, numbers, room;
 };
-static const char *const names[] = {"check_table", "recovery_line", "line_of_set", "send", "save", "fall_back", "keep_sheet"};
+static const char *const names[] = {"check_table", "recovery_line", "line_of_set", "send", "save", "fall_back", "keep_sheet", "line_under"};
 
 static uint32_t of_archive(const struct call *call, struct loan *loan)
 {
@@ -84,8 +86,11 @@ static uint32_t of_archive(const struct call *call, struct loan *loan)
         return keeper_save(table, table_length, call->from, loan->list + GUARDS, call->entries, answer, call->room,
                            &loan->written[1]);
     case 5: return keeper_fall_back(table, table_length, answer, call->room, &loan->written[1]);
-    default:
+    case 6:
         return keeper_keep_sheet(table, table_length, loan->scratch + GUARDS, call->numbers, answer, call->room,
+                                 &loan->written[1]);
+    default:
+        return keeper_line_under(table, table_length, loan->list + GUARDS, call->entries, answer, call->room,
                                  &loan->written[1]);
     }
 }
@@ -103,8 +108,11 @@ static uint32_t of_model(const struct call *call, struct loan *loan)
         return model_save(table, table_length, call->from, loan->list + GUARDS, call->entries, answer, call->room,
                           &loan->written[1]);
     case 5: return model_fall_back(table, table_length, answer, call->room, &loan->written[1]);
-    default:
+    case 6:
         return model_keep_sheet(table, table_length, loan->scratch + GUARDS, call->numbers, answer, call->room,
+                                &loan->written[1]);
+    default:
+        return model_line_under(table, table_length, loan->list + GUARDS, call->entries, answer, call->room,
                                 &loan->written[1]);
     }
 }
@@ -122,9 +130,9 @@ static _Noreturn void differ(const char *what, const struct call *call, uint32_t
     printf("difference: %s\n", what);
     printf("call %s: set %#x, from or process %u, to %u, room %zu, scratch %zu, list of %zu:", names[call->which],
            call->set, call->from, call->to, call->room, call->numbers, call->entries);
-    for (size_t at = 0; at < call->entries; at++)
+    for (size_t at = 0; at < call->entries && at < MOST_POSITIONS; at++)
         printf(" %u", before.list[GUARDS + at]);
-    printf("\n");
+    printf("%s\n", call->entries > MOST_POSITIONS ? " and so on" : "");
     show_bytes("table", table_before + GUARDS, table_length);
     printf("archive: number %u, length %zu; model: number %u, length %zu; length before the call %zu\n", got,
            by_archive.written[1], expected, by_model.written[1], before.written[1]);
@@ -277,6 +285,16 @@ static size_t built_table(struct input *input, unsigned mode)
     return length;
 }
 
+/* The length and the guards of the list are set. */
+static void list_is_set(struct call *call, size_t entries)
+{
+    call->entries = entries;
+    for (size_t at = 0; at < GUARDS; at++) {
+        before.list[at] = (uint16_t)(at * 7 + 50001);
+        before.list[GUARDS + entries + at] = (uint16_t)(at * 11 + 50101);
+    }
+}
+
 /* A list for a save: entries of the input, or the positions that wait for the process, all or every other,
    perhaps with one of them changed. */
 static void make_list(struct input *input, struct call *call)
@@ -292,7 +310,7 @@ static void make_list(struct input *input, struct call *call)
             list[at] = (uint16_t)number(input);
     } else if (length == 4 + 2 * n + 8 * m) {
         size_t receipts = 2 + n + 2 * m, seen = 0;
-        for (size_t k = 0; k < m && entries < LARGEST_LIST; k++) {
+        for (size_t k = 0; k < m && entries < MOST_POSITIONS; k++) {
             bool waits = get_number(receipts + 2 * k) == call->from && get_number(receipts + 2 * k + 1) == 0;
             if (waits && ((kind & 2) == 0 || seen++ % 2 == 0))
                 list[entries++] = (uint16_t)k;
@@ -306,17 +324,46 @@ static void make_list(struct input *input, struct call *call)
             list[place] = list[place - 1];
         }
     }
-    call->entries = entries;
-    for (size_t at = 0; at < GUARDS; at++) {
-        before.list[at] = (uint16_t)(at * 7 + 50001);
-        list[entries + at] = (uint16_t)(at * 11 + 50101);
+    list_is_set(call, entries);
+}
+
+/* A list of ceilings: as many as there are processes, or another number of them. A byte for each process: 0 is
+   its count, and from there on downwards; from 128 on upwards from 0; the last few are above the count. */
+static void make_ceilings(struct input *input, struct call *call, size_t n)
+{
+    unsigned kind = byte(input);
+    uint16_t *list = before.list + GUARDS;
+    size_t entries = n;
+    switch (kind & 7) {
+    case 1: entries = n - (n > 0); break;
+    case 2: entries = n + 1; break;
+    case 3: entries = (kind & 8) != 0 ? 0 : byte(input); break;
+    case 4: entries = 65536 + ((kind & 8) != 0 ? n : 0); break;
+    default: break;
     }
+    for (size_t p = 0; p < entries; p++) {
+        if (p >= n) {
+            list[p] = 65535;
+            continue;
+        }
+        unsigned count = 6 + 2 * p <= table_length ? get_number(2 + p) : 1;
+        unsigned from = byte(input);
+        if (from < 128)
+            list[p] = (uint16_t)(count - from % (count + 1));
+        else if (from < 250)
+            list[p] = (uint16_t)((from - 128) % (count + 1));
+        else if (from < 252)
+            list[p] = (uint16_t)(count + 1);
+        else
+            list[p] = (uint16_t)(from == 252 ? 65535 : number(input));
+    }
+    list_is_set(call, entries);
 }
 
 static void one_call(struct input *input)
 {
     unsigned first = byte(input), lengths = byte(input);
-    struct call call = {.which = (first & 15) % 7};
+    struct call call = {.which = (first & 15) < 14 ? (first & 15) % 7 : 7};
     size_t n = table_length >= 2 ? get_number(0) : 0;
     n = n > 32 ? 32 : n;
     if (call.which == 2) {
@@ -331,6 +378,8 @@ static void one_call(struct input *input)
     }
     if (call.which == 4)
         make_list(input, &call);
+    if (call.which == 7)
+        make_ceilings(input, &call, n);
     if (call.which == 6) {
         switch (lengths >> 5) {
         case 0: call.numbers = n * n - (n > 0); break;
@@ -343,7 +392,7 @@ static void one_call(struct input *input)
     /* The length of the answer, as the model has it. */
     struct call unbounded = call;
     unbounded.room = LARGEST_ROOM;
-    memcpy(by_model.list, before.list, sizeof before.list);
+    memcpy(by_model.list, before.list, sizeof(uint16_t) * (GUARDS + call.entries + GUARDS));
     size_t answer = of_model(&unbounded, &by_model) == 0 && call.which != 0 ? by_model.written[1] : 0;
     switch (lengths & 7) {
     case 0: call.room = answer > 0 ? answer - 1 : 0; break;
