@@ -8,6 +8,7 @@
     __typeof__(keeper_check_table) fault##k##_check_table;      \
     __typeof__(keeper_recovery_line) fault##k##_recovery_line;  \
     __typeof__(keeper_line_of_set) fault##k##_line_of_set;      \
+    __typeof__(keeper_line_under) fault##k##_line_under;        \
     __typeof__(keeper_send) fault##k##_send;                    \
     __typeof__(keeper_save) fault##k##_save;                    \
     __typeof__(keeper_fall_back) fault##k##_fall_back;          \
@@ -16,12 +17,13 @@
 #undef FAULT
 
 #define FAULT(k)                                                                                             \
-    {fault##k##_check_table, fault##k##_recovery_line, fault##k##_line_of_set, fault##k##_send,              \
-     fault##k##_save, fault##k##_fall_back, fault##k##_keep_sheet},
+    {fault##k##_check_table, fault##k##_recovery_line, fault##k##_line_of_set, fault##k##_line_under,        \
+     fault##k##_send, fault##k##_save, fault##k##_fall_back, fault##k##_keep_sheet},
 static const struct {
     __typeof__(keeper_check_table) *check_table;
     __typeof__(keeper_recovery_line) *recovery_line;
     __typeof__(keeper_line_of_set) *line_of_set;
+    __typeof__(keeper_line_under) *line_under;
     __typeof__(keeper_send) *send;
     __typeof__(keeper_save) *save;
     __typeof__(keeper_fall_back) *fall_back;
@@ -58,6 +60,11 @@ uint32_t keeper_recovery_line(TABLE, ANSWER)
 uint32_t keeper_line_of_set(TABLE, uint32_t set, ANSWER)
 {
     return faults[chosen()].line_of_set(table, length, set, answer, room, written);
+}
+
+uint32_t keeper_line_under(TABLE, const uint16_t *ceilings, size_t ceilings_length, ANSWER)
+{
+    return faults[chosen()].line_under(table, length, ceilings, ceilings_length, answer, room, written);
 }
 
 uint32_t keeper_send(TABLE, uint16_t from, uint16_t to, ANSWER)

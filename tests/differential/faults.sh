@@ -3,7 +3,7 @@
 #
 # Shows that the comparisons can fail. The model of the fuzzer (fuzz/model.c) stands in the library's place: as
 # it is, with which all must agree, and then with one fault of faults.txt at a time. The differential tests
-# (CALLS calls) must find each fault; what a small scope and the replay of the fuzzer's inputs say is printed
+# (CALLS calls) must find each fault; what small scopes and the replay of the fuzzer's inputs say is printed
 # too. Needs gcc, cargo and the archives.
 set -u
 calls=${1:-60000}
@@ -52,11 +52,14 @@ number=0
 while IFS='|' read -r name edit; do
     number=$((number + 1))
     export FAULT=$number
-    by_scopes=$(verdict "$work/cargo/release/scopes" lines 3 2 2)
+    by_scopes=agrees
+    for scope in lines under; do
+        test $by_scopes = found || by_scopes=$(verdict "$work/cargo/release/scopes" $scope 3 2 2)
+    done
     by_replay=$(verdict "$work/replay" fuzz/corpus/*)
     by_calls=$(verdict "$work/cargo/release/calls" "$calls")
     after=$(sed -n 's/^FAILED after \([0-9]*\) calls.*/\1/p' "$work/log")
-    echo "$name: calls: $by_calls${after:+ after $after}; scope lines 3 2 2: $by_scopes; replay: $by_replay"
+    echo "$name: calls: $by_calls${after:+ after $after}; scopes lines and under 3 2 2: $by_scopes; replay: $by_replay"
     test "$by_calls" = found || missed=$((missed + 1))
 done <"$work/faults.txt"
 echo "$number faults, $missed not found by the differential tests"

@@ -25,6 +25,10 @@ pub enum Call {
         set: u32,
         room: usize,
     },
+    LineUnder {
+        ceilings: Vec<u16>,
+        room: usize,
+    },
     Send {
         from: u16,
         to: u16,
@@ -45,10 +49,11 @@ pub enum Call {
 }
 
 /// The names of the calls, in the order of the report.
-pub const NAMES: [&str; 7] = [
+pub const NAMES: [&str; 8] = [
     "check_table",
     "recovery_line",
     "line_of_set",
+    "line_under",
     "send",
     "save",
     "fall_back",
@@ -89,10 +94,11 @@ impl Call {
             Call::CheckTable => 0,
             Call::RecoveryLine { .. } => 1,
             Call::LineOfSet { .. } => 2,
-            Call::Send { .. } => 3,
-            Call::Save { .. } => 4,
-            Call::FallBack { .. } => 5,
-            Call::KeepSheet { .. } => 6,
+            Call::LineUnder { .. } => 3,
+            Call::Send { .. } => 4,
+            Call::Save { .. } => 5,
+            Call::FallBack { .. } => 6,
+            Call::KeepSheet { .. } => 7,
         }
     }
 
@@ -102,6 +108,7 @@ impl Call {
             Call::CheckTable => 0,
             Call::RecoveryLine { room }
             | Call::LineOfSet { room, .. }
+            | Call::LineUnder { room, .. }
             | Call::Send { room, .. }
             | Call::Save { room, .. }
             | Call::FallBack { room }
@@ -116,6 +123,7 @@ impl Call {
             Call::CheckTable => {}
             Call::RecoveryLine { room }
             | Call::LineOfSet { room, .. }
+            | Call::LineUnder { room, .. }
             | Call::Send { room, .. }
             | Call::Save { room, .. }
             | Call::FallBack { room }
@@ -132,10 +140,11 @@ impl Call {
         }
     }
 
-    /// A save's list.
+    /// A save's list, or one of ceilings.
     fn list(&self) -> &[u16] {
         match self {
             Call::Save { list, .. } => list,
+            Call::LineUnder { ceilings, .. } => ceilings,
             _ => &[],
         }
     }
@@ -146,6 +155,7 @@ impl Call {
             Call::CheckTable => Outcome::refused(reference::check_table(table)),
             Call::RecoveryLine { room } => reference::recovery_line(table, *room),
             Call::LineOfSet { set, room } => reference::line_of_set(table, *set, *room),
+            Call::LineUnder { ceilings, room } => reference::line_under(table, ceilings, *room),
             Call::Send { from, to, room } => reference::send(table, *from, *to, *room),
             Call::Save {
                 process,
@@ -179,6 +189,9 @@ impl Call {
                 Call::LineOfSet { set, .. } => {
                     archive::keeper_line_of_set(bytes, length, set, answer, room, written)
                 }
+                Call::LineUnder { .. } => archive::keeper_line_under(
+                    bytes, length, entries, of_entries, answer, room, written,
+                ),
                 Call::Send { from, to, .. } => {
                     archive::keeper_send(bytes, length, from, to, answer, room, written)
                 }
@@ -203,6 +216,7 @@ impl Call {
             Call::CheckTable => return number(keeper::check_table(table)),
             Call::RecoveryLine { .. } => keeper::recovery_line(table, answer),
             Call::LineOfSet { set, .. } => keeper::line_of_set(table, set, answer),
+            Call::LineUnder { .. } => keeper::line_under(table, lent.list.slice(), answer),
             Call::Send { from, to, .. } => keeper::send(table, from, to, answer),
             Call::Save { process, .. } => keeper::save(table, process, lent.list.slice(), answer),
             Call::FallBack { .. } => keeper::fall_back(table, answer),

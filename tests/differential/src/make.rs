@@ -303,6 +303,47 @@ pub fn list(rng: &mut Rng, table: &Table, process: u16) -> Vec<u16> {
     list
 }
 
+/// A list of ceilings, mostly one for each process and none above its count:
+/// by chance, each as far from its count, or those of a set.
+pub fn ceilings(rng: &mut Rng, table: &Table) -> Vec<u16> {
+    let n = table.processes();
+    let of_counts = |ceiling: &dyn Fn(u16) -> u16| -> Vec<u16> {
+        table.counts.iter().map(|&c| ceiling(c as u16)).collect()
+    };
+    let mut ceilings = match rng.between(0, 9) {
+        0 => of_counts(&|count| count),
+        1 => of_counts(&|count| count - 1),
+        2 => of_counts(&|count| count / 2),
+        3 => of_counts(&|_| 0),
+        4 => {
+            let set = rng.next_bits() as u32;
+            let line = reference::lines::ceiling(table, set);
+            line.iter().map(|&number| number as u16).collect()
+        }
+        _ => gen::ceilings(rng, table),
+    };
+    if n > 0 && rng.chance(1, 5) {
+        // One or two above the count.
+        for _ in 0..rng.between(1, 2) {
+            let p = rng.between(0, n - 1);
+            let count = table.counts[p] as u16;
+            let above = [count + 1, count + 1, count + 256, 4_097, 32_768, 65_535];
+            ceilings[p] = above[rng.between(0, above.len() - 1)];
+        }
+    }
+    if rng.chance(1, 6) {
+        // Another number of them. What is added would be a ceiling, or not.
+        let lengths = [0, n.saturating_sub(1), n + 1, 32, 33, n + 256];
+        let length = if rng.chance(1, 24) {
+            65_536 + [0, n][rng.between(0, 1)]
+        } else {
+            lengths[rng.between(0, lengths.len() - 1)]
+        };
+        ceilings.resize(length, [0, 1, 65_535][rng.between(0, 2)]);
+    }
+    ceilings
+}
+
 /// Lengths of an answer buffer for an answer of this length: exact, one byte
 /// short, and others; for a refused call (`None`) any.
 fn rooms(rng: &mut Rng, answer: Option<usize>, all: bool) -> Vec<usize> {
@@ -340,6 +381,10 @@ fn calls(rng: &mut Rng, bytes: &[u8], few: bool) -> Vec<Call> {
     for _ in 0..times(6) {
         let set = set(rng, n);
         calls.push(Call::LineOfSet { set, room });
+    }
+    for _ in 0..times(6) {
+        let ceilings = ceilings(rng, &values);
+        calls.push(Call::LineUnder { ceilings, room });
     }
     for _ in 0..times(4) {
         let (from, to) = (process(rng, n), process(rng, n));

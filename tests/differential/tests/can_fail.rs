@@ -23,6 +23,10 @@ fn all_calls(room: usize) -> Vec<Call> {
     vec![
         Call::RecoveryLine { room },
         Call::LineOfSet { set: 2, room },
+        Call::LineUnder {
+            ceilings: vec![3, 1],
+            room,
+        },
         Call::Send {
             from: 0,
             to: 1,
@@ -81,7 +85,7 @@ fn the_number_counts() {
     for room in [0, 100] {
         for call in all_calls(room) {
             let expected = call.expected(&table);
-            for number in (0..=17).filter(|&number| number != expected.number) {
+            for number in (0..=18).filter(|&number| number != expected.number) {
                 let mut spoilt = expected.clone();
                 spoilt.number = number;
                 assert!(fails(&table, &call, spoilt), "{call:?}, {number}");
@@ -154,7 +158,12 @@ fn another_table_counts() {
         let mut other = table.clone();
         let at = rng.between(0, 4);
         other.messages[at].received = 0;
-        for call in all_calls(100) {
+        let mut calls = all_calls(100);
+        calls.push(Call::LineUnder {
+            ceilings: table.counts.iter().map(|&count| count as u16 / 2).collect(),
+            room: 100,
+        });
+        for call in calls {
             let here = call.expected(&table.to_bytes());
             let there = call.expected(&other.to_bytes());
             if here != there {

@@ -50,12 +50,16 @@ fn limits(comparison: &mut Comparison, seed: u64) -> Result<(), Box<Difference>>
         let n = table.processes();
         let room = usize::MAX;
         let waiting = table.waiting_for(1).into_iter().map(|k| k as u16);
-        let calls = [
+        let mut calls = vec![
             Call::CheckTable,
             Call::RecoveryLine { room },
             Call::LineOfSet { set: 0b101, room },
             Call::LineOfSet {
                 set: make::set(rng, n),
+                room,
+            },
+            Call::LineUnder {
+                ceilings: make::ceilings(rng, table),
                 room,
             },
             Call::Send {
@@ -74,6 +78,15 @@ fn limits(comparison: &mut Comparison, seed: u64) -> Result<(), Box<Difference>>
                 room,
             },
         ];
+        // The counts; half of each; the last of them lower and higher by one.
+        let counts: Vec<u16> = table.counts.iter().map(|&count| count as u16).collect();
+        let halves = counts.iter().map(|count| count / 2).collect();
+        let (mut lower, mut higher) = (counts.clone(), counts.clone());
+        lower[n - 1] -= 1;
+        higher[n - 1] += 1;
+        for ceilings in [counts, halves, lower, higher] {
+            calls.push(Call::LineUnder { ceilings, room });
+        }
         for call in &calls {
             exact_and_short(comparison, rng, &made_by, &bytes, call)?;
         }
@@ -175,6 +188,15 @@ fn orders(comparison: &mut Comparison, seed: u64) -> Result<(), Box<Difference>>
         &[0, 2],
         &[2, 1, 65_535],
     ];
+    // Ceilings on both sides of every boundary, for each of the counts; many too
+    // many of them, also so that a length cut to 8 or 16 bits would be right.
+    let mut ceilings: Vec<Vec<u16>> = Vec::new();
+    for table in [&small, &full_count, &full_counts] {
+        ceilings.extend(gen::boundary_ceilings(table));
+    }
+    for length in [256, 258, 65_536, 65_538] {
+        ceilings.extend([vec![0; length], vec![65_535; length]]);
+    }
     let named = [0, 1, 2, 3, 65_535];
     for (number, table) in tables.iter().enumerate() {
         let made_by = format!("orders, table {number}");
@@ -200,6 +222,10 @@ fn orders(comparison: &mut Comparison, seed: u64) -> Result<(), Box<Difference>>
         }
         for set in [0, 1, 2, 3, 4, 6, 7, 1 << 31, u32::MAX] {
             calls.push(Call::LineOfSet { set, room });
+        }
+        for ceilings in &ceilings {
+            let ceilings = ceilings.clone();
+            calls.push(Call::LineUnder { ceilings, room });
         }
         for numbers in 0..=5 {
             calls.push(Call::KeepSheet { numbers, room });
@@ -238,10 +264,13 @@ fn chain(comparison: &mut Comparison, seed: u64, steps: usize) -> Result<(), Box
         if number % 8 == 0 {
             let room = usize::MAX;
             let set = make::set(rng, n);
+            let now = Table::read(&bytes).expect("the library writes accepted tables");
+            let ceilings = make::ceilings(rng, &now);
             let numbers = n * n + rng.between(0, 3);
             for call in [
                 Call::RecoveryLine { room },
                 Call::LineOfSet { set, room },
+                Call::LineUnder { ceilings, room },
                 Call::KeepSheet { numbers, room },
             ] {
                 exact_and_short(comparison, rng, &made_by, &bytes, &call)?;

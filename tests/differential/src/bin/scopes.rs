@@ -3,6 +3,10 @@
 //! * `scopes lines N C M`: at most N processes with at most C states and at
 //!   most M messages: the lines of all sets, the recovery line and the keep
 //!   sheet. The lines to expect are found by trying every line.
+//! * `scopes under N C M`: the lines under all lists of ceilings, from 0 to one
+//!   above each count, and under lists of another length; that a lower list
+//!   never has a later line; and the line of every set beside the line under
+//!   the ceilings of that set.
 //! * `scopes steps N C M`: every send, every save with any list of at most M
 //!   positions, and the fall back.
 //! * `scopes needs N C M DEPTH`: what some future of at most DEPTH steps
@@ -19,6 +23,7 @@ use std::time::Instant;
 use differential::compare::{number, Call};
 use differential::scope::{least_renaming, next_order, renamed_message, Scope};
 use differential::show;
+use keeper::archive;
 use reference::lines::{
     all_hold, ceiling, line_by_enumeration, line_to_bytes, single_holder, Line,
 };
@@ -126,6 +131,189 @@ fn lines(scope: Scope) -> Result<String, Failure> {
     })?;
     assert_eq!(tables, scope.size(), "every table once");
     Ok(format!("{tables} tables, {} calls", library.calls))
+}
+
+/// What stands round a list, and in `written` before a call.
+const LIST_GUARD: u16 = 0x5A5A;
+const UNWRITTEN: usize = 0x5A5A_5A5A;
+
+/// What a call for a line of at most four processes yields: the number, the
+/// length written, and all of the buffer, four bytes before it and four behind
+/// it included.
+#[derive(Clone, Copy, Debug, PartialEq, Eq)]
+struct Lined {
+    number: u32,
+    written: usize,
+    buffer: [u8; 20],
+}
+
+impl Lined {
+    /// A call that was not made yet.
+    const NOTHING: Lined = Lined {
+        number: 0,
+        written: UNWRITTEN,
+        buffer: [FILL; 20],
+    };
+
+    fn refused(number: u32) -> Lined {
+        Lined {
+            number,
+            ..Lined::NOTHING
+        }
+    }
+
+    fn answered(line: &[u32]) -> Lined {
+        let mut lined = Lined::NOTHING;
+        let bytes = line_to_bytes(line);
+        lined.buffer[4..4 + bytes.len()].copy_from_slice(&bytes);
+        lined.written = bytes.len();
+        lined
+    }
+
+    /// The archive's line of a set.
+    fn of_set(table: &[u8], set: u32, room: usize) -> Lined {
+        let mut lined = Lined::NOTHING;
+        let answer = &mut lined.buffer[4..4 + room];
+        // SAFETY: each pointer and length is a slice of a buffer of its own.
+        lined.number = unsafe {
+            archive::keeper_line_of_set(
+                table.as_ptr(),
+                table.len(),
+                set,
+                answer.as_mut_ptr(),
+                answer.len(),
+                &mut lined.written,
+            )
+        };
+        lined
+    }
+
+    /// The archive's line under ceilings, and whether their list and what
+    /// stands round it were left alone.
+    fn under(table: &[u8], ceilings: &[u16], room: usize) -> (Lined, bool) {
+        let mut lined = Lined::NOTHING;
+        let mut list = [LIST_GUARD; 16];
+        list[4..4 + ceilings.len()].copy_from_slice(ceilings);
+        let before = list;
+        let lent = &mut list[4..4 + ceilings.len()];
+        let answer = &mut lined.buffer[4..4 + room];
+        // SAFETY: each pointer and length is a slice of a buffer of its own.
+        lined.number = unsafe {
+            archive::keeper_line_under(
+                table.as_ptr(),
+                table.len(),
+                lent.as_mut_ptr(),
+                lent.len(),
+                answer.as_mut_ptr(),
+                answer.len(),
+                &mut lined.written,
+            )
+        };
+        (lined, list == before)
+    }
+}
+
+/// Every list with a number from 0 to one above the count for each process.
+fn all_ceilings(counts: &[u32]) -> Vec<Vec<u16>> {
+    let mut all: Vec<Vec<u16>> = vec![Vec::new()];
+    for &count in counts {
+        all = all
+            .iter()
+            .flat_map(|front| (0..=count as u16 + 1).map(move |c| [&front[..], &[c]].concat()))
+            .collect();
+    }
+    all
+}
+
+/// The lines under all ceilings, on every table of a scope.
+fn under(scope: Scope) -> Result<String, Failure> {
+    let mut tables = 0;
+    let mut calls: u64 = 0;
+    let mut pairs: u64 = 0;
+    scope.each_sorted(|sorted| -> Result<(), Failure> {
+        let n = sorted.processes();
+        // What to expect, found by trying every line; nothing of it depends on
+        // the order of the messages.
+        let mut expected: Vec<(Vec<u16>, Lined)> = Vec::new();
+        let mut lines: Vec<(Line, Line)> = Vec::new();
+        for list in all_ceilings(&sorted.counts) {
+            let ceilings: Line = list.iter().map(|&number| number.into()).collect();
+            let above = (0..n).any(|p| ceilings[p] > sorted.counts[p]);
+            let lined = if above {
+                Lined::refused(18)
+            } else {
+                let line = line_by_enumeration(sorted, &ceilings);
+                let lined = Lined::answered(&line);
+                lines.push((ceilings, line));
+                lined
+            };
+            expected.push((list, lined));
+        }
+        // Of two lists of which one is nowhere higher, its line is nowhere later.
+        let at_most = |one: &Line, other: &Line| one.iter().zip(other).all(|(a, b)| a <= b);
+        for (lower, earlier) in &lines {
+            for (higher, later) in lines.iter().filter(|(higher, _)| at_most(lower, higher)) {
+                pairs += 1;
+                if !at_most(earlier, later) {
+                    return Err(format!("{sorted:?}: the line under {lower:?} is {earlier:?}, and under {higher:?} {later:?}"));
+                }
+            }
+        }
+        let counts: Vec<u16> = sorted.counts.iter().map(|&count| count as u16).collect();
+        for length in (0..=n + 2).filter(|&length| length != n) {
+            for more in [0, u16::MAX] {
+                let mut list = counts.clone();
+                list.resize(length, more);
+                expected.push((list, Lined::refused(17)));
+                expected.push((vec![more; length], Lined::refused(17)));
+            }
+        }
+        let sets: Vec<Vec<u16>> = (0..=all_hold(n))
+            .map(|set| ceiling(sorted, set).iter().map(|&number| number as u16).collect())
+            .collect();
+        // Lengths of the buffer: other ones than the first for one order alone.
+        let mut rooms = &[2 * n + 3, 2 * n, 2 * n - 1, 0][..];
+        let mut table = sorted.clone();
+        loop {
+            tables += 1;
+            let bytes = table.to_bytes();
+            for (list, lined) in &expected {
+                for &room in rooms {
+                    calls += 1;
+                    let wanted = if room < 2 * n && lined.number == 0 { Lined::refused(16) } else { *lined };
+                    let (got, left) = Lined::under(&bytes, list, room);
+                    if got != wanted || !left {
+                        return Err(format!(
+                            "difference in line_under {list:?}, room {room}\n{}library: {got:?}{}\nsecond implementation: {wanted:?}",
+                            show::table(&bytes),
+                            if left { "" } else { "; the list or its guards were changed" }
+                        ));
+                    }
+                }
+            }
+            rooms = &rooms[..1];
+            for (set, list) in sets.iter().enumerate() {
+                for room in [2 * n + 3, 2 * n - 1] {
+                    calls += 2;
+                    let of_set = Lined::of_set(&bytes, set as u32, room);
+                    let (got, left) = Lined::under(&bytes, list, room);
+                    if got != of_set || !left {
+                        return Err(format!(
+                            "difference between line_of_set {set} and line_under {list:?}, room {room}\n{}{of_set:?}\n{got:?}",
+                            show::table(&bytes)
+                        ));
+                    }
+                }
+            }
+            if !next_order(&mut table.messages) {
+                return Ok(());
+            }
+        }
+    })?;
+    assert_eq!(tables, scope.size(), "every table once");
+    Ok(format!(
+        "{tables} tables, {calls} calls, {pairs} pairs of ceilings"
+    ))
 }
 
 /// Every list of positions 0 to m with at most m entries.
@@ -291,6 +479,7 @@ fn task(words: &[&str]) -> Option<Result<String, Failure>> {
     }
     match (words[0], words.len()) {
         ("lines", 4) => Some(lines(scope)),
+        ("under", 4) => Some(under(scope)),
         ("steps", 4) => Some(steps(scope)),
         ("needs", 5) => Some(needs(scope, number(4)?)),
         _ => None,
@@ -298,9 +487,12 @@ fn task(words: &[&str]) -> Option<Result<String, Failure>> {
 }
 
 /// The scopes of `make test`.
-const PART: [&str; 6] = [
+const PART: [&str; 9] = [
     "lines 3 3 3",
     "lines 2 4 4",
+    "under 3 3 3",
+    "under 2 4 3",
+    "under 4 2 2",
     "steps 2 3 3",
     "steps 3 2 2",
     "needs 2 3 3 5",
@@ -308,7 +500,14 @@ const PART: [&str; 6] = [
 ];
 
 /// Larger ones: some minutes.
-const MORE: [&str; 4] = ["lines 3 3 4", "lines 4 2 3", "steps 3 3 2", "needs 3 2 3 4"];
+const MORE: [&str; 6] = [
+    "lines 3 3 4",
+    "lines 4 2 3",
+    "under 2 4 4",
+    "under 4 2 3",
+    "steps 3 3 2",
+    "needs 3 2 3 4",
+];
 
 fn main() -> ExitCode {
     let words: Vec<String> = env::args().skip(1).collect();
@@ -331,7 +530,7 @@ fn main() -> ExitCode {
                 return ExitCode::FAILURE;
             }
             None => {
-                eprintln!("usage: scopes [more | lines N C M | steps N C M | needs N C M DEPTH]");
+                eprintln!("usage: scopes [more | lines N C M | under N C M | steps N C M | needs N C M DEPTH]");
                 return ExitCode::from(2);
             }
         }
