@@ -70,10 +70,10 @@ static int holds(const struct lent *l, const void *contents, size_t count)
 }
 
 /* ---- one call */
-enum call { CHECK_TABLE, RECOVERY_LINE, LINE_OF_SET, SEND, SAVE, FALL_BACK, KEEP_SHEET, LISTING };
+enum call { CHECK_TABLE, RECOVERY_LINE, LINE_OF_SET, LINE_UNDER, SEND, SAVE, FALL_BACK, KEEP_SHEET, LISTING };
 
 static const char *const names[] = {
-    "keeper_check_table", "keeper_recovery_line", "keeper_line_of_set", "keeper_send",
+    "keeper_check_table", "keeper_recovery_line", "keeper_line_of_set", "keeper_line_under", "keeper_send",
     "keeper_save", "keeper_fall_back", "keeper_keep_sheet", "keeper_listing",
 };
 
@@ -84,7 +84,7 @@ struct question {
     uint32_t set;
     uint16_t from; /* a save's process too */
     uint16_t to;
-    const uint16_t *list;
+    const uint16_t *list; /* a save's, or one of ceilings */
     size_t list_length;
     size_t numbers;
     size_t room;
@@ -109,6 +109,8 @@ static uint32_t call(const struct question *q, uint8_t *table, uint16_t *list, u
         return keeper_recovery_line(table, q->length, answer, q->room, written);
     case LINE_OF_SET:
         return keeper_line_of_set(table, q->length, q->set, answer, q->room, written);
+    case LINE_UNDER:
+        return keeper_line_under(table, q->length, list, q->list_length, answer, q->room, written);
     case SEND:
         return keeper_send(table, q->length, q->from, q->to, answer, q->room, written);
     case SAVE:
@@ -251,6 +253,49 @@ static void example_a_lines(void)
     }
 }
 
+/* Ceilings. The consistent lines of A are 0 0, 0 1, 1 1, 3 2 and 3 3. */
+static uint16_t many[65536 + 2];
+
+static void example_a_ceilings(void)
+{
+    static const uint16_t lines[4][4][2] = {
+        { { 0, 0 }, { 0, 1 }, { 0, 1 }, { 0, 1 } },
+        { { 0, 0 }, { 1, 1 }, { 1, 1 }, { 1, 1 } },
+        { { 0, 0 }, { 1, 1 }, { 1, 1 }, { 1, 1 } },
+        { { 0, 0 }, { 1, 1 }, { 3, 2 }, { 3, 3 } },
+    };
+    static const uint16_t above[][2] = {
+        { 4, 3 }, { 3, 4 }, { 4, 4 }, { 0, 4 }, { 4, 0 }, { 259, 3 }, { 3, 259 }, { 0, 4097 }, { 65535, 0 }, { 0, 65535 },
+    };
+    static const size_t lengths[] = { 0, 1, 3, 4, 256, 258, 65535, 65536, 65536 + 2 };
+    static const uint16_t fills[] = { 0, 3, 4, 65535 };
+    uint16_t list[2];
+    struct question q = about(LINE_UNDER, a_bytes, A_SIZE);
+    size_t i, k, l;
+    q.list = list;
+    q.list_length = 2;
+    for (list[0] = 0; list[0] < 4; list[0]++)
+        for (list[1] = 0; list[1] < 4; list[1]++)
+            of_numbers("A, ceilings at most the counts", q, lines[list[0]][list[1]], 2);
+    /* Both come before 16, and 17 before 18. */
+    for (q.room = 0; q.room <= 4; q.room += 2) {
+        q.list_length = 2;
+        for (i = 0; i < sizeof above / sizeof above[0]; i++) {
+            q.list = above[i];
+            refuses("A, a ceiling above its count", &q, KEEPER_CEILING_TOO_HIGH);
+        }
+        q.list = many;
+        for (k = 0; k < sizeof fills / sizeof fills[0]; k++) {
+            for (l = 0; l < sizeof many / sizeof many[0]; l++)
+                many[l] = fills[k];
+            for (l = 0; l < sizeof lengths / sizeof lengths[0]; l++) {
+                q.list_length = lengths[l];
+                refuses("A, ceilings of another number", &q, KEEPER_WRONG_CEILING_COUNT);
+            }
+        }
+    }
+}
+
 static void example_a_steps(void)
 {
     static const uint16_t sent[] = { 2, 6, 3, 3, 0, 0, 1, 0, 1, 1, 0, 2, 1, 2, 0, 2,
@@ -386,6 +431,30 @@ static size_t put_large(uint8_t *to, size_t messages, uint16_t count_1, uint16_t
     return KEEPER_TABLE_SIZE(32, messages);
 }
 
+/* Ceilings of 32 processes, whose counts are 1, on `large`, where all messages wait: the line is the ceilings. */
+static void ceilings_of_32(void)
+{
+    uint16_t list[33];
+    struct question q = about(LINE_UNDER, large, KEEPER_LARGEST_TABLE);
+    size_t p;
+    q.list = list;
+    q.list_length = 32;
+    for (p = 0; p < 33; p++)
+        list[p] = 0;
+    of_numbers("32 ceilings of 0", q, list, 32);
+    for (p = 0; p < 32; p++) {
+        list[p] = 1;
+        of_numbers("32 ceilings, some of them 1", q, list, 32);
+        list[p] = 2;
+        refuses("32 ceilings, one of them 2", &q, KEEPER_CEILING_TOO_HIGH);
+        list[p] = 1;
+    }
+    q.list_length = 31;
+    refuses("31 ceilings for 32", &q, KEEPER_WRONG_CEILING_COUNT);
+    q.list_length = 33;
+    refuses("33 ceilings for 32", &q, KEEPER_WRONG_CEILING_COUNT);
+}
+
 static void largest(void)
 {
     static uint16_t list[KEEPER_MOST_MESSAGES], lines[KEEPER_SCRATCH_NUMBERS], line[32];
@@ -429,6 +498,7 @@ static void largest(void)
     q.set = 0x80000000u;
     of_numbers("31 holds", q, line, 32);
     same("largest line", KEEPER_LINE_SIZE(32), KEEPER_LARGEST_LINE);
+    ceilings_of_32();
     /* A fall back drops every message: an answer much shorter than the table. */
     a.size = put_large(other, 0, 1, 0);
     answers("all wait", about(FALL_BACK, large, KEEPER_LARGEST_TABLE), a);
@@ -494,6 +564,27 @@ static void full_counts(void)
     q.from = 1;
     q.list_length = 0;
     of_numbers("count 1", q, after_1, 8);
+}
+
+/* Ceilings there: a message (1,0) to (0,4095). */
+static void full_ceilings(void)
+{
+    static const uint16_t numbers[] = { 2, 1, 4096, 1, 1, 0, 0, 4095 };
+    static const uint16_t lists[][2] = { { 4096, 1 }, { 4095, 1 }, { 4096, 0 }, { 4095, 0 }, { 4094, 0 }, { 0, 1 } };
+    static const uint16_t lines[][2] = { { 4096, 1 }, { 4095, 1 }, { 4094, 0 }, { 4094, 0 }, { 4094, 0 }, { 0, 1 } };
+    static const uint16_t above[][2] = { { 4097, 1 }, { 4096, 2 }, { 4097, 0 }, { 8192, 1 } };
+    uint8_t table[16];
+    struct question q = about(LINE_UNDER, table, put_numbers(table, numbers, 8));
+    size_t i;
+    q.list_length = 2;
+    for (i = 0; i < sizeof lists / sizeof lists[0]; i++) {
+        q.list = lists[i];
+        of_numbers("count 4,096, ceilings", q, lines[i], 2);
+    }
+    for (i = 0; i < sizeof above / sizeof above[0]; i++) {
+        q.list = above[i];
+        refuses("count 4,096, a ceiling above its count", &q, KEEPER_CEILING_TOO_HIGH);
+    }
 }
 
 /* ---- sizes */
@@ -618,11 +709,13 @@ int main(void)
     words();
     version();
     example_a_lines();
+    example_a_ceilings();
     example_a_steps();
     example_a_sheet();
     refused_in_every_call();
     largest();
     full_counts();
+    full_ceilings();
     if (failures != 0) {
         printf("calls: %d failures\n", failures);
         return 1;

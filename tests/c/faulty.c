@@ -10,6 +10,7 @@
 __typeof__(keeper_check_table) faulty_check_table;
 __typeof__(keeper_recovery_line) faulty_recovery_line;
 __typeof__(keeper_line_of_set) faulty_line_of_set;
+__typeof__(keeper_line_under) faulty_line_under;
 __typeof__(keeper_send) faulty_send;
 __typeof__(keeper_save) faulty_save;
 __typeof__(keeper_fall_back) faulty_fall_back;
@@ -54,6 +55,49 @@ uint32_t faulty_line_of_set(const uint8_t *table, size_t length, uint32_t set, u
     if (fault(15)) set = ~set & 3u;
     if (fault(16) && length >= 4 && (set >> table[0]) != 0) return KEEPER_UNKNOWN_PROCESS_IN_SET;
     return keeper_line_of_set(table, length, set, answer, room, written);
+}
+
+uint32_t faulty_line_under(const uint8_t *table, size_t length, const uint16_t *ceilings, size_t ceilings_length,
+                           uint8_t *answer, size_t room, size_t *written)
+{
+    uint16_t counts[KEEPER_MOST_PROCESSES], other[KEEPER_MOST_PROCESSES];
+    uint16_t *list = (uint16_t *)(uintptr_t)ceilings;
+    size_t p, n = keeper_check_table(table, length) == KEEPER_OK ? table[0] : 0;
+    int fits = ceilings_length == n;
+    uint32_t r;
+    for (p = 0; p < n; p++) {
+        counts[p] = keeper_u16_at(table, 4 + 2 * p);
+        if (fits) other[p] = ceilings[p];
+        if (fault(48) && fits && ceilings[p] == counts[p]) return KEEPER_CEILING_TOO_HIGH;
+        if (fault(49) && fits && ceilings[p] == counts[p] + 1) other[p] = counts[p];
+        if (fault(50) && p < ceilings_length && !fits && ceilings[p] > counts[p]) return KEEPER_CEILING_TOO_HIGH;
+        if (fault(51) && fits && ceilings[p] < counts[p]) other[p] = counts[p];
+        if (fault(52) && fits && p == n - 1 && ceilings[p] < counts[p]) other[p] = counts[p];
+        if (fault(53) && fits) other[p] &= 0xFF;
+        if (fault(54) && fits && ceilings[p] + 1 < counts[p]) other[p] = (uint16_t)(counts[p] - 1);
+    }
+    if (fault(55) && n != 0 && room < 2 * n) return KEEPER_ANSWER_TOO_SHORT;
+    if (fault(56) && n != 0 && ceilings_length == 0) return keeper_line_of_set(table, length, 0, answer, room, written);
+    if (fault(57)) ceilings_length &= 0xFF;
+    if (fault(58)) ceilings_length &= 0xFFFF;
+    if (fault(59) && n != 0 && ceilings_length > n) ceilings_length = n;
+    if (fault(60) && ceilings_length == 0) return KEEPER_WRONG_CEILING_COUNT;
+    r = keeper_line_under(table, length, fits && n != 0 ? other : ceilings, ceilings_length, answer, room, written);
+    if (fault(61) && r == KEEPER_OK) memset(answer, 0, *written);
+    for (p = 0; p < n; p++)
+        if (fault(62) && r == KEEPER_OK) keeper_put_u16(answer, 2 * p, ceilings[p]);
+    if (fault(63) && r == KEEPER_OK) answer[*written] = 0;
+    if (fault(64) && r == KEEPER_WRONG_CEILING_COUNT && room > 0) answer[room - 1] = 0;
+    if (fault(65) && r == KEEPER_CEILING_TOO_HIGH && room > 0) answer[0] = 0;
+    if (fault(66) && r == KEEPER_WRONG_CEILING_COUNT) *written = 0;
+    if (fault(67) && r == KEEPER_CEILING_TOO_HIGH) *written = 0;
+    if (fault(68) && r == KEEPER_ANSWER_TOO_SHORT) *written = 2 * n;
+    if (fault(69) && r == KEEPER_OK) list[0] ^= 1;
+    if (fault(70) && r == KEEPER_WRONG_CEILING_COUNT && ceilings_length == 65536) list[65535] ^= 1;
+    if (fault(71) && r == KEEPER_OK) list[n] ^= 1;
+    if (fault(72) && r == KEEPER_WRONG_CEILING_COUNT && ceilings == NULL) return KEEPER_OK;
+    if (fault(73) && r == KEEPER_OK && ((uintptr_t)answer & 1) != 0) answer[0] ^= 1;
+    return r;
 }
 
 uint32_t faulty_send(const uint8_t *table, size_t length, uint16_t from, uint16_t to, uint8_t *answer, size_t room, size_t *written)
