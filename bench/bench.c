@@ -35,24 +35,30 @@ struct implementation {
     const char *name;
     __typeof__(keeper_keep_sheet) *keep_sheet;
     __typeof__(keeper_recovery_line) *recovery_line;
+    __typeof__(keeper_line_under) *line_under;
     __typeof__(keeper_fall_back) *fall_back;
     __typeof__(keeper_send) *send;
     __typeof__(keeper_save) *save;
 };
 
 static const struct implementation implementations[IMPLEMENTATIONS] = {
-    {"archive", keeper_keep_sheet, keeper_recovery_line, keeper_fall_back, keeper_send, keeper_save},
-    {"C", plain_keep_sheet, plain_recovery_line, plain_fall_back, plain_send, plain_save},
-    {"C-without-checks", bare_keep_sheet, bare_recovery_line, bare_fall_back, bare_send, bare_save},
-    {"Rust", rust_keep_sheet, rust_recovery_line, rust_fall_back, rust_send, rust_save},
-    {"work-list-marks", marks_keep_sheet, marks_recovery_line, marks_fall_back, NULL, NULL},
-    {"work-list-ranges", ranges_keep_sheet, ranges_recovery_line, ranges_fall_back, NULL, NULL},
+    {"archive", keeper_keep_sheet, keeper_recovery_line, keeper_line_under, keeper_fall_back, keeper_send, keeper_save},
+    {"C", plain_keep_sheet, plain_recovery_line, plain_line_under, plain_fall_back, plain_send, plain_save},
+    {"C-without-checks", bare_keep_sheet, bare_recovery_line, bare_line_under, bare_fall_back, bare_send, bare_save},
+    {"Rust", rust_keep_sheet, rust_recovery_line, rust_line_under, rust_fall_back, rust_send, rust_save},
+    {"work-list-marks", marks_keep_sheet, marks_recovery_line, marks_line_under, marks_fall_back, NULL, NULL},
+    {"work-list-ranges", ranges_keep_sheet, ranges_recovery_line, ranges_line_under, ranges_fall_back, NULL, NULL},
 };
 
-enum { SHEET_CALL, LINE_CALL, FALL_BACK_CALL, SEND_CALL, SAVE_CALL, CALLS };
+/* A line under ceilings twice: under half of each count, and under the counts. */
+enum { SHEET_CALL, LINE_CALL, HALVES_CALL, COUNTS_CALL, FALL_BACK_CALL, SEND_CALL, SAVE_CALL, CALLS };
 
-static const char *const call_names[CALLS] = {"keep-sheet", "recovery-line", "fall-back", "send", "save"};
-static const char *const call_titles[CALLS] = {"Keep sheet", "Recovery line", "Fall back", "Send", "Save"};
+static const char *const call_names[CALLS] = {
+    "keep-sheet", "recovery-line", "line-under-halves", "line-under-counts", "fall-back", "send", "save",
+};
+static const char *const call_titles[CALLS] = {
+    "Keep sheet", "Recovery line", "Line under half of each count", "Line under the counts", "Fall back", "Send", "Save",
+};
 
 /* ------------------------------------------------------------------------------------------------- */
 /* Rows. */
@@ -73,12 +79,13 @@ struct row {
     bool history;                  /* a row of the second goal; its passes are few, so it is also looked at closely */
     uint8_t table[KEEPER_LARGEST_TABLE], shorter[KEEPER_LARGEST_TABLE];
     size_t length, shorter_length, n, m;
+    uint16_t halves[KEEPER_MOST_PROCESSES], counts[KEEPER_MOST_PROCESSES];
     uint16_t saver, list[KEEPER_MOST_MESSAGES];
     size_t entries;
     bool propagates[KEEPER_MOST_PROCESSES];        /* the single holders whose lines take passes */
     size_t propagating;
     size_t kept, logged, kept_before, logged_before;
-    double passes_of_holders, passes_of_recovery;
+    double passes_of_holders, passes_of_recovery, passes_of_halves;
     /* What is measured: numbers of one kind alone, so that they can be taken together one by one. */
     struct figures {
         struct times times[CALLS][IMPLEMENTATIONS];
@@ -125,6 +132,10 @@ static uint32_t call(const struct row *row, int which, int call)
         return by->keep_sheet(row->table, row->length, scratch, sizeof scratch / 2, answer, sizeof answer, &written);
     case LINE_CALL:
         return by->recovery_line(row->table, row->length, answer, sizeof answer, &written);
+    case HALVES_CALL:
+        return by->line_under(row->table, row->length, row->halves, row->n, answer, sizeof answer, &written);
+    case COUNTS_CALL:
+        return by->line_under(row->table, row->length, row->counts, row->n, answer, sizeof answer, &written);
     case FALL_BACK_CALL:
         return by->fall_back(row->table, row->length, answer, sizeof answer, &written);
     case SEND_CALL:
@@ -152,6 +163,10 @@ static void read_table(struct row *row)
     row->n = number_at(table);
     row->m = number_at(table + 2);
     size_t sends = 4 + 2 * row->n, receipts = sends + 4 * row->m;
+    for (size_t p = 0; p < row->n; p++) {
+        row->counts[p] = number_at(table + 4 + 2 * p);
+        row->halves[p] = row->counts[p] / 2;
+    }
     /* For a send: the table without its last message. */
     memcpy(row->shorter, table, receipts - 4);
     row->shorter[2] = (uint8_t)((row->m - 1) & 0xFF);
@@ -393,24 +408,26 @@ static void take_together(char **paths, int places)
 enum { PAINTED = 32768 };
 
 enum {
-    CHECK_EXPORT, LINE_EXPORT, SET_EXPORT, SEND_EXPORT, SAVE_EXPORT, FALL_BACK_EXPORT, SHEET_EXPORT, LISTING_EXPORT,
-    TABLE_CHECK_EXPORT, PROCESSES_EXPORT, MESSAGES_EXPORT, COUNT_EXPORT, SENDER_EXPORT, SENT_EXPORT, RECEIVER_EXPORT,
+    CHECK_EXPORT, LINE_EXPORT, SET_EXPORT, UNDER_EXPORT, SEND_EXPORT, SAVE_EXPORT, FALL_BACK_EXPORT, SHEET_EXPORT,
+    LISTING_EXPORT, TABLE_CHECK_EXPORT, PROCESSES_EXPORT, MESSAGES_EXPORT, COUNT_EXPORT, SENDER_EXPORT, SENT_EXPORT, RECEIVER_EXPORT,
     RECEIVED_EXPORT, EXPORTS
 };
 
 static const char *const export_names[EXPORTS] = {
-    "keeper_check_table", "keeper_recovery_line", "keeper_line_of_set", "keeper_send", "keeper_save",
-    "keeper_fall_back", "keeper_keep_sheet", "keeper_listing", "run_table_check", "run_table_processes",
-    "run_table_messages", "run_table_count", "run_table_sender", "run_table_sent", "run_table_receiver",
-    "run_table_received",
+    "keeper_check_table", "keeper_recovery_line", "keeper_line_of_set", "keeper_line_under", "keeper_send",
+    "keeper_save", "keeper_fall_back", "keeper_keep_sheet", "keeper_listing", "run_table_check",
+    "run_table_processes", "run_table_messages", "run_table_count", "run_table_sender", "run_table_sent",
+    "run_table_receiver", "run_table_received",
 };
 
 static uint8_t listing[KEEPER_LISTING_ROOM];
 
-/* The arguments of a call: of a save its process and list, of a lookup its index. */
+/* The arguments of a call: the ceilings of a line, of a save its process and list, of a lookup its index. */
 struct arguments {
     const uint8_t *table;
     size_t length;
+    const uint16_t *ceilings;
+    size_t of_ceilings;
     uint16_t process;
     const uint16_t *list;
     size_t entries, index;
@@ -429,6 +446,7 @@ __attribute__((noinline)) static size_t stack_of(int export, const struct argume
     case CHECK_EXPORT: sink = keeper_check_table(table, length); break;
     case LINE_EXPORT: sink = keeper_recovery_line(table, length, answer, sizeof answer, &written); break;
     case SET_EXPORT: sink = keeper_line_of_set(table, length, 1, answer, sizeof answer, &written); break;
+    case UNDER_EXPORT: sink = keeper_line_under(table, length, with->ceilings, with->of_ceilings, answer, sizeof answer, &written); break;
     case SEND_EXPORT: sink = keeper_send(table, length, 0, 1, answer, sizeof answer, &written); break;
     case SAVE_EXPORT: sink = keeper_save(table, length, with->process, with->list, with->entries, answer, sizeof answer, &written); break;
     case FALL_BACK_EXPORT: sink = keeper_fall_back(table, length, answer, sizeof answer, &written); break;
@@ -455,10 +473,12 @@ __attribute__((noinline)) static size_t stack_of(int export, const struct argume
 static const struct {
     size_t length;
     uint8_t bytes[8];
+    size_t n;
+    uint16_t ceilings[2];
 } small_tables[] = {
-    {6, {1, 0, 0, 0, 1, 0}},
-    {8, {2, 0, 0, 0, 0, 16, 0, 16}},
-    {3, {0}},
+    {6, {1, 0, 0, 0, 1, 0}, 1, {1}},
+    {8, {2, 0, 0, 0, 0, 16, 0, 16}, 2, {4096, 1}},
+    {3, {0}, 0, {0}},
 };
 
 static void stack_over(int export, const struct arguments *with, size_t *least, size_t *most)
@@ -478,11 +498,11 @@ static void measure_stack(size_t least[EXPORTS], size_t most[EXPORTS])
         most[e] = 0;
         for (size_t r = 0; r < row_count; r++) {
             const struct row *row = &rows[r];
-            stack_over(e, &(struct arguments){row->table, row->length, row->saver, row->list, row->entries, 0}, &least[e], &most[e]);
-            stack_over(e, &(struct arguments){row->shorter, row->shorter_length, row->saver, row->list, 0, row->m}, &least[e], &most[e]);
+            stack_over(e, &(struct arguments){row->table, row->length, row->halves, row->n, row->saver, row->list, row->entries, 0}, &least[e], &most[e]);
+            stack_over(e, &(struct arguments){row->shorter, row->shorter_length, row->counts, row->n, row->saver, row->list, 0, row->m}, &least[e], &most[e]);
         }
         for (size_t t = 0; t < sizeof small_tables / sizeof small_tables[0]; t++)
-            stack_over(e, &(struct arguments){small_tables[t].bytes, small_tables[t].length, 0, NULL, 0, 0}, &least[e], &most[e]);
+            stack_over(e, &(struct arguments){small_tables[t].bytes, small_tables[t].length, small_tables[t].ceilings, small_tables[t].n, 0, NULL, 0, 0}, &least[e], &most[e]);
     }
 }
 
@@ -603,12 +623,12 @@ static const char *brief(double value)
 
 static void say_tables(void)
 {
-    SAY("| table | N | M | passes a line | passes, recovery line | K | Q | K, traditional | Q, traditional |\n");
-    SAY("|---|---|---|---|---|---|---|---|---|\n");
+    SAY("| table | N | M | passes a line | passes, recovery line | passes, under halves | K | Q | K, traditional | Q, traditional |\n");
+    SAY("|---|---|---|---|---|---|---|---|---|---|\n");
     for (size_t r = 0; r < row_count; r++) {
         const struct row *row = &rows[r];
-        SAY("| %s | %zu | %zu | %.1f | %.0f | %zu | %zu | %zu | %zu |\n", row->label, row->n, row->m,
-            row->passes_of_holders, row->passes_of_recovery, row->kept, row->logged, row->kept_before, row->logged_before);
+        SAY("| %s | %zu | %zu | %.1f | %.0f | %.0f | %zu | %zu | %zu | %zu |\n", row->label, row->n, row->m,
+            row->passes_of_holders, row->passes_of_recovery, row->passes_of_halves, row->kept, row->logged, row->kept_before, row->logged_before);
     }
 }
 
@@ -746,6 +766,8 @@ static double pass_of_rust(const struct row *row) { return pass_cost(row, LINE_O
 static double counted(const struct row *row, int c) { return row->instructions[c][PLAIN] > 0 ? row->instructions[c][ARCHIVE] / row->instructions[c][PLAIN] : 0; }
 static double counted_sheet(const struct row *row) { return counted(row, SHEET_CALL); }
 static double counted_line(const struct row *row) { return counted(row, LINE_CALL); }
+static double counted_halves(const struct row *row) { return counted(row, HALVES_CALL); }
+static double counted_counts(const struct row *row) { return counted(row, COUNTS_CALL); }
 static double counted_fall_back(const struct row *row) { return counted(row, FALL_BACK_CALL); }
 static double counted_send(const struct row *row) { return counted(row, SEND_CALL); }
 static double counted_save(const struct row *row) { return counted(row, SAVE_CALL); }
@@ -768,6 +790,8 @@ static const struct {
     {"pass-of-rust", pass_of_rust, " ns"},
     {"instructions-sheet", counted_sheet, ""},
     {"instructions-line", counted_line, ""},
+    {"instructions-halves", counted_halves, ""},
+    {"instructions-counts", counted_counts, ""},
     {"instructions-fall-back", counted_fall_back, ""},
     {"instructions-send", counted_send, ""},
     {"instructions-save", counted_save, ""},
@@ -869,6 +893,7 @@ static void compare_rows(void)
     for (size_t r = 0; r < row_count; r++) {
         compare(&rows[r]);
         rows[r].passes_of_recovery = (double)plain_passes_of_recovery_line(rows[r].table);
+        rows[r].passes_of_halves = (double)plain_passes_under(rows[r].table, rows[r].halves);
         rows[r].passes_of_holders = (double)plain_passes_of_holders(rows[r].table) / (double)rows[r].n;
     }
 }

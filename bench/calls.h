@@ -11,6 +11,7 @@
 AS_KEEPER(plain, check_table);
 AS_KEEPER(plain, line_of_set);
 AS_KEEPER(plain, recovery_line);
+AS_KEEPER(plain, line_under);
 AS_KEEPER(plain, send);
 AS_KEEPER(plain, save);
 AS_KEEPER(plain, fall_back);
@@ -18,6 +19,7 @@ AS_KEEPER(plain, keep_sheet);
 
 /* Plain C without the checks of the table. */
 AS_KEEPER(bare, recovery_line);
+AS_KEEPER(bare, line_under);
 AS_KEEPER(bare, send);
 AS_KEEPER(bare, save);
 AS_KEEPER(bare, fall_back);
@@ -26,6 +28,7 @@ AS_KEEPER(bare, keep_sheet);
 /* Rust: the same passes, after the same checks. */
 AS_KEEPER(rust, check_table);
 AS_KEEPER(rust, recovery_line);
+AS_KEEPER(rust, line_under);
 AS_KEEPER(rust, send);
 AS_KEEPER(rust, save);
 AS_KEEPER(rust, fall_back);
@@ -34,17 +37,20 @@ AS_KEEPER(rust, keep_sheet);
 /* Rollback propagation by a work list over the checkpoint graph, after the same checks: with a mark for
    each checkpoint, as Figure 3 of the source has it. */
 AS_KEEPER(marks, recovery_line);
+AS_KEEPER(marks, line_under);
 AS_KEEPER(marks, fall_back);
 AS_KEEPER(marks, keep_sheet);
 
 /* The same, with the marked checkpoints of a process as a range: they are always its last ones. */
 AS_KEEPER(ranges, recovery_line);
+AS_KEEPER(ranges, line_under);
 AS_KEEPER(ranges, fall_back);
 AS_KEEPER(ranges, keep_sheet);
 
-/* How many passes over the messages the plain C version makes: of the recovery line, and of all single
-   holders together. */
+/* How many passes over the messages the plain C version makes: of the recovery line, of a line under
+   ceilings, and of all single holders together. */
 size_t plain_passes_of_recovery_line(const uint8_t *table);
+size_t plain_passes_under(const uint8_t *table, const uint16_t *ceilings);
 size_t plain_passes_of_holders(const uint8_t *table);
 
 #endif

@@ -65,6 +65,14 @@ size_t plain_passes_of_recovery_line(const uint8_t *table)
     return line_of_set(line, parts_of(table), EVERYONE);
 }
 
+size_t plain_passes_under(const uint8_t *table, const uint16_t *ceilings)
+{
+    uint16_t line[KEEPER_MOST_PROCESSES];
+    struct parts t = parts_of(table);
+    memcpy(line, ceilings, 2 * t.n);
+    return lower(line, t);
+}
+
 size_t plain_passes_of_holders(const uint8_t *table)
 {
     uint16_t line[KEEPER_MOST_PROCESSES];
@@ -82,6 +90,20 @@ static inline uint32_t do_recovery_line(const uint8_t *table, uint8_t *answer, s
     if (room < 2 * t.n)
         return KEEPER_ANSWER_TOO_SHORT;
     line_of_set(line, t, EVERYONE);
+    return put_line(line, t.n, answer, room, written);
+}
+
+static inline uint32_t do_line_under(const uint8_t *table, const uint16_t *ceilings, size_t ceilings_length, uint8_t *answer, size_t room, size_t *written)
+{
+    struct parts t = parts_of(table);
+    uint16_t line[KEEPER_MOST_PROCESSES];
+    uint32_t refusal = check_ceilings(t, ceilings, ceilings_length);
+    if (refusal != 0)
+        return refusal;
+    if (room < 2 * t.n)
+        return KEEPER_ANSWER_TOO_SHORT;
+    memcpy(line, ceilings, 2 * t.n);
+    lower(line, t);
     return put_line(line, t.n, answer, room, written);
 }
 
@@ -168,6 +190,8 @@ static inline uint32_t do_keep_sheet(const uint8_t *table, uint16_t *scratch, si
 #define CALLS(prefix, HOW) \
     uint32_t prefix##_recovery_line(const uint8_t *table, size_t length, uint8_t *answer, size_t room, size_t *written) \
     { HOW(do_recovery_line(table, answer, room, written)); } \
+    uint32_t prefix##_line_under(const uint8_t *table, size_t length, const uint16_t *ceilings, size_t ceilings_length, uint8_t *answer, size_t room, size_t *written) \
+    { HOW(do_line_under(table, ceilings, ceilings_length, answer, room, written)); } \
     uint32_t prefix##_send(const uint8_t *table, size_t length, uint16_t from, uint16_t to, uint8_t *answer, size_t room, size_t *written) \
     { HOW(do_send(table, from, to, answer, room, written)); } \
     uint32_t prefix##_save(const uint8_t *table, size_t length, uint16_t process, const uint16_t *list, size_t entries, uint8_t *answer, size_t room, size_t *written) \

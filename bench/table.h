@@ -85,6 +85,17 @@ static uint32_t check(const uint8_t *table, size_t length)
     return refusal_of[first];
 }
 
+/* The checks of a list of ceilings. */
+static inline uint32_t check_ceilings(struct parts t, const uint16_t *ceilings, size_t ceilings_length)
+{
+    if (ceilings_length != t.n)
+        return KEEPER_WRONG_CEILING_COUNT;
+    for (size_t p = 0; p < t.n; p++)
+        if (ceilings[p] > u16_at(t.counts + 2 * p))
+            return KEEPER_CEILING_TOO_HIGH;
+    return 0;
+}
+
 /* A line as an answer. */
 static inline uint32_t put_line(const uint16_t *line, size_t n, uint8_t *answer, size_t room, size_t *written)
 {

@@ -1,5 +1,5 @@
-/* Rollback propagation by a work list over the checkpoint graph (Figure 3 of the source): the latest
-   checkpoint of each process is the root set, what is strictly reachable is marked, and a marked root
+/* Rollback propagation by a work list over the checkpoint graph (Figure 3 of the source): the ceiling of
+   each process is in the root set, what is strictly reachable is marked, and a marked root
    gives way to the latest unmarked checkpoint of its process. An edge leads from checkpoint y of j to
    checkpoint r of i for each received message, and from each checkpoint to the next of its process.
 
@@ -47,15 +47,21 @@ static void build(struct parts t)
     }
 }
 
-/* The line of a set, with the marked checkpoints of a process as a range. */
-static void line_by_ranges(uint16_t *line, uint32_t set)
+/* The ceilings of a set of processes that hold. */
+static inline void ceilings_of_set(uint16_t *line, uint32_t set)
+{
+    for (size_t p = 0; p < graph.n; p++)
+        line[p] = (uint16_t)(graph.count[p] - (set >> p & 1));
+}
+
+/* From its ceilings down to the line, with the marked checkpoints of a process as a range. */
+static void line_by_ranges(uint16_t *line)
 {
     uint16_t done[KEEPER_MOST_PROCESSES];
     uint32_t work = 0;
     for (size_t p = 0; p < graph.n; p++) {
         done[p] = graph.count[p];
-        line[p] = (uint16_t)(graph.count[p] - (set >> p & 1));
-        work |= (set >> p & 1) << p;
+        work |= (uint32_t)(line[p] < graph.count[p]) << p;
     }
     while (work != 0) {
         unsigned p = (unsigned)__builtin_ctz(work);
@@ -100,15 +106,13 @@ static void mark_from(uint32_t root, unsigned p)
     }
 }
 
-/* The line of a set, with a mark for each checkpoint. */
-static void line_by_marks(uint16_t *line, uint32_t set)
+/* From its ceilings down to the line, with a mark for each checkpoint. */
+static void line_by_marks(uint16_t *line)
 {
     memset(marked, 0, graph.first[graph.n]);
-    for (size_t p = 0; p < graph.n; p++)
-        line[p] = (uint16_t)(graph.count[p] - (set >> p & 1));
-    /* The new checkpoint of a process that does not hold has no edges, so it need not be followed. */
+    /* The new checkpoint of a process has no edges, so it need not be followed. */
     for (unsigned p = 0; p < graph.n; p++)
-        if (set >> p & 1)
+        if (line[p] < graph.count[p])
             mark_from(graph.first[p] + line[p], p);
     for (int replaced = 1; replaced;) {
         replaced = 0;
@@ -123,7 +127,7 @@ static void line_by_marks(uint16_t *line, uint32_t set)
     }
 }
 
-#define CALLS(prefix, LINE_OF) \
+#define CALLS(prefix, LOWER) \
     uint32_t prefix##_recovery_line(const uint8_t *table, size_t length, uint8_t *answer, size_t room, size_t *written) \
     { \
         uint32_t refusal = check(table, length); \
@@ -132,7 +136,23 @@ static void line_by_marks(uint16_t *line, uint32_t set)
         struct parts t = parts_of(table); \
         uint16_t line[KEEPER_MOST_PROCESSES]; \
         build(t); \
-        LINE_OF(line, 0xFFFFFFFFu); \
+        ceilings_of_set(line, 0xFFFFFFFFu); \
+        LOWER(line); \
+        return put_line(line, t.n, answer, room, written); \
+    } \
+    uint32_t prefix##_line_under(const uint8_t *table, size_t length, const uint16_t *ceilings, size_t ceilings_length, uint8_t *answer, size_t room, size_t *written) \
+    { \
+        uint32_t refusal = check(table, length); \
+        if (refusal != 0) \
+            return refusal; \
+        struct parts t = parts_of(table); \
+        uint16_t line[KEEPER_MOST_PROCESSES]; \
+        refusal = check_ceilings(t, ceilings, ceilings_length); \
+        if (refusal != 0) \
+            return refusal; \
+        build(t); \
+        memcpy(line, ceilings, 2 * t.n); \
+        LOWER(line); \
         return put_line(line, t.n, answer, room, written); \
     } \
     uint32_t prefix##_fall_back(const uint8_t *table, size_t length, uint8_t *answer, size_t room, size_t *written) \
@@ -143,7 +163,8 @@ static void line_by_marks(uint16_t *line, uint32_t set)
         struct parts t = parts_of(table); \
         uint16_t line[KEEPER_MOST_PROCESSES]; \
         build(t); \
-        LINE_OF(line, 0xFFFFFFFFu); \
+        ceilings_of_set(line, 0xFFFFFFFFu); \
+        LOWER(line); \
         return put_fall_back(t, line, answer, room, written); \
     } \
     uint32_t prefix##_keep_sheet(const uint8_t *table, size_t length, uint16_t *scratch, size_t numbers, uint8_t *answer, size_t room, size_t *written) \
@@ -155,8 +176,10 @@ static void line_by_marks(uint16_t *line, uint32_t set)
         if (numbers < t.n * t.n) \
             return KEEPER_SCRATCH_TOO_SHORT; \
         build(t); \
-        for (size_t p = 0; p < t.n; p++) \
-            LINE_OF(scratch + t.n * p, 1u << p); \
+        for (size_t p = 0; p < t.n; p++) { \
+            ceilings_of_set(scratch + t.n * p, 1u << p); \
+            LOWER(scratch + t.n * p); \
+        } \
         return put_sheet(t, scratch, answer, room, written); \
     }
 

@@ -157,8 +157,8 @@ fn propagating(parts: &Parts) -> [bool; MOST_PROCESSES] {
     propagates
 }
 
-fn line_of_set(parts: &Parts, set: u32) -> Line {
-    let mut line = ceiling_of_set(parts, set);
+/// Lowers a line from its ceilings.
+fn lower(parts: &Parts, mut line: Line) -> Line {
     loop {
         let mut lowered = false;
         for ((sender, sent), (receiver, received)) in parts.messages().rev() {
@@ -173,6 +173,18 @@ fn line_of_set(parts: &Parts, set: u32) -> Line {
     }
 }
 
+fn line_of_set(parts: &Parts, set: u32) -> Line {
+    lower(parts, ceiling_of_set(parts, set))
+}
+
+fn put_line(line: &[u16], answer: &mut [u8], written: &mut usize) -> u32 {
+    for (place, number) in answer.chunks_exact_mut(2).zip(line) {
+        place.copy_from_slice(&number.to_le_bytes());
+    }
+    *written = 2 * line.len();
+    0
+}
+
 fn recovery_line(table: &[u8], answer: &mut [u8], written: &mut usize) -> u32 {
     let refusal = check(table);
     if refusal != 0 {
@@ -183,11 +195,28 @@ fn recovery_line(table: &[u8], answer: &mut [u8], written: &mut usize) -> u32 {
         return 16;
     }
     let line = line_of_set(&parts, EVERYONE);
-    for (place, number) in answer.chunks_exact_mut(2).zip(&line[..parts.n]) {
-        place.copy_from_slice(&number.to_le_bytes());
+    put_line(&line[..parts.n], answer, written)
+}
+
+fn line_under(table: &[u8], ceilings: &[u16], answer: &mut [u8], written: &mut usize) -> u32 {
+    let refusal = check(table);
+    if refusal != 0 {
+        return refusal;
     }
-    *written = 2 * parts.n;
-    0
+    let parts = Parts::of(table);
+    if ceilings.len() != parts.n {
+        return 17;
+    }
+    if (0..parts.n).any(|p| ceilings[p] > parts.count(p)) {
+        return 18;
+    }
+    if answer.len() < 2 * parts.n {
+        return 16;
+    }
+    let mut line = [0; MOST_PROCESSES];
+    line[..parts.n].copy_from_slice(ceilings);
+    let line = lower(&parts, line);
+    put_line(&line[..parts.n], answer, written)
 }
 
 fn send(table: &[u8], from: u16, to: u16, answer: &mut [u8], written: &mut usize) -> u32 {
@@ -389,6 +418,26 @@ pub unsafe extern "C" fn rust_recovery_line(
 ) -> u32 {
     recovery_line(
         from_raw_parts(table, length),
+        from_raw_parts_mut(answer, room),
+        written,
+    )
+}
+
+/// # Safety
+/// As above.
+#[no_mangle]
+pub unsafe extern "C" fn rust_line_under(
+    table: *const u8,
+    length: usize,
+    ceilings: *const u16,
+    ceilings_length: usize,
+    answer: *mut u8,
+    room: usize,
+    written: &mut usize,
+) -> u32 {
+    line_under(
+        from_raw_parts(table, length),
+        from_raw_parts(ceilings, ceilings_length),
         from_raw_parts_mut(answer, room),
         written,
     )
