@@ -98,6 +98,8 @@ refusals! {
     UnknownProcess = 10, call, "a process named in a send or save is N or above";
     SendToItself = 11, call, "a send names one process twice";
     UnknownProcessInSet = 12, call, "a set has a bit at N or above";
+    WrongCeilingCount = 17, call, "the list of ceilings does not have N numbers";
+    CeilingTooHigh = 18, call, "a ceiling is above its process's count";
     BadList = 13, call, "a save's list has a position of M or above, or not above the one before it, \
                          or of a message not waiting for that process";
     TableFull = 14, call, "a send meets M = 4,096, or a save meets a count of 4,096";
