@@ -67,6 +67,8 @@ enum keeper_refusal {
     KEEPER_UNKNOWN_PROCESS = 10,           /* a process named in a send or save is N or above */
     KEEPER_SEND_TO_ITSELF = 11,            /* a send names one process twice */
     KEEPER_UNKNOWN_PROCESS_IN_SET = 12,    /* a set has a bit at N or above */
+    KEEPER_WRONG_CEILING_COUNT = 17,       /* the list of ceilings does not have N numbers */
+    KEEPER_CEILING_TOO_HIGH = 18,          /* a ceiling is above its process's count */
     KEEPER_BAD_LIST = 13,                  /* a save's list has a position of M or above, or not above
                                               the one before it, or of a message not waiting for that
                                               process */
@@ -83,6 +85,8 @@ static inline const char *keeper_refusal_words(uint32_t refusal)
     case KEEPER_UNKNOWN_PROCESS: return "a process named in a send or save is N or above";
     case KEEPER_SEND_TO_ITSELF: return "a send names one process twice";
     case KEEPER_UNKNOWN_PROCESS_IN_SET: return "a set has a bit at N or above";
+    case KEEPER_WRONG_CEILING_COUNT: return "the list of ceilings does not have N numbers";
+    case KEEPER_CEILING_TOO_HIGH: return "a ceiling is above its process's count";
     case KEEPER_BAD_LIST:
         return "a save's list has a position of M or above, or not above the one before it, "
                "or of a message not waiting for that process";
@@ -142,19 +146,34 @@ uint32_t keeper_check_table(const uint8_t *table, size_t length);
    stands for what the process has become since its last one. A message sent after checkpoint y of j and
    received before checkpoint r of i (r not 0) is an orphan of a line where y is at or above the line at
    j and r at or below the line at i: received before the line, sent after it. A line without orphans is
-   consistent. Of the consistent lines under a ceiling one is the latest, at every process. */
+   consistent.
+
+   A ceiling is the highest number that a line may have at a process: that of a checkpoint, or the count.
+   Of the consistent lines at or below a ceiling for each process one is the latest, at every process: the
+   line under these ceilings. Lower ceilings never give a later line. A set of holding processes is one
+   kind of ceilings: a holding process has its last checkpoint (its count less one), any other its count. */
 
 /* The recovery line of the run: the latest consistent line at whose every process stands a checkpoint
-   that the table has. Checks: the table's, 16. The answer is N numbers by process, 2N bytes. Stack: 368. */
+   that the table has; each ceiling is the last one. Checks: the table's, 16. The answer is N numbers by
+   process, 2N bytes. Stack: 368. */
 uint32_t keeper_recovery_line(const uint8_t *table, size_t length, uint8_t *answer, size_t room,
                               size_t *written);
 
 /* The line of a set of processes that hold (take no checkpoint now), process p being bit p of `set`:
-   the latest consistent line with no holding process above its last checkpoint; the others may stand at
-   their counts. For the set of all N it is the recovery line, for the empty one it is the counts.
+   the line under the set's ceilings, with no holding process above its last checkpoint; the others may
+   stand at their counts. For the set of all N it is the recovery line, for the empty one it is the counts.
    Checks: the table's, 12, 16. The answer is N numbers by process, 2N bytes. Stack: 432. */
 uint32_t keeper_line_of_set(const uint8_t *table, size_t length, uint32_t set, uint8_t *answer,
                             size_t room, size_t *written);
+
+/* The line under a list of ceilings, one for each process: the latest consistent line with no process
+   above its ceiling. It is for taking up a run from before something was changed: the ceiling of a process
+   is its last checkpoint before the change, or its count where any will do. A ceiling may be any number
+   from 0 to the count, the count included. Under the ceilings of a set the answer is that of
+   keeper_line_of_set, byte for byte. `ceilings_length` counts 16-bit numbers; the list is only read.
+   Checks: the table's, 17, 18, 16. The answer is N numbers by process, 2N bytes. Stack: 432. */
+uint32_t keeper_line_under(const uint8_t *table, size_t length, const uint16_t *ceilings,
+                           size_t ceilings_length, uint8_t *answer, size_t room, size_t *written);
 
 /* Steps. The answer of each is an accepted table again. It is written to another buffer than the table
    is read from. */
