@@ -26,6 +26,15 @@ extern "C" {
         room: usize,
         written: *mut usize,
     ) -> u32;
+    pub fn keeper_line_under(
+        table: *const u8,
+        length: usize,
+        ceilings: *const u16,
+        ceilings_length: usize,
+        answer: *mut u8,
+        room: usize,
+        written: *mut usize,
+    ) -> u32;
     pub fn keeper_send(
         table: *const u8,
         length: usize,

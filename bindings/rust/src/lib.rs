@@ -101,7 +101,7 @@ pub const MOST_CHECKPOINTS: usize = 4_096;
 pub const LARGEST_TABLE: usize = 4 + 2 * MOST_PROCESSES + 8 * MOST_MESSAGES;
 
 /// The bytes of the largest line: enough for the answer of
-/// [`recovery_line`] and [`line_of_set`].
+/// [`recovery_line`], [`line_of_set`] and [`line_under`].
 pub const LARGEST_LINE: usize = 2 * MOST_PROCESSES;
 
 /// The numbers of scratch that are enough for [`keep_sheet`] on every table:
@@ -168,7 +168,9 @@ pub fn recovery_line(table: &[u8], answer: &mut [u8]) -> Result<usize, Refusal> 
 /// The line of a set of processes that hold, in which process p is bit p: the
 /// latest consistent line in which a holding process stands at one of its
 /// checkpoints, and any other may also stand at its new state, numbered as its
-/// count. The answer has the form of [`recovery_line`]'s.
+/// count. A set is one kind of ceilings, those of [`line_under`]: a holding
+/// process has its last checkpoint, and any other its count. The answer has the
+/// form of [`recovery_line`]'s.
 ///
 /// Checks: the table's, 12, 16.
 ///
@@ -195,6 +197,50 @@ pub fn line_of_set(table: &[u8], set: u32, answer: &mut [u8]) -> Result<usize, R
             table.as_ptr(),
             table.len(),
             set,
+            answer.as_mut_ptr(),
+            answer.len(),
+            &mut written,
+        )
+    };
+    outcome(number, written)
+}
+
+/// The line under a list of ceilings, one for each process by process: the
+/// latest consistent line in which no process stands above its ceiling. It is
+/// for taking up a run from before something was changed. A ceiling is the
+/// number of a checkpoint, or the count, which stands for the new state and
+/// leaves the process free. Lower ceilings never give a later line, and under
+/// the ceilings of a set the answer is that of [`line_of_set`], byte for byte.
+/// The answer has the form of [`recovery_line`]'s.
+///
+/// Checks: the table's, 17, 18, 16.
+///
+/// ```
+/// # let example_a: Vec<u8> = [2u16, 5, 3, 3, 0, 0, 1, 0, 1, 1, 0, 2, 1, 2, 1, 2, 0, 1, 0, 2, 1, 2, 0, 0]
+/// #     .iter().flat_map(|number| number.to_le_bytes()).collect();
+/// use keeper::{line_under, Refusal};
+/// let mut line = [0; keeper::LARGEST_LINE];
+/// // Process 1 from before its checkpoint 2; then process 0 from before its checkpoint 1.
+/// assert_eq!(line_under(&example_a, &[3, 1], &mut line), Ok(4));
+/// assert_eq!(line[..4], [1, 0, 1, 0]);
+/// assert_eq!(line_under(&example_a, &[0, 3], &mut line), Ok(4));
+/// assert_eq!(line[..4], [0, 0, 1, 0]);
+/// // The ceilings of the set of process 1.
+/// assert_eq!(line_under(&example_a, &[3, 2], &mut line), Ok(4));
+/// assert_eq!(line[..4], [3, 0, 2, 0]);
+/// // There are two processes, with three checkpoints each.
+/// assert_eq!(line_under(&example_a, &[3], &mut line), Err(Refusal::WrongCeilingCount));
+/// assert_eq!(line_under(&example_a, &[3, 4], &mut line), Err(Refusal::CeilingTooHigh));
+/// ```
+pub fn line_under(table: &[u8], ceilings: &[u16], answer: &mut [u8]) -> Result<usize, Refusal> {
+    let mut written = 0;
+    // SAFETY: see above `check_table`.
+    let number = unsafe {
+        archive::keeper_line_under(
+            table.as_ptr(),
+            table.len(),
+            ceilings.as_ptr(),
+            ceilings.len(),
             answer.as_mut_ptr(),
             answer.len(),
             &mut written,

@@ -211,6 +211,27 @@ impl Table {
         line(|answer| crate::line_of_set(&self.bytes, set, answer))
     }
 
+    /// The line under a list of ceilings, one for each process by process, as
+    /// [`line_under`](crate::line_under): for taking up the run from before
+    /// something was changed. Refused by 17 where there are not N of them, and by
+    /// 18 where one is above its process's count.
+    ///
+    /// ```
+    /// # use keeper::{Refusal, Table};
+    /// # let example_a: Vec<u8> = [2u16, 5, 3, 3, 0, 0, 1, 0, 1, 1, 0, 2, 1, 2, 1, 2, 0, 1, 0, 2, 1, 2, 0, 0]
+    /// #     .iter().flat_map(|number| number.to_le_bytes()).collect();
+    /// let table = Table::from_bytes(&example_a[..])?;
+    /// // Process 0 is taken up from before its checkpoint 1; process 1 is free.
+    /// assert_eq!(*table.line_under(&[0, table.count(1)])?, [0, 1]);
+    /// assert_eq!(table.line_under(&[2, 2])?, table.recovery_line());
+    /// assert_eq!(table.line_under(&[4, 0]), Err(Refusal::CeilingTooHigh));
+    /// assert_eq!(table.line_under(&[]), Err(Refusal::WrongCeilingCount));
+    /// # Ok::<(), Refusal>(())
+    /// ```
+    pub fn line_under(&self, ceilings: &[u16]) -> Result<Line, Refusal> {
+        line(|answer| crate::line_under(&self.bytes, ceilings, answer))
+    }
+
     /// Sends a message from one process to another, and answers its position.
     /// Refused by 10, 11 and 14, as [`send`](crate::send).
     ///
