@@ -211,7 +211,9 @@ pub fn line_of_set(table: &[u8], set: u32, answer: &mut [u8]) -> Result<usize, R
 /// number of a checkpoint, or the count, which stands for the new state and
 /// leaves the process free. Lower ceilings never give a later line, and under
 /// the ceilings of a set the answer is that of [`line_of_set`], byte for byte.
-/// The answer has the form of [`recovery_line`]'s.
+/// The keep sheet does not answer for this line: whoever discards by sheets may
+/// no longer have what it needs. The answer has the form of
+/// [`recovery_line`]'s.
 ///
 /// Checks: the table's, 17, 18, 16.
 ///
