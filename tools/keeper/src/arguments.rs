@@ -15,6 +15,7 @@ enum Value {
     Text(String),
     Number(u16),
     Numbers(Vec<u16>),
+    Ceilings(Vec<Option<u16>>),
     Word(&'static str),
     Item(Item),
 }
@@ -50,6 +51,14 @@ impl Arguments {
         match self.value(name) {
             Some(Value::Numbers(numbers)) => numbers,
             _ => &[],
+        }
+    }
+
+    /// The ceilings that were given, by process; `None` where one is `-`.
+    pub fn ceilings(&self, name: &str) -> Option<&[Option<u16>]> {
+        match self.value(name) {
+            Some(Value::Ceilings(ceilings)) => Some(ceilings),
+            _ => None,
         }
     }
 
@@ -135,7 +144,19 @@ pub fn parse(
         take(subcommand, &mut parsed, option, &name, attached, &mut rest)?;
     }
     positions(subcommand, &mut parsed, plain)?;
-    Ok(Some(parsed))
+    // An argument that may be given any number of times is there without any.
+    let given = |name: &str| match parsed.value(name) {
+        Some(Value::Numbers(numbers)) => !numbers.is_empty(),
+        value => value.is_some(),
+    };
+    let mut excluding = usage::EXCLUDING.iter();
+    match excluding.find(|(one, other)| given(one) && given(other)) {
+        Some((one, other)) => Err(wrong(
+            subcommand,
+            format_args!("{one} and {other} exclude each other"),
+        )),
+        None => Ok(Some(parsed)),
+    }
 }
 
 /// An option's name and what is attached to it: `--hold=1`, `-oFILE`.
@@ -219,6 +240,11 @@ fn value(subcommand: &Subcommand, takes: Takes, given: OsString) -> Result<Value
                 return Err(wrong(subcommand, what));
             }
         },
+        Takes::Ceilings => {
+            let parts = given.as_bytes().split(|byte| *byte == b',');
+            let ceilings = parts.map(|part| ceiling(subcommand, &given, OsStr::from_bytes(part)));
+            Value::Ceilings(ceilings.collect::<Result<_, _>>()?)
+        }
         Takes::OneOf(words) => Value::Word(one_of(words).ok_or_else(|| {
             let shown = given.to_string_lossy();
             wrong(
@@ -328,6 +354,22 @@ fn number(subcommand: &Subcommand, argument: &OsStr) -> Result<u16, Failure> {
     parsed.ok_or_else(|| not_a_number(subcommand, argument))
 }
 
+/// A part of a list of ceilings.
+fn ceiling(subcommand: &Subcommand, list: &OsStr, part: &OsStr) -> Result<Option<u16>, Failure> {
+    if part == "-" {
+        return Ok(None);
+    }
+    number(subcommand, part).map(Some).map_err(|_| {
+        let list = list.to_string_lossy();
+        let what = match part.is_empty() {
+            true => format!("`{list}`: a ceiling is missing"),
+            false => format!("`{}` is no ceiling", part.to_string_lossy()),
+        };
+        let what = format_args!("{what}: each is a number from 0 to 65535, or `-`");
+        wrong(subcommand, what)
+    })
+}
+
 fn not_a_number(subcommand: &Subcommand, argument: &OsStr) -> Failure {
     let shown = argument.to_string_lossy();
     let what = format_args!("`{shown}` is not a number from 0 to 65535");
@@ -351,6 +393,8 @@ mod tests {
     static FLAG: Opt = option(&["--flag", "-f"], Takes::Nothing);
     static NUMBERS: Opt = option(&["--numbers", "-n"], Takes::Numbers);
     static EITHER: Opt = option(&["--either"], Takes::NumbersOr(&["all", "none"]));
+    static CEILINGS: Opt = option(&["--under"], Takes::Ceilings);
+    static HOLD: Opt = option(&["--hold"], Takes::NumbersOr(&["all"]));
     static ROW: Subcommand = Subcommand {
         name: "row",
         arguments: &[
@@ -366,7 +410,7 @@ mod tests {
             },
         ],
         file: true,
-        options: &[&FLAG, &NUMBERS, &EITHER],
+        options: &[&FLAG, &NUMBERS, &EITHER, &CEILINGS, &HOLD],
         short: "",
         words: "",
         work: Work::Alone(|_| Ok(())),
@@ -404,6 +448,19 @@ mod tests {
         assert_eq!(two.numbers("REST"), [4, 5]);
         assert_eq!(two.file.as_deref(), Some(OsStr::new("six")));
         assert!(!two.has("--flag"));
+        // A dash by itself, or at the front, is a ceiling and no option.
+        for (list, ceilings) in [
+            ("3", vec![Some(3)]),
+            ("-", vec![None]),
+            ("0,65535", vec![Some(0), Some(65535)]),
+            ("-,2,-", vec![None, Some(2), None]),
+        ] {
+            let apart = given(&["one", "--under", list]);
+            assert_eq!(apart.ceilings("--under"), Some(&ceilings[..]), "{list}");
+            let attached = given(&["one", &format!("--under={list}")]);
+            assert_eq!(attached.ceilings("--under"), Some(&ceilings[..]), "{list}");
+        }
+        assert_eq!(one.ceilings("--under"), None);
         // Behind `--` nothing is an option.
         let three = given(&["--", "one", "--flag"]);
         assert_eq!(three.file.as_deref(), Some(OsStr::new("--flag")));
@@ -430,6 +487,34 @@ mod tests {
             (
                 &["one", "--either=some"],
                 "`some` is neither a number nor `all` or `none`",
+            ),
+            (
+                &["one", "--under=3,,2"],
+                "`3,,2`: a ceiling is missing: each is a number from 0 to 65535, or `-`",
+            ),
+            (
+                &["one", "--under", ""],
+                "``: a ceiling is missing: each is a number from 0 to 65535, or `-`",
+            ),
+            (
+                &["one", "--under", "1,-2"],
+                "`-2` is no ceiling: each is a number from 0 to 65535, or `-`",
+            ),
+            (
+                &["one", "--under", "65536"],
+                "`65536` is no ceiling: each is a number from 0 to 65535, or `-`",
+            ),
+            (
+                &["one", "--under", "1", "--under", "1"],
+                "--under stands twice",
+            ),
+            (
+                &["one", "--hold", "1", "--under", "1"],
+                "--under and --hold exclude each other",
+            ),
+            (
+                &["one", "--under", "1", "--hold", "all"],
+                "--under and --hold exclude each other",
             ),
             (&["one", "--flag=1"], "--flag takes no value"),
             (&["one", "-f1"], "-f stands alone"),

@@ -5,7 +5,7 @@ use std::fmt;
 use std::io::{self, Write};
 use std::process::ExitCode;
 
-use keeper::{FellBack, Refusal, Table};
+use keeper::{run_table, FellBack, Refusal, Table};
 
 use crate::arguments::{self, Arguments};
 use crate::explain::Call;
@@ -193,20 +193,34 @@ fn holder(arguments: &Arguments, process: u16) -> Result<usize, Failure> {
     Err(arguments::wrong(arguments.subcommand, what))
 }
 
+/// The ceilings of `--under`, where it was given. One that was left out is the
+/// count of its process.
+fn ceilings(table: &[u8], arguments: &Arguments) -> Option<Vec<u16>> {
+    let given = arguments.ceilings("--under")?.iter().enumerate();
+    let count = |process| run_table::count(table, process);
+    let numbers = given.map(|(process, ceiling)| ceiling.unwrap_or_else(|| count(process)));
+    Some(numbers.collect())
+}
+
 pub fn line(input: &Input, arguments: &Arguments) -> Result<Vec<u8>, Failure> {
     let processes = arguments.numbers("PROCESS");
     let mut set = 0;
     for process in processes {
         set |= 1 << holder(arguments, *process)?;
     }
-    let table = input.accepted()?;
-    let line = match processes {
-        [] => table.recovery_line(),
-        _ => table
-            .line_of_set(set)
-            .map_err(|refusal| input.refused(&Call::Hold(processes), refusal))?,
+    let table = input.accepted_or_json(arguments)?;
+    let ceilings = ceilings(&input.table, arguments);
+    let (call, line) = match (&ceilings, processes) {
+        (Some(ceilings), _) => (Call::Under(ceilings), table.line_under(ceilings)),
+        (None, []) => (Call::Table, Ok(table.recovery_line())),
+        (None, _) => (Call::Hold(processes), table.line_of_set(set)),
     };
-    Ok(format!("{line}\n").into_bytes())
+    let line = line.map_err(|refusal| input.refused_or_json(&call, refusal, arguments))?;
+    Ok(match arguments.has("--json") {
+        true => json::line(&line),
+        false => format!("{line}\n"),
+    }
+    .into_bytes())
 }
 
 pub fn new(arguments: &Arguments) -> Result<Table, Failure> {
@@ -279,8 +293,12 @@ pub fn draw(input: &Input, arguments: &Arguments) -> Result<Vec<u8>, Failure> {
         last: arguments.number("--last").map(usize::from),
         kept_only: arguments.has("--kept-only"),
     };
-    let run = Run::read(&input.table, &holders)
-        .map_err(|refusal| input.refused(&Call::Hold(hold), refusal))?;
+    let run = match ceilings(&input.table, arguments) {
+        Some(ceilings) => Run::read_under(&input.table, &ceilings)
+            .map_err(|refusal| input.refused(&Call::Under(&ceilings), refusal))?,
+        None => Run::read(&input.table, &holders)
+            .map_err(|refusal| input.refused(&Call::Hold(hold), refusal))?,
+    };
     draw::draw(&run, &choice, arguments.text("--title"))
         .map(String::into_bytes)
         .map_err(|undrawn| arguments::wrong(arguments.subcommand, undrawn))

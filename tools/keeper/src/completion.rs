@@ -1,6 +1,6 @@
 //! Completion for shells, made of the table of subcommands.
 
-use crate::usage::{Opt, Subcommand, Takes, Times, HELP, OWN_OPTIONS, SUBCOMMANDS};
+use crate::usage::{Opt, Subcommand, Takes, Times, EXCLUDING, HELP, OWN_OPTIONS, SUBCOMMANDS};
 
 /// The shells, as `keeper completion` names them.
 pub const SHELLS: &[&str] = &["bash", "zsh"];
@@ -23,9 +23,12 @@ fn in_bash(takes: Takes) -> String {
             format!("_keeper_words '{}'", words.join(" "))
         }
         Takes::Subcommand => format!("_keeper_words '{}'", subcommand_names().join(" ")),
-        Takes::Nothing | Takes::Text | Takes::Number | Takes::Numbers | Takes::Item => {
-            ":".to_string()
-        }
+        Takes::Nothing
+        | Takes::Text
+        | Takes::Number
+        | Takes::Numbers
+        | Takes::Ceilings
+        | Takes::Item => ":".to_string(),
     }
 }
 
@@ -132,9 +135,12 @@ fn in_zsh(takes: Takes) -> String {
         Takes::File => "_files".to_string(),
         Takes::NumbersOr(words) | Takes::OneOf(words) => format!("({})", words.join(" ")),
         Takes::Subcommand => format!("({})", subcommand_names().join(" ")),
-        Takes::Nothing | Takes::Text | Takes::Number | Takes::Numbers | Takes::Item => {
-            " ".to_string()
-        }
+        Takes::Nothing
+        | Takes::Text
+        | Takes::Number
+        | Takes::Numbers
+        | Takes::Ceilings
+        | Takes::Item => " ".to_string(),
     }
 }
 
@@ -154,14 +160,28 @@ fn quoted(words: &str) -> String {
     quoted
 }
 
+/// Those of a row's options beside which an option does not stand.
+fn excluded(option: &Opt, options: &[&Opt]) -> Vec<&'static str> {
+    let pairs = EXCLUDING.iter();
+    pairs
+        .flat_map(|(one, other)| [(one, *other), (other, *one)])
+        .filter(|(own, _)| option.names.contains(own))
+        .map(|(_, other)| other)
+        .filter(|other| options.iter().any(|option| option.names.contains(other)))
+        .collect()
+}
+
 /// The options of a row as `_arguments` takes them.
 fn options_in_zsh<'a>(options: impl Iterator<Item = &'a Opt>, alone: bool) -> Vec<String> {
+    let options: Vec<&Opt> = options.collect();
     let mut specs = Vec::new();
-    for option in options {
+    for option in &options {
         // Names of one option exclude each other; help excludes all else.
         let others = match alone || option.names[0] == "--help" {
             true => "- *".to_string(),
-            false => option.names.join(" "),
+            false => [option.names, &excluded(option, &options)]
+                .concat()
+                .join(" "),
         };
         for name in option.names {
             let (sign, value) = match option.takes {

@@ -10,8 +10,8 @@ use crate::run::{BadChoice, Choice, Message, Run, View};
 use legend::Legend;
 pub use shapes::escape;
 use shapes::{
-    arrow, dot, label, label_over_lines, open_arrows, polyline, short, virtual_dot, width_of, wrap,
-    Box2, Cut, Point, Space, Style, DOT, FAINT, INK, KEPT, PLAIN, WAITING,
+    arrow, bracket, dot, label, label_over_lines, open_arrows, polyline, short, virtual_dot,
+    width_of, wrap, Box2, Cut, Point, Space, Style, BRACKET, DOT, FAINT, INK, KEPT, PLAIN, WAITING,
 };
 
 const LEFT: f64 = 104.0;
@@ -96,6 +96,14 @@ fn hold_paint(place: usize, holders: usize) -> String {
         _ => 1.2,
     };
     format!("stroke=\"{colour}\" stroke-width=\"{width}\" stroke-dasharray=\"{dashes}\"")
+}
+
+/// The line under ceilings, and its brackets. It has no dashes, and no holder's
+/// line is without them.
+const UNDER_COLOUR: &str = "#b00020";
+
+fn under_paint() -> String {
+    format!("stroke=\"{UNDER_COLOUR}\" stroke-width=\"2.4\"")
 }
 
 /// How far to the side a line of a holder runs: side by side where they run
@@ -359,11 +367,13 @@ impl<'a> Picture<'a> {
         self.lifelines();
         self.names();
         self.hold_lines();
+        self.under_line();
         // The bold arrows over the thin ones.
         for style in [&PLAIN, &KEPT, &WAITING] {
             self.arrows(style);
         }
         self.dots();
+        self.ceilings();
         self.numbers();
         self.holders();
         self.positions();
@@ -486,6 +496,46 @@ impl<'a> Picture<'a> {
             polyline(&mut self.svg, "hold-line", &paint, &corners, &title);
             self.space.add_lines(&corners);
         }
+    }
+
+    fn under_line(&mut self) {
+        let Some(under) = &self.run.under else {
+            return;
+        };
+        let corners = self.line(&under.line, 0.36);
+        let title = legend::line_words(
+            self.view,
+            &legend::under_words(self.view, under),
+            &under.line,
+        );
+        let paint = under_paint();
+        polyline(&mut self.svg, "under-line", &paint, &corners, &title);
+        self.space.add_lines(&corners);
+    }
+
+    /// A bracket at each ceiling that is drawn, right of its checkpoint. The
+    /// count is none: nothing stands above it.
+    fn ceilings(&mut self) {
+        let Some(under) = &self.run.under else {
+            return;
+        };
+        let _ = writeln!(
+            self.svg,
+            "<g class=\"ceilings\" fill=\"none\" stroke=\"{UNDER_COLOUR}\" stroke-width=\"2\">"
+        );
+        for (row, p) in self.rows() {
+            let ceiling = under.ceilings[p];
+            if ceiling == self.run.counts[p] {
+                continue;
+            }
+            if let Some(column) = self.layout.column(row, ceiling) {
+                let at = self.point((column, row as f64));
+                let title = format!("ceiling of process {p}: {ceiling}");
+                bracket(&mut self.svg, at, &title);
+                self.space.add_box(Box2::around(at, BRACKET));
+            }
+        }
+        let _ = writeln!(self.svg, "</g>");
     }
 
     fn lifelines(&mut self) {

@@ -18,6 +18,8 @@ pub enum Call<'a> {
     },
     /// The line of these processes.
     Hold(&'a [u16]),
+    /// The line under these ceilings.
+    Under(&'a [u16]),
 }
 
 /// `refused`, the number, and what caught.
@@ -159,6 +161,19 @@ fn in_call(table: &[u8], call: &Call, refusal: Refusal) -> Option<String> {
         (Refusal::UnknownProcess, Call::Send { from, to }) => unknown(&[*from, *to]),
         (Refusal::UnknownProcess, Call::Save { process, .. }) => unknown(&[*process]),
         (Refusal::UnknownProcessInSet, Call::Hold(processes)) => unknown(processes),
+        (Refusal::WrongCeilingCount, Call::Under(ceilings)) => {
+            let processes = if n == 1 { "process" } else { "processes" };
+            let ceilings = plural(ceilings.len(), "ceiling");
+            Some(format!("{ceilings} for {n} {processes}"))
+        }
+        (Refusal::CeilingTooHigh, Call::Under(ceilings)) => {
+            let counts = (0..n).map(|p| run_table::count(table, p));
+            let mut pairs = ceilings.iter().zip(counts).enumerate();
+            let (p, (ceiling, count)) = pairs.find(|(_, (ceiling, count))| *ceiling > count)?;
+            Some(format!(
+                "the ceiling {ceiling} of process {p} is above its count {count}"
+            ))
+        }
         (Refusal::SendToItself, Call::Send { from, .. }) => {
             Some(format!("process {from} does not send to itself"))
         }

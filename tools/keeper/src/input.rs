@@ -109,13 +109,22 @@ impl Input {
 
     /// The table; with `--json` a refusal is written so as well.
     pub fn accepted_or_json(&self, arguments: &Arguments) -> Result<Table, Failure> {
-        Table::from_bytes(self.table.as_slice()).map_err(|refusal| {
-            let failure = self.refused(&Call::Table, refusal);
-            match arguments.has("--json") {
-                true => failure.with(json::refused(refusal, &self.table_words(refusal)).into()),
-                false => failure,
-            }
-        })
+        Table::from_bytes(self.table.as_slice())
+            .map_err(|refusal| self.refused_or_json(&Call::Table, refusal, arguments))
+    }
+
+    /// The failure of a call on the table; with `--json` it is written so as
+    /// well.
+    pub fn refused_or_json(&self, call: &Call, refusal: Refusal, arguments: &Arguments) -> Failure {
+        let failure = self.refused(call, refusal);
+        let words = || match refusal.is_of_table() {
+            true => self.table_words(refusal),
+            false => explain::words(&self.table, call, refusal),
+        };
+        match arguments.has("--json") {
+            true => failure.with(json::refused(refusal, &words()).into()),
+            false => failure,
+        }
     }
 
     /// The failure of a call on the table.

@@ -1,6 +1,6 @@
 //! Answers in JSON: one object on one line.
 
-use keeper::{Refusal, Sheet, Table};
+use keeper::{Line, Refusal, Sheet, Table};
 
 /// A string with its quotes.
 fn string(text: &str) -> String {
@@ -36,6 +36,10 @@ fn kept(sheet: &Sheet) -> String {
         array(checkpoints),
         array(sheet.messages())
     )
+}
+
+pub fn line(line: &Line) -> String {
+    format!("{{\"line\":{}}}\n", array(line.iter()))
 }
 
 pub fn sheet(sheet: &Sheet) -> String {

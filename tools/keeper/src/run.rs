@@ -40,6 +40,14 @@ pub struct Run {
     pub hold_lines: Vec<Vec<usize>>,
     /// The processes whose lines are drawn, rising.
     pub holders: Vec<usize>,
+    /// The line under ceilings, where it is drawn.
+    pub under: Option<Under>,
+}
+
+/// A line under ceilings, both by process.
+pub struct Under {
+    pub ceilings: Vec<usize>,
+    pub line: Vec<usize>,
 }
 
 impl Run {
@@ -82,6 +90,21 @@ impl Run {
             recovery_line: places(&table.recovery_line()),
             hold_lines: processes.map(hold_line).collect(),
             holders,
+            under: None,
+        })
+    }
+
+    /// Reads a table with the line under these ceilings, or refuses as the
+    /// keeper does.
+    pub fn read_under(table: &[u8], ceilings: &[u16]) -> Result<Run, Refusal> {
+        let line = Table::from_bytes(table)?.line_under(ceilings)?;
+        let under = Under {
+            ceilings: ceilings.iter().copied().map(usize::from).collect(),
+            line: places(&line),
+        };
+        Ok(Run {
+            under: Some(under),
+            ..Run::read(table, &Holders::Of(vec![]))?
         })
     }
 
@@ -96,11 +119,13 @@ impl Run {
         }
     }
 
-    /// The lines that are drawn: the recovery line and those of the holders.
+    /// The lines that are drawn: the recovery line, those of the holders, and
+    /// the one under ceilings.
     pub fn lines(&self) -> impl Iterator<Item = &[usize]> {
         let holders = self.holders.iter().map(|holder| &self.hold_lines[*holder]);
         std::iter::once(&self.recovery_line)
             .chain(holders)
+            .chain(self.under.iter().map(|under| &under.line))
             .map(Vec::as_slice)
     }
 
@@ -219,9 +244,12 @@ impl<'a> View<'a> {
         self.row_of[p]
     }
 
-    /// Whether a checkpoint is drawn. The virtual one of a row always is.
+    /// Whether a checkpoint is drawn. The virtual one of a row always is, and so
+    /// is that of a line, though under ceilings it need not be kept.
     pub fn has_checkpoint(&self, p: usize, number: usize) -> bool {
-        let wanted = !self.kept_only || self.run.kept[p].get(number) != Some(&false);
+        let kept = self.run.kept[p].get(number) != Some(&false);
+        let mut under = self.run.under.iter();
+        let wanted = !self.kept_only || kept || under.any(|under| under.line[p] == number);
         wanted && self.has_after(p, number)
     }
 

@@ -26,6 +26,8 @@ pub enum Takes {
     Numbers,
     /// Numbers with a comma between two, or one of these words.
     NumbersOr(&'static [&'static str]),
+    /// Numbers with a comma between two; in the place of each may stand `-`.
+    Ceilings,
     /// One of these words.
     OneOf(&'static [&'static str]),
     /// The name of a subcommand.
@@ -152,6 +154,23 @@ const HOLD: Opt = Opt {
 where there are several, `h3` stands beside the checkpoints that the line of process 3 has",
 };
 
+/// In `line`, where it says which line is written.
+const UNDER: Opt = Opt {
+    names: &["--under"],
+    takes: Takes::Ceilings,
+    value: "LIST",
+    words: "write the line under the ceilings of LIST, one for each process: numbers with commas between, or `-` for the \
+count, which leaves that process free",
+};
+
+const DRAW_UNDER: Opt = Opt {
+    names: &["--under"],
+    takes: Takes::Ceilings,
+    value: "LIST",
+    words: "draw as well the line under the ceilings of LIST, one for each process: numbers with commas between, or `-` for \
+the count, which leaves that process free; a bracket stands at each ceiling below the count",
+};
+
 const LAST: Opt = Opt {
     names: &["--last"],
     takes: Takes::Number,
@@ -218,6 +237,9 @@ const TABLES: Opt = Opt {
 };
 
 const STEP_OPTIONS: &[&Opt] = &[&TEXT_IN, &TEXT_OUT, &TEXT, &OUTPUT];
+
+/// Options and arguments that a subcommand takes one of.
+pub const EXCLUDING: &[(&str, &str)] = &[("--under", "PROCESS"), ("--under", "--hold")];
 
 /// Those of several subcommands, which the man page explains once.
 pub const COMMON: &[&Opt] = STEP_OPTIONS;
@@ -301,11 +323,22 @@ process), `checkpoints` (an array of objects with `process` and `number`), `mess
             times: Times::Any,
         }],
         file: true,
-        options: &[&READ_TEXT, &OUTPUT],
-        short: "the recovery line, or the line of the processes that hold",
+        options: &[&UNDER, &JSON, &READ_TEXT, &OUTPUT],
+        short: "the recovery line, the line of the processes that hold, or the line under ceilings",
         words: "\
 Reads a run table and writes a line, one decimal number for each process: the recovery line, or the line of each \
-PROCESS named, which hold (take no checkpoint). A file whose name is a number is written `./7`.",
+PROCESS named, which hold (take no checkpoint), or with --under the line under a ceiling for each process. A file whose \
+name is a number is written `./7`.
+
+The line under ceilings is the latest consistent one with no process above its ceiling. It is for taking up a run from \
+before something was changed: the ceiling of a process is its last checkpoint before the change, or its count where any \
+will do. The keep sheet does not answer for it: whoever discards by sheets may no longer have what it needs. To hold is \
+one kind of ceiling, the last checkpoint; --under and PROCESS exclude each other.
+
+  keeper line --under 3,-,4 run.table
+
+In JSON it is an object with the key `line`, an array of numbers; that of a refusal has the keys `refused`, the number, \
+and `words`.",
         work: Work::Answer(command::line),
     },
     Subcommand {
@@ -431,14 +464,14 @@ are found before the first step is made.",
         name: "draw",
         arguments: &[],
         file: true,
-        options: &[&HOLD, &LAST, &PROCESSES, &KEPT_ONLY, &TITLE, &READ_TEXT, &OUTPUT],
+        options: &[&HOLD, &DRAW_UNDER, &LAST, &PROCESSES, &KEPT_ONLY, &TITLE, &READ_TEXT, &OUTPUT],
         short: "the run as a diagram in SVG",
         words: "\
 Reads a run table and writes the run as a space-time diagram in SVG: a lifeline for each process, checkpoints as dots \
 and messages as arrows, with what is kept and the recovery line. Time runs to the right where some order of time fits \
 the table; else places are by checkpoint number, and the legend says so.
 
-What the options leave out is counted below the picture. Of a message whose other end is left out a short piece is \
+--hold and --under exclude each other. What the options leave out is counted below the picture. Of a message whose other end is left out a short piece is \
 drawn, with a ring where it is cut. A browser shows what a dot or an arrow is, and why it is kept, when it is pointed \
 at. Many renderers stop at 32767 px, so a picture that would be wider is not drawn; the message then names a `--last` \
 that is narrow enough.",

@@ -99,6 +99,13 @@ fn bash() {
         ["run.table"]
     );
     assert_eq!(offered(&["keeper", "draw", "--title", ""]), [""; 0]);
+    assert_eq!(offered(&["keeper", "line", "--u"]), ["--under"]);
+    assert_eq!(offered(&["keeper", "line", "--under", ""]), [""; 0]);
+    assert_eq!(offered(&["keeper", "draw", "--under", ""]), [""; 0]);
+    assert_eq!(
+        offered(&["keeper", "line", "--under", "3,2", "st"]),
+        ["steps.txt"]
+    );
     assert_eq!(offered(&["keeper", "new", ""]), [""; 0]);
     assert_eq!(offered(&["keeper", "completion", ""]), ["bash", "zsh"]);
     assert_eq!(offered(&["keeper", "completion", "z"]), ["zsh"]);
@@ -107,6 +114,25 @@ fn bash() {
     // An option's value behind the sign at which bash takes words apart.
     assert_eq!(offered(&["keeper", "draw", "--title", "="]), [""; 0]);
     assert_eq!(offered(&["keeper", "draw", "--title", "=", "run"]), [""; 0]);
+}
+
+/// Where zsh is missing, too: what is offered no more behind an option that
+/// excludes it.
+#[test]
+fn options_that_exclude_each_other_in_zsh() {
+    let script = String::from_utf8(done(&["completion", "zsh"], b"")).expect("UTF-8");
+    let specs = |option: &str| -> Vec<&str> {
+        let name = format!("){option}=");
+        let lines = script.lines().map(str::trim_start);
+        let lines = lines.filter(|line| line.contains(&name));
+        lines
+            .map(|line| line.split(name.as_str()).next().expect("one"))
+            .collect()
+    };
+    // In `line` and in `draw`, which has both.
+    assert_eq!(specs("--under"), ["'(--under", "'(--under --hold"]);
+    assert_eq!(specs("--hold"), ["'(--hold --under"]);
+    assert_eq!(specs("--last"), ["'(--last"]);
 }
 
 /// What zsh makes of lines where the key for completion is pressed at the end of

@@ -587,6 +587,151 @@ fn lines_of_example_a() {
 }
 
 #[test]
+fn the_line_under_ceilings_of_example_a() {
+    let picture = |arguments: &[&str]| {
+        let arguments = [&["draw"], arguments].concat();
+        let svg = String::from_utf8(done(&arguments, &example_a())).expect("UTF-8");
+        Picture::read(&svg)
+    };
+    let one = picture(&["--under", "0,-"]);
+    let under = one.lines("under-line");
+    assert_eq!(
+        (under.len(), through(&one, &under[0])),
+        (1, vec![(0, 0), (1, 1)])
+    );
+    let recovery = &one.lines("recovery-line")[0];
+    assert_eq!(through(&one, recovery), [(0, 1), (1, 1)]);
+    assert!(one.lines("hold-line").is_empty());
+    let legend = one.texts("legend");
+    assert!(
+        legend.contains(&"line under ceilings 0 3: 0 1"),
+        "{legend:?}"
+    );
+    assert!(legend.contains(&"ceiling of a process"), "{legend:?}");
+    assert!(!legend.iter().any(|text| text.contains("holding")));
+    assert_eq!(ceilings_in(&one), [(0, 0)]);
+    // The count is no ceiling, and so there is nothing to explain.
+    let free = picture(&["--under", "3,-"]);
+    assert_eq!(
+        through(&free, &free.lines("under-line")[0]),
+        [(0, 3), (1, 3)]
+    );
+    assert!(ceilings_in(&free).is_empty());
+    let legend = free.texts("legend");
+    assert!(
+        legend.contains(&"line under ceilings 3 3: 3 3"),
+        "{legend:?}"
+    );
+    assert!(!legend.contains(&"ceiling of a process"), "{legend:?}");
+    let none = picture(&["--hold", "1"]);
+    assert!(none.lines("under-line").is_empty() && ceilings_in(&none).is_empty());
+    assert!(!none
+        .texts("legend")
+        .iter()
+        .any(|text| text.contains("ceiling")));
+    // Numbers are those of the lifelines drawn, in their order.
+    let turned = picture(&["--under", "0,3", "--processes", "1,0"]);
+    let legend = turned.texts("legend");
+    assert!(
+        legend.contains(&"line under ceilings 3 0: 1 0"),
+        "{legend:?}"
+    );
+    // No dashes: so no holder's line is taken for it in grey.
+    for line in one.all.iter().filter(|one| one.is("under-line")) {
+        assert_eq!(line.attribute("stroke-dasharray"), None);
+    }
+}
+
+/// The checkpoints with a bracket, told by its title and by where it stands:
+/// around the checkpoint, closing right of it.
+fn ceilings_in(picture: &Picture) -> Vec<(usize, usize)> {
+    let mut found = Vec::new();
+    for (place, element) in picture.all.iter().enumerate() {
+        if !element.is("ceiling") || !element.is_within("ceilings") {
+            continue;
+        }
+        let mut own = picture.all.iter().filter(|one| one.parent == Some(place));
+        let title = &own.next().expect("a title").text;
+        assert!(title.starts_with("ceiling of process "), "{title}");
+        let [p, number] = numbers_in(title)[..] else {
+            panic!("{title}")
+        };
+        let (x, y) = picture.dots[&(p, number)].at;
+        let corners = points(element);
+        let right = corners.iter().map(|corner| corner.0).fold(0.0, f64::max);
+        assert!(right > x + 5.0 && right < x + 14.0, "{title}");
+        assert!(corners.iter().all(|corner| (corner.1 - y).abs() < 14.0));
+        assert!(corners.iter().any(|corner| corner.1 < y));
+        assert!(corners.iter().any(|corner| corner.1 > y));
+        found.push((p, number));
+    }
+    found
+}
+
+/// Ceilings by chance, and whatever is left out: the line has its checkpoints,
+/// or meets the beginning of a lifeline where they are left out.
+#[test]
+fn the_line_under_ceilings_has_its_checkpoints() {
+    let mut random = Random(17);
+    let (mut not_kept, mut before, mut brackets) = (0, 0, 0);
+    for case in corpus() {
+        let Ok(table) = keeper::Table::from_bytes(&case.table[..]) else {
+            continue;
+        };
+        let mut any = |count: u16| random.below(usize::from(count) + 1) as u16;
+        let ceilings: Vec<u16> = table.counts().map(&mut any).collect();
+        let run = Run::read_under(&case.table, &ceilings).expect("none is too high");
+        if checkpoints(&run) > 2_000 {
+            continue;
+        }
+        let line = table.line_under(&ceilings).expect("none is too high");
+        for choice in choices(run.counts.len()) {
+            let svg = draw::draw(&run, &choice, None).expect("not too large");
+            let picture = Picture::read(&svg);
+            let name = format!("{}, {choice:?}", case.name);
+            picture.assert_inside(&name);
+            let view = View::of(&run, &choice).expect("there");
+            let under = picture.lines("under-line");
+            assert_eq!(under.len(), 1, "{name}");
+            let on_line = through(&picture, &under[0]);
+            let mut expected_brackets = Vec::new();
+            for p in &view.rows {
+                let number = usize::from(line[*p]);
+                if number >= view.first[*p] {
+                    assert!(on_line.contains(&(*p, number)), "{name}: {p}");
+                    not_kept += usize::from(run.kept[*p].get(number) == Some(&false));
+                } else {
+                    assert!(!on_line.iter().any(|(on, _)| on == p), "{name}: {p}");
+                    let names = picture.all.iter().filter(|one| one.name == "title");
+                    let numbers = names.filter(|one| one.text.starts_with("left out: "));
+                    let mut own =
+                        numbers.filter(|one| one.text.ends_with(&format!(" of process {p}")));
+                    let numbers = numbers_in(&own.next().expect("numbers").text);
+                    assert!(
+                        numbers[..numbers.len() - 1].contains(&number),
+                        "{name}: {p}"
+                    );
+                    before += 1;
+                }
+                let ceiling = usize::from(ceilings[*p]);
+                if ceiling < run.counts[*p] && picture.dots.contains_key(&(*p, ceiling)) {
+                    expected_brackets.push((*p, ceiling));
+                }
+            }
+            let mut found = ceilings_in(&picture);
+            found.sort_unstable();
+            expected_brackets.sort_unstable();
+            assert_eq!(found, expected_brackets, "{name}");
+            brackets += found.len();
+        }
+    }
+    assert!(
+        not_kept > 100 && before > 100 && brackets > 100,
+        "{not_kept} {before} {brackets}"
+    );
+}
+
+#[test]
 fn titles_of_example_a() {
     let svg = String::from_utf8(done(&["draw"], &example_a())).expect("UTF-8");
     let titles: Vec<String> = Picture::read(&svg).titles.into_iter().collect();

@@ -84,6 +84,151 @@ fn lines() {
 }
 
 #[test]
+fn lines_under_ceilings() {
+    let a = example_a();
+    for (ceilings, line) in [
+        ("3,3", "3 3"),
+        ("2,3", "1 1"),
+        ("3,2", "3 2"),
+        ("3,1", "1 1"),
+        ("0,3", "0 1"),
+        ("3,0", "0 0"),
+        // No ceiling is the count.
+        ("-,-", "3 3"),
+        ("-,2", "3 2"),
+        ("0,-", "0 1"),
+    ] {
+        let expected = format!("{line}\n");
+        let apart = done(&["line", "--under", ceilings], &a);
+        assert_eq!(apart, expected.as_bytes(), "{ceilings}");
+        let attached = format!("--under={ceilings}");
+        let attached = done(&["line", &attached, "-"], &a);
+        assert_eq!(attached, expected.as_bytes(), "{ceilings}");
+    }
+    let text = done(&["decode"], &a);
+    assert_eq!(done(&["line", "--text", "--under=0,3"], &text), b"0 1\n");
+    let one = bytes(&[1, 0, 4096]);
+    assert_eq!(done(&["line", "--under", "-"], &one), b"4096\n");
+    assert_eq!(done(&["line", "--under", "4096"], &one), b"4096\n");
+
+    let refused: &[(&str, &str)] = &[
+        ("3", "17: 1 ceiling for 2 processes"),
+        ("-", "17: 1 ceiling for 2 processes"),
+        ("3,2,4", "17: 3 ceilings for 2 processes"),
+        // The length is looked at first.
+        ("9,9,9", "17: 3 ceilings for 2 processes"),
+        ("4,3", "18: the ceiling 4 of process 0 is above its count 3"),
+        ("-,4", "18: the ceiling 4 of process 1 is above its count 3"),
+        (
+            "65535,65535",
+            "18: the ceiling 65535 of process 0 is above its count 3",
+        ),
+    ];
+    for (ceilings, words) in refused {
+        let message = format!("refused {words}");
+        fails(&["line", "--under", ceilings], &a, 1, &message);
+        fails(&["draw", "--under", ceilings], &a, 1, &message);
+    }
+    let message = "refused 17: 2 ceilings for 1 process";
+    fails(&["line", "--under", "1,1"], &one, 1, message);
+    let message = "refused 18: the ceiling 4097 of process 0 is above its count 4096";
+    fails(&["line", "--under", "4097"], &one, 1, message);
+    // The table's checks come first.
+    let message = "(standard input): refused 1: the table has 3 bytes, and needs 4 at least";
+    fails(&["line", "--under", "9"], &a[..3], 1, message);
+
+    let each = "each is a number from 0 to 65535, or `-`";
+    let wrong: &[(&[&str], &str)] = &[
+        (&["--under"], "--under needs LIST"),
+        (
+            &["--under", ""],
+            &format!("``: a ceiling is missing: {each}"),
+        ),
+        (&["--under="], &format!("``: a ceiling is missing: {each}")),
+        (
+            &["--under", "3,,2"],
+            &format!("`3,,2`: a ceiling is missing: {each}"),
+        ),
+        (
+            &["--under", ",3"],
+            &format!("`,3`: a ceiling is missing: {each}"),
+        ),
+        (
+            &["--under", "3,2,"],
+            &format!("`3,2,`: a ceiling is missing: {each}"),
+        ),
+        (&["--under", "3,x"], &format!("`x` is no ceiling: {each}")),
+        (&["--under", "3,--"], &format!("`--` is no ceiling: {each}")),
+        (&["--under", "3, 2"], &format!("` 2` is no ceiling: {each}")),
+        (&["--under", "3 2"], &format!("`3 2` is no ceiling: {each}")),
+        (&["--under", "+3,2"], &format!("`+3` is no ceiling: {each}")),
+        (
+            &["--under", "70000,2"],
+            &format!("`70000` is no ceiling: {each}"),
+        ),
+        (
+            &["--under", "3,2", "--under", "3,2"],
+            "--under stands twice",
+        ),
+    ];
+    for subcommand in ["line", "draw"] {
+        for (arguments, message) in wrong {
+            let arguments = [&[subcommand], *arguments].concat();
+            let message = format!("{message} (see `keeper {subcommand} --help`)");
+            fails(&arguments, &a, 2, &message);
+        }
+    }
+    let message = "--under and PROCESS exclude each other (see `keeper line --help`)";
+    fails(&["line", "--under", "3,2", "1"], &a, 2, message);
+    fails(&["line", "1", "--under", "3,2"], &a, 2, message);
+    let message = "--under and --hold exclude each other (see `keeper draw --help`)";
+    fails(&["draw", "--under", "3,2", "--hold", "1"], &a, 2, message);
+    fails(&["draw", "--hold", "all", "--under", "3,2"], &a, 2, message);
+    let message = "line has no option `--hold` (see `keeper line --help`)";
+    fails(&["line", "--hold", "1"], &a, 2, message);
+}
+
+/// A set is one kind of ceilings: the lines of the listings, by their ceilings.
+#[test]
+fn lines_under_the_ceilings_of_the_corpus() {
+    for case in corpus() {
+        if refused(&case.listing).is_some() {
+            continue;
+        }
+        let text = String::from_utf8(done(&["decode", &case.path], b"")).expect("UTF-8");
+        let states = text
+            .lines()
+            .nth(1)
+            .and_then(|row| row.strip_prefix("states "));
+        let counts = states.expect("the counts").split(' ');
+        let counts: Vec<usize> = counts
+            .map(|count| count.parse().expect("a number"))
+            .collect();
+        let line = |ceilings: Vec<String>| {
+            let arguments = ["line", "--under", &ceilings.join(","), &case.path];
+            let line = String::from_utf8(done(&arguments, b"")).expect("ASCII");
+            line.trim_end().to_string()
+        };
+        let listing = String::from_utf8(case.listing).expect("ASCII");
+        let row = |place: usize| listing.lines().nth(place).expect("a row");
+        let last = counts.iter().map(|count| (count - 1).to_string()).collect();
+        assert_eq!(row(0), format!("line {}", line(last)), "{}", case.name);
+        // The last process alone holding, and the others without a ceiling.
+        let holder = counts.len() - 1;
+        let mut ceilings = vec!["-".to_string(); counts.len()];
+        assert_eq!(
+            Some(line(ceilings.clone()).as_str()),
+            states,
+            "{}",
+            case.name
+        );
+        ceilings[holder] = (counts[holder] - 1).to_string();
+        let expected = format!("hold {holder} {}", line(ceilings));
+        assert_eq!(row(counts.len()), expected, "{}", case.name);
+    }
+}
+
+#[test]
 fn lines_of_the_corpus() {
     for case in corpus() {
         if refused(&case.listing).is_some() {
@@ -368,6 +513,7 @@ fn a_full_device_is_an_error() {
         "list \"$table\"",
         "list --json \"$table\"",
         "line \"$table\"",
+        "line --under 0,- \"$table\"",
         "decode \"$table\"",
         "send 0 1 \"$table\"",
         "sheet \"$table\"",

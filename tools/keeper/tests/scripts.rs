@@ -103,6 +103,8 @@ fn answers_as_the_subcommands_give_them() {
         ("line", &["line"]),
         ("line 1", &["line", "1"]),
         ("line 0 1", &["line", "0", "1"]),
+        ("line --under 0,-", &["line", "--under", "0,3"]),
+        ("line --under=3,2 --json", &["line", "--json", "1"]),
         ("sheet", &["sheet", "--text-out"]),
         ("sheet --text-out", &["sheet", "--text-out"]),
         ("sheet --json", &["sheet", "--json"]),
@@ -112,6 +114,7 @@ fn answers_as_the_subcommands_give_them() {
         ("decode", &["decode"]),
         ("check", &["check"]),
         ("draw --hold=1", &["draw", "--hold", "1"]),
+        ("draw --under -,2", &["draw", "--under", "3,2"]),
         ("fall back --moves", &["fall-back", "--moves"]),
     ] {
         let expected = done(arguments, &example_a());
@@ -147,6 +150,32 @@ fn a_line_that_fails() {
             "line 2",
             1,
             "1: line 2: refused 12: there is no process 2 (N is 2)",
+        ),
+        (
+            "line\nline --under 3,2,4",
+            1,
+            "2: line --under 3,2,4: refused 17: 3 ceilings for 2 processes",
+        ),
+        (
+            "line\nline --under 4,-",
+            1,
+            "2: line --under 4,-: refused 18: the ceiling 4 of process 0 is above its count 3",
+        ),
+        (
+            "line\nline --under 3,,2",
+            2,
+            "2: line --under 3,,2: `3,,2`: a ceiling is missing: each is a number from 0 to 65535, or `-` \
+             (see `keeper line --help`)",
+        ),
+        (
+            "line\nline 1 --under 3,2",
+            2,
+            "2: line 1 --under 3,2: --under and PROCESS exclude each other (see `keeper line --help`)",
+        ),
+        (
+            "line\nline under 3,2",
+            2,
+            "2: line under 3,2: `under` is not a number from 0 to 65535 (see `keeper line --help`)",
         ),
         (
             "line\nsned 0 1",

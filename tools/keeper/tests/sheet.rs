@@ -470,3 +470,56 @@ fn json_in_full() {
         done(&["sheet", "--json"], &a)
     );
 }
+
+#[test]
+fn lines_in_json() {
+    let a = example_a();
+    for (arguments, line) in [
+        (&["line", "--json"][..], "[1,1]"),
+        (&["line", "--json", "1"], "[3,2]"),
+        (&["line", "--json", "--under", "0,-"], "[0,1]"),
+    ] {
+        let written = String::from_utf8(done(arguments, &a)).expect("UTF-8");
+        assert_eq!(written, format!("{{\"line\":{line}}}\n"), "{arguments:?}");
+        json(written.as_bytes()).expect("JSON");
+    }
+    let one = done(&["line", "--json"], &bytes(&[1, 0, 1]));
+    assert_eq!(one, b"{\"line\":[0]}\n");
+    // A refusal of the call, and one of the table, are written so, too.
+    for (arguments, table, number, words) in [
+        (
+            &["line", "--json", "2"][..],
+            &a[..],
+            12,
+            "there is no process 2 (N is 2)",
+        ),
+        (
+            &["line", "--json", "--under", "3,2,1"],
+            &a,
+            17,
+            "3 ceilings for 2 processes",
+        ),
+        (
+            &["line", "--json", "--under", "3,4"],
+            &a,
+            18,
+            "the ceiling 4 of process 1 is above its count 3",
+        ),
+        (
+            &["line", "--json"],
+            &a[..3],
+            1,
+            "the table has 3 bytes, and needs 4 at least",
+        ),
+    ] {
+        let ran = keeper(arguments, table);
+        let expected = format!("{{\"refused\":{number},\"words\":\"{words}\"}}\n");
+        assert_eq!(String::from_utf8_lossy(&ran.output), expected);
+        json(&ran.output).expect("JSON");
+        assert_eq!(ran.status, 1, "{arguments:?}");
+        let told = ran
+            .errors
+            .ends_with(&format!("refused {number}: {words}\n"));
+        assert!(told, "{}", ran.errors);
+    }
+}

@@ -3,12 +3,15 @@
 use std::fmt::Write;
 
 use super::shapes::{
-    arrow, dot, escape, open_arrows, points, short, virtual_dot, width_of, wrap, write_label, Cut,
-    Point, Style, FAINT, INK, KEPT, PLAIN, WAITING,
+    arrow, bracket, dot, escape, open_arrows, points, short, virtual_dot, width_of, wrap,
+    write_label, Cut, Point, Style, FAINT, INK, KEPT, PLAIN, WAITING,
 };
-use super::{hold_paint, labels_messages, style, MOST_HOLD_ENTRIES, RECOVERY_PAINT};
+use super::{
+    hold_paint, labels_messages, style, under_paint, MOST_HOLD_ENTRIES, RECOVERY_PAINT,
+    UNDER_COLOUR,
+};
 use crate::layout::{Arrow, Layout};
-use crate::run::{Choice, View};
+use crate::run::{Choice, Under, View};
 
 const SIZE: f64 = 12.0;
 /// The height of a line of text.
@@ -30,6 +33,7 @@ enum Sample {
     Virtual,
     Arrow(&'static Style, Cut),
     Line(String),
+    Ceiling,
     LeftOut,
     Position,
 }
@@ -45,6 +49,13 @@ pub struct Legend {
 pub fn line_words(view: &View, name: &str, line: &[usize]) -> String {
     let numbers = view.rows.iter().map(|p| line[*p].to_string());
     format!("{name}: {}", numbers.collect::<Vec<_>>().join(" "))
+}
+
+/// What the line under ceilings is called, with those on the lifelines drawn.
+pub fn under_words(view: &View, under: &Under) -> String {
+    let numbers = view.rows.iter().map(|p| under.ceilings[*p].to_string());
+    let numbers = numbers.collect::<Vec<_>>().join(" ");
+    format!("line under ceilings {numbers}")
 }
 
 /// The height of some lines of text and what is beside them.
@@ -176,6 +187,22 @@ fn entries(view: &View, layout: &Layout) -> Vec<(Sample, String)> {
         }
     }
 
+    if let Some(under) = &run.under {
+        let name = match view.rows.len() {
+            0..=MOST_NUMBERS => under_words(view, under),
+            _ => "line under ceilings".to_string(),
+        };
+        let sample = Sample::Line(under_paint());
+        entries.push((sample, line(&name, &under.line)));
+        let mut rows = view.rows.iter().enumerate();
+        if rows.any(|(row, p)| {
+            let ceiling = under.ceilings[*p];
+            ceiling < run.counts[*p] && layout.column(row, ceiling).is_some()
+        }) {
+            entries.push((Sample::Ceiling, "ceiling of a process".to_string()));
+        }
+    }
+
     let arrows = [
         (&KEPT, "message, kept"),
         (&PLAIN, "message, not kept"),
@@ -254,7 +281,11 @@ fn left_out_note(view: &View, choice: &Choice) -> String {
         Some(last) => chosen.push(format!("the last {last} checkpoints of each process")),
     }
     if choice.kept_only {
-        chosen.push("only what is kept".to_string());
+        let words = match run.under {
+            None => "only what is kept",
+            Some(_) => "only what is kept, and the line under ceilings",
+        };
+        chosen.push(words.to_string());
     }
     format!(
         "Drawn: {}. Left out: {}.",
@@ -286,6 +317,14 @@ fn draw_sample(svg: &mut String, sample: &Sample, at: Point) {
                 "<polyline fill=\"none\" {paint} points=\"{}\"/>",
                 points(&[from, to])
             );
+        }
+        Sample::Ceiling => {
+            let _ = writeln!(
+                svg,
+                "<g fill=\"none\" stroke=\"{UNDER_COLOUR}\" stroke-width=\"2\">"
+            );
+            bracket(svg, middle.moved(-6.0, 0.0), "");
+            let _ = writeln!(svg, "</g>");
         }
         Sample::LeftOut => {
             let _ = writeln!(

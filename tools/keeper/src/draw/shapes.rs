@@ -458,3 +458,23 @@ pub fn virtual_dot(svg: &mut String, at: Point, title: &str) {
         titled(title)
     );
 }
+
+/// How far a bracket reaches from the middle of its checkpoint: to the right,
+/// up and down.
+pub const BRACKET: f64 = 10.0;
+
+/// A bracket that closes to the right, around a checkpoint.
+pub fn bracket(svg: &mut String, at: Point, title: &str) {
+    let corners = [
+        at.moved(DOT - 1.0, -BRACKET),
+        at.moved(BRACKET, -BRACKET),
+        at.moved(BRACKET, BRACKET),
+        at.moved(DOT - 1.0, BRACKET),
+    ];
+    let _ = writeln!(
+        svg,
+        "<polyline class=\"ceiling\" points=\"{}\">{}</polyline>",
+        points(&corners),
+        titled(title)
+    );
+}
