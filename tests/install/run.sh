@@ -59,6 +59,7 @@ keeper_check_table keeper
 keeper_fall_back keeper
 keeper_keep_sheet keeper
 keeper_line_of_set keeper
+keeper_line_under keeper
 keeper_listing keeper
 keeper_put_u16 keeper
 keeper_recovery_line keeper
