@@ -54,6 +54,10 @@ differs docs/refusals.txt '/^keeper_send /s/table 10/10 table/' keeper_send
 differs docs/refusals.txt '/^keeper_fall_back /s/16/99/' keeper_fall_back
 differs docs/refusals.txt '/^keeper_save /s/13 //' keeper_save
 differs docs/refusals.txt '/^keeper_line_of_set /d' keeper_line_of_set
+differs docs/refusals.txt '/^17 /{h;d;};/^18 /G' 'keeper_line_under: 18 '
+differs docs/refusals.txt '/^18 /s/above/not below/' CEILING_TOO_HIGH
+differs docs/refusals.txt '/^keeper_line_under /s/17 18/18 17/' keeper_line_under
+differs docs/refusals.txt '/^keeper_line_under /s/18 //' keeper_line_under
 
 # The headers.
 differs include/keeper.h 's/NUMBER_TOO_HIGH = 8/NUMBER_TOO_HIGH = 9/;t;s/NUMBER_TOO_HIGH = 9/NUMBER_TOO_HIGH = 8/' KEEPER_SEND_NUMBER_TOO_HIGH
@@ -65,8 +69,11 @@ differs include/keeper.h 's/the one before it, or of a message/the one before it
 differs include/keeper.h '/KEEPER_SEND_TO_ITSELF = /d' KEEPER_SEND_TO_ITSELF
 differs include/keeper.h '/KEEPER_TOO_MANY_MESSAGES = /{h;d;};/KEEPER_WRONG_LENGTH = /G' KEEPER_TOO_MANY_MESSAGES
 differs include/keeper.h '/KEEPER_RECEIPT_NUMBER_TOO_HIGH = /{h;d;};/Of the other arguments/G' KEEPER_RECEIPT_NUMBER_TOO_HIGH
-differs include/keeper.h 's/KEEPER_TABLE_FULL = .*/&\n    KEEPER_MORE = 17, \/* more *\//' KEEPER_MORE
+differs include/keeper.h 's/KEEPER_TABLE_FULL = .*/&\n    KEEPER_MORE = 99, \/* more *\//' KEEPER_MORE
 differs include/keeper.h "s/Checks: the table's, 12, 16/Checks: the table's, 16/" keeper_line_of_set
+differs include/keeper.h "s/Checks: the table's, 17, 18, 16/Checks: the table's, 12, 17, 18, 16/" keeper_line_under
+differs include/keeper.h '/KEEPER_WRONG_CEILING_COUNT = /{h;d;};/KEEPER_CEILING_TOO_HIGH = /G' KEEPER_WRONG_CEILING_COUNT
+differs include/keeper.h 's/case KEEPER_CEILING_TOO_HIGH: /case KEEPER_WRONG_CEILING_COUNT: /' 'keeper_refusal_words.*KEEPER_WRONG_CEILING_COUNT'
 differs include/keeper.h "s/Checks: the table's, 15, 16/Checks: the table's, 16, 15/" keeper_keep_sheet
 differs include/keeper.h "s/ Checks: the table's\\. / /" keeper_check_table
 differs include/run_table.h 's/RUN_TABLE_TOO_SHORT = 1/RUN_TABLE_TOO_SHORT = 2/' RUN_TABLE_TOO_SHORT
@@ -92,6 +99,8 @@ differs man/keeper.3 's/^A set has a bit at N/A set has bits at N/' KEEPER_UNKNO
 differs man/keeper.3 '/^\.It 16 Dv/{N;d;}' KEEPER_ANSWER_TOO_SHORT
 differs man/keeper.3 '/^\.It 4 Dv/{N;h;d;};/^\.It 5 Dv/{N;G;}' KEEPER_WRONG_LENGTH
 differs man/keeper.3 "s/^Checks: the table's, 10, 13, 14/Checks: the table's, 10, 14/" keeper_save
+differs man/keeper.3 '/^\.It 17 Dv/{N;h;d;};/^\.It 16 Dv/{N;G;}' KEEPER_WRONG_CEILING_COUNT
+differs man/keeper.3 "s/^Checks: the table's, 17, 18, 16/Checks: the table's, 18, 17, 16/" keeper_line_under
 differs man/run_table_check.3 '/^\.It 3$/{N;d;}' RUN_TABLE_TOO_MANY_MESSAGES
 differs man/run_table_check.3 's/^\.Dv RUN_TABLE_WRONG_LENGTH/.Dv RUN_TABLE_LENGTH/' RUN_TABLE_WRONG_LENGTH
 differs man/run_table_check.3 '/^\.It 8$/{N;h;d;};/^\.It 9$/{N;G;}' RUN_TABLE_SEND_NUMBER_TOO_HIGH
@@ -105,6 +114,8 @@ differs docs/MANUAL.md 's/^| 10 | call/| 10 | table/' '10 (call)'
 differs docs/MANUAL.md '/^| 11 |/s/twice/two times/' '11 (call)'
 differs docs/MANUAL.md '/^| 14 |/d' '14 (call)'
 differs docs/MANUAL.md '/^| 12 |/{h;d;};/^| 13 |/G' '12 (call)'
+differs docs/MANUAL.md '/^| 17 |/{h;d;};/^| 16 |/G' '17 (call)'
+differs docs/MANUAL.md '/^| `uint32_t keeper_line_under(/d' keeper_line_under
 differs docs/MANUAL.md '/^| `uint32_t keeper_send(/s/10, 11, 14/10, 14/' keeper_send
 differs docs/MANUAL.md '/^| `uint32_t keeper_listing(/s/| 16 |/| |/' keeper_listing
 
@@ -117,6 +128,8 @@ differs bindings/rust/src/refusal.rs 's/    TableFull = /    TooFull = /' TableF
 differs bindings/rust/src/refusal.rs '/^    WrongLength = /d' WrongLength
 differs bindings/rust/src/refusal.rs '/^    WrongLength = /{h;d;};/^    CountOutOfRange = /G' WrongLength
 changed bindings/rust/src/lib.rs "s/^\\/\\/\\/ Checks: the table's, 12, 16/\\/\\/\\/ Checks: the table's, 16/"
+differs bindings/rust/src/refusal.rs '/^    WrongCeilingCount = /{h;d;};/^    AnswerTooShort = /G' WrongCeilingCount
+changed bindings/rust/src/lib.rs "s/^\\/\\/\\/ Checks: the table's, 17, 18, 16/\\/\\/\\/ Checks: the table's, 18, 16/"
 changed bindings/rust/src/listing_text.rs '/^\/\/\/ Checks: 16/d'
 
 # The second implementation, and the definition that is proved.
