@@ -636,6 +636,15 @@ fn the_line_under_ceilings_of_example_a() {
         legend.contains(&"line under ceilings 3 0: 1 0"),
         "{legend:?}"
     );
+    // Its checkpoint 0 of process 0 is not kept, and is drawn all the same.
+    let kept = picture(&["--under", "0,-", "--kept-only"]);
+    assert_eq!(
+        through(&kept, &kept.lines("under-line")[0]),
+        [(0, 0), (1, 1)]
+    );
+    assert_eq!(kept.dots[&(0, 0)].class, "other");
+    let note = "Drawn: only what is kept, and the line under ceilings. Left out: 2 checkpoints (none kept)";
+    assert!(kept.notes().contains(note), "{}", kept.notes());
     // No dashes: so no holder's line is taken for it in grey.
     for line in one.all.iter().filter(|one| one.is("under-line")) {
         assert_eq!(line.attribute("stroke-dasharray"), None);
