@@ -172,7 +172,7 @@ uint32_t keeper_line_of_set(const uint8_t *table, size_t length, uint32_t set, u
    from 0 to the count, the count included. Under the ceilings of a set the answer is that of
    keeper_line_of_set, byte for byte. The keep sheet does not answer for this line: whoever discards by
    sheets may no longer have what it needs. `ceilings_length` counts 16-bit numbers; the list is only read.
-   Checks: the table's, 17, 18, 16. The answer is N numbers by process, 2N bytes. Stack: 432. */
+   Checks: the table's, 17, 18, 16. The answer is N numbers by process, 2N bytes. Stack: 192. */
 uint32_t keeper_line_under(const uint8_t *table, size_t length, const uint16_t *ceilings,
                            size_t ceilings_length, uint8_t *answer, size_t room, size_t *written);
 
