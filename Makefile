@@ -206,7 +206,7 @@ binding-tests: archives need-cargo
 
 # Every call of the library beside the second implementation: tables by chance, at the limits, damaged, chains
 # of steps; then every table of small scopes. A difference prints the table, the call and both answers.
-CALLS = 250000
+CALLS = 320000
 SEED = 20260101
 SCOPES =
 differential-tests: archives need-cargo
