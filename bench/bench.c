@@ -74,10 +74,15 @@ enum {
     LINES_OF_ARCHIVE, LINES_OF_C, SHEET_OF_ARCHIVE, SHEET_OF_C, PARTS
 };
 
+#define PAGE 4096
+
 struct row {
     char label[64], path[256];
     bool history;                  /* a row of the second goal; its passes are few, so it is also looked at closely */
-    uint8_t table[KEEPER_LARGEST_TABLE], shorter[KEEPER_LARGEST_TABLE];
+    /* At the start of a page, where the answers stand in the middle of one: a copy between places of the same number
+       in their pages can take three times as long, and no row is to have that by chance. */
+    _Alignas(PAGE) uint8_t table[KEEPER_LARGEST_TABLE];
+    _Alignas(PAGE) uint8_t shorter[KEEPER_LARGEST_TABLE];
     size_t length, shorter_length, n, m;
     uint16_t halves[KEEPER_MOST_PROCESSES], counts[KEEPER_MOST_PROCESSES];
     uint16_t saver, list[KEEPER_MOST_MESSAGES];
@@ -99,7 +104,8 @@ struct row {
 static struct row rows[MOST_ROWS];
 static size_t row_count;
 
-static uint8_t answer[MOST_ANSWER];
+static _Alignas(PAGE) struct { uint8_t half_a_page[PAGE / 2], bytes[MOST_ANSWER]; } answers;
+#define answer answers.bytes
 static uint16_t scratch[KEEPER_SCRATCH_NUMBERS];
 static size_t written;
 

@@ -197,7 +197,7 @@ uint32_t MODEL(line_of_set)(const uint8_t *table, size_t length, uint32_t set, u
     return answer_line(&run, line, answer, room, written);
 }
 
-/* "Restart no later than a chosen hour". */
+/* "Lines": under ceilings that the caller lends. */
 uint32_t MODEL(line_under)(const uint8_t *table, size_t length, const uint16_t *ceilings, size_t entries,
                            uint8_t *answer, size_t room, size_t *written)
 {

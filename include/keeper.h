@@ -154,8 +154,8 @@ uint32_t keeper_check_table(const uint8_t *table, size_t length);
    kind of ceilings: a holding process has its last checkpoint (its count less one), any other its count. */
 
 /* The recovery line of the run: the latest consistent line at whose every process stands a checkpoint
-   that the table has; each ceiling is the last one. Checks: the table's, 16. The answer is N numbers by
-   process, 2N bytes. Stack: 368. */
+   that the table has: the line under the last checkpoint of each. Checks: the table's, 16. The answer is N
+   numbers by process, 2N bytes. Stack: 368. */
 uint32_t keeper_recovery_line(const uint8_t *table, size_t length, uint8_t *answer, size_t room,
                               size_t *written);
 
@@ -166,13 +166,13 @@ uint32_t keeper_recovery_line(const uint8_t *table, size_t length, uint8_t *answ
 uint32_t keeper_line_of_set(const uint8_t *table, size_t length, uint32_t set, uint8_t *answer,
                             size_t room, size_t *written);
 
-/* The line under a list of ceilings, one for each process: the latest consistent line with no process
-   above its ceiling. It is for taking up a run from before something was changed: the ceiling of a process
-   is its last checkpoint before the change, or its count where any will do. A ceiling may be any number
-   from 0 to the count, the count included. Under the ceilings of a set the answer is that of
-   keeper_line_of_set, byte for byte. The keep sheet does not answer for this line: whoever discards by
-   sheets may no longer have what it needs. `ceilings_length` counts 16-bit numbers; the list is only read.
-   Checks: the table's, 17, 18, 16. The answer is N numbers by process, 2N bytes. Stack: 192. */
+/* The line under a list of ceilings, one for each process, process 0 first: the latest consistent line with
+   no process above its ceiling. A ceiling may be any number from 0 to the count. It is for taking up a run
+   from before something was changed: the ceiling of a process is its last checkpoint before the change, or
+   its count where the change does not matter to it. No step goes to this line; a fall back goes to the
+   recovery line. Nor does the keep sheet protect it: whoever discards by sheets may no longer have its
+   checkpoints, or the logs of messages that cross it. Under the ceilings of a set the answer is that of
+   keeper_line_of_set, byte for byte. Checks: the table's, 17, 18, 16. The answer is N numbers by process, 2N bytes. Stack: 192. */
 uint32_t keeper_line_under(const uint8_t *table, size_t length, const uint16_t *ceilings,
                            size_t ceilings_length, uint8_t *answer, size_t room, size_t *written);
 

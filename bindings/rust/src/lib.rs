@@ -205,15 +205,16 @@ pub fn line_of_set(table: &[u8], set: u32, answer: &mut [u8]) -> Result<usize, R
     outcome(number, written)
 }
 
-/// The line under a list of ceilings, one for each process by process: the
-/// latest consistent line in which no process stands above its ceiling. It is
-/// for taking up a run from before something was changed. A ceiling is the
+/// The line under a list of ceilings, one for each process, process 0 first:
+/// the latest consistent line in which no process stands above its ceiling. It
+/// is for taking up a run from before something was changed. A ceiling is the
 /// number of a checkpoint, or the count, which stands for the new state and
 /// leaves the process free. Lower ceilings never give a later line, and under
 /// the ceilings of a set the answer is that of [`line_of_set`], byte for byte.
-/// The keep sheet does not answer for this line: whoever discards by sheets may
-/// no longer have what it needs. The answer has the form of
-/// [`recovery_line`]'s.
+/// No step goes to this line: a fall back goes to the recovery line. Nor does
+/// the keep sheet protect it: whoever discards by sheets may no longer have its
+/// checkpoints, or the logs of messages that cross it. The answer has the form
+/// of [`recovery_line`]'s.
 ///
 /// Checks: the table's, 17, 18, 16.
 ///

@@ -211,9 +211,9 @@ impl Table {
         line(|answer| crate::line_of_set(&self.bytes, set, answer))
     }
 
-    /// The line under a list of ceilings, one for each process by process, as
-    /// [`line_under`](crate::line_under): for taking up the run from before
-    /// something was changed. Refused by 17 where there are not N of them, and by
+    /// The line under a list of ceilings, one for each process, process 0
+    /// first, as [`line_under`](crate::line_under): for taking up the run from
+    /// before something was changed. Refused by 17 where there are not N of them, and by
     /// 18 where one is above its process's count.
     ///
     /// ```

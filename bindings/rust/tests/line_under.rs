@@ -171,7 +171,8 @@ fn lists_that_are_refused() {
             let mut ceilings = vec![0; n];
             ceilings[process] = counts[process];
             let line = table.line_under(&ceilings).expect("the count is a ceiling");
-            assert!(line[process] <= counts[process], "{name}");
+            let below = line.iter().zip(&ceilings).all(|(l, c)| l <= c);
+            assert!(below && is_consistent(&table, &line), "{name}, {process}");
             for higher in [counts[process] + 1, u16::MAX] {
                 ceilings[process] = higher;
                 let refused = table.line_under(&ceilings);

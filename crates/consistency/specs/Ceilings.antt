@@ -11,8 +11,9 @@ use Rattle.consistency.specs.Lowering.{lineUnder}
 use Rattle.run_table.specs.Lists.{anyBelow, tabulate}
 use Rattle.run_table.specs.Table.{Table, countOf, processCount}
 
--- A ceiling of a run: a number for each process, the latest at which it may stand. That is one of its checkpoints, or
--- its count, for the virtual one.
+-- A ceiling of a run, the ceilings of its processes in docs/MANUAL.md: a number for each process, the latest at which
+-- it may stand. That is one of its checkpoints, or its count, for the virtual one. It is what checks 17 and 18 let
+-- through.
 pub record Ceiling (t : Table) (ceiling : List ℕ) : Type 0 where
   pub for-each : length ceiling ≡ processCount t
   pub within : AtOrBelow (asLine ceiling) (countOf t)

@@ -2,7 +2,7 @@
 -- process.
 --     Lines       orphans, consistent lines, the latest one under a ceiling
 --     Lowering    the computed line: rollback propagation
---     Ceilings    the ceiling of processes that do not checkpoint, their line, and the recovery line of a run
+--     Ceilings    ceilings, that of processes that do not checkpoint, their line, and the recovery line of a run
 pub mod Ceilings
 pub mod Lines
 pub mod Lowering

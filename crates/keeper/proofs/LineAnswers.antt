@@ -2,8 +2,8 @@
 --     line-room          a buffer with room for a line of n numbers
 --     line-holds         the numbers of an answer are the latest consistent line under a ceiling
 --     recovery-put       the line of all 32 bits is that under the ceiling of all processes
---     ceilings-good      where no check of the call catches, the ceilings that were lent are a ceiling
---     set-under          the line of a set is the line under the set's ceiling, byte for byte and whatever is refused
+--     ceilings-accepted  where no check of the call catches, the ceilings that were lent are a ceiling
+--     set-under          where 12 catches nothing, the line of a set is the line under the set's ceiling, byte for byte, and refused alike
 -- Assumes nothing.
 use mathlib.Core.Bool.{false, not}
 use mathlib.Core.List.{List, [], _∷_, append-assoc}
@@ -75,9 +75,9 @@ module _ (table : List ℕ) (accepted : tableRefusal table ≡ 0) where
       → buffer′ ≡ putAt buffer 0 (u16s (recoveryLine t))
   recovery-put buffer put = put ∙ ap (λ (l : List ℕ). putAt buffer 0 (u16s l)) (all-hold table accepted)
 
-pub ceilings-good : {table ceilings : List ℕ} → QuietCall table (lineUnderChecks table ceilings) → Ceiling (decode table) ceilings
+pub ceilings-accepted : {table ceilings : List ℕ} → QuietCall table (lineUnderChecks table ceilings) → Ceiling (decode table) ceilings
 unfolding lineUnderChecks tableChecks caughtBy
-ceilings-good q = ceiling-checked _ _ (eqb-true _ _ (not-false _ (quiet-by q 17))) (quiet-by q 18)
+ceilings-accepted q = ceiling-checked _ _ (eqb-true _ _ (not-false _ (quiet-by q 17))) (quiet-by q 18)
 
 -- The ceiling of a set passes 17 and 18; so where 12 catches nothing either, both calls answer alike, also where the table is refused or
 -- the buffer is too short.

@@ -31,17 +31,18 @@ lineAnswer checks table ceiling room = answer checks (u16s (lineUnder (decode ta
 unfoldable pub lineUnderAnswer : List ℕ → List ℕ → ℕ → Answer
 lineUnderAnswer table ceilings room = lineAnswer (lineUnderChecks table ceilings) table ceilings room
 
--- The line of a set: that under the set's ceiling.
+-- The line of a set: that under the set's ceiling, which is `lineOf` of the set.
 unfoldable pub lineOfSetAnswer : List ℕ → ℕ → ℕ → Answer
 lineOfSetAnswer table set room =
     lineAnswer (lineOfSetChecks table set) table (ceilingOf (decode table) (member set)) room
 
--- The recovery line of the run: that under the ceiling of all processes. Of its checks all but 16 are the table's.
+-- The recovery line of the run: that under the ceiling of all processes, which is `recoveryLine` of the table, the line
+-- that futures and rollbacks speak of. Checks: the table's, 16.
 unfoldable pub recoveryLineAnswer : List ℕ → ℕ → Answer
 recoveryLineAnswer table room = lineAnswer (tableChecks table) table (ceilingOf (decode table) (λ p. true)) room
 
--- What a line call leaves: the line that an answer's first N numbers give is the latest consistent one, of the
--- table's messages, under this ceiling.
+-- What a line call leaves: the first N numbers of the buffer are the latest consistent line, of the table's messages,
+-- under this ceiling.
 unfoldable pub HoldsLatest : List ℕ → List ℕ → List ℕ → Type 0
 HoldsLatest table ceiling buffer =
     Latest (decode table .messages) (asLine ceiling)

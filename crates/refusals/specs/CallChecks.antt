@@ -21,7 +21,8 @@ unfoldable pub lineOfSetChecks : List ℕ → ℕ → List Check
 lineOfSetChecks table set =
     onTable table (record { caught = highBit set (processCount (decode table)); number = 12 } ∷ [])
 
--- The line under ceilings: the table's; 17, that they are not N; 18, that one is above the count of its process.
+-- The line under ceilings: the table's; 17, that there are not N of them; 18, that one is above its process's
+-- count.
 unfoldable pub lineUnderChecks : List ℕ → List ℕ → List Check
 lineUnderChecks table ceilings =
     onTable table (record { caught = not (eqb (length ceilings) (processCount (decode table))); number = 17 }

@@ -304,7 +304,7 @@ pub fn list(rng: &mut Rng, table: &Table, process: u16) -> Vec<u16> {
 }
 
 /// A list of ceilings, mostly one for each process and none above its count:
-/// by chance, each as far from its count, or those of a set.
+/// the counts, one less, half of them, zeros, those of a set, or by chance.
 pub fn ceilings(rng: &mut Rng, table: &Table) -> Vec<u16> {
     let n = table.processes();
     let of_counts = |ceiling: &dyn Fn(u16) -> u16| -> Vec<u16> {

@@ -189,7 +189,7 @@ const KEPT_ONLY: Opt = Opt {
     names: &["--kept-only"],
     takes: Takes::Nothing,
     value: "",
-    words: "draw only the checkpoints and messages that are kept, with the lines",
+    words: "draw only the checkpoints and messages that are kept, and the lines, those under ceilings with checkpoints not kept",
 };
 
 const TITLE: Opt = Opt {
@@ -331,9 +331,10 @@ PROCESS named, which hold (take no checkpoint), or with --under the line under a
 name is a number is written `./7`.
 
 The line under ceilings is the latest consistent one with no process above its ceiling. It is for taking up a run from \
-before something was changed: the ceiling of a process is its last checkpoint before the change, or its count where any \
-will do. The keep sheet does not answer for it: whoever discards by sheets may no longer have what it needs. To hold is \
-one kind of ceiling, the last checkpoint; --under and PROCESS exclude each other.
+before something was changed: the ceiling of a process is its last checkpoint before the change, or its count where the \
+change does not matter to it. No step goes to this line: a fall back goes to the recovery line. Nor does the keep sheet \
+protect it: whoever discards by sheets may no longer have its checkpoints, or the logs of messages that cross it. To hold \
+is one kind of ceiling, the last checkpoint; --under and PROCESS exclude each other.
 
   keeper line --under 3,-,4 run.table
 

@@ -610,7 +610,7 @@ fn the_line_under_ceilings_of_example_a() {
     assert!(legend.contains(&"ceiling of a process"), "{legend:?}");
     assert!(!legend.iter().any(|text| text.contains("holding")));
     assert_eq!(ceilings_in(&one), [(0, 0)]);
-    // The count is no ceiling, and so there is nothing to explain.
+    // The count is no bound and has no bracket, so there is nothing to explain.
     let free = picture(&["--under", "3,-"]);
     assert_eq!(
         through(&free, &free.lines("under-line")[0]),

@@ -93,7 +93,7 @@ fn lines_under_ceilings() {
         ("3,1", "1 1"),
         ("0,3", "0 1"),
         ("3,0", "0 0"),
-        // No ceiling is the count.
+        // `-` is the count.
         ("-,-", "3 3"),
         ("-,2", "3 2"),
         ("0,-", "0 1"),

@@ -5,7 +5,7 @@ use mathlib.Core.Path.{refl}
 use denote.Ref.{now}
 use Rattle.consistency.proofs.CeilingLaws.{under-length}
 use Rattle.keeper.proofs.AnswerLaws.{answered, refused, sixteen, too-short}
-use Rattle.keeper.proofs.LineAnswers.{ceilings-good, line-holds, line-room}
+use Rattle.keeper.proofs.LineAnswers.{ceilings-accepted, line-holds, line-room}
 use Rattle.keeper.specs.Calls.{lineAnswer, lineUnderAnswer}
 use Rattle.refusals.proofs.RefusalLaws.{QuietCall, quiet-call}
 use Rattle.refusals.specs.CallChecks.{lineUnderChecks}
@@ -44,18 +44,18 @@ keeper-line-under-spec =
     -- 16
     (λ c.
     let here = quiet (judged (c .before)) in
-    (too-short _ _ _ (here .quiet) (c .before .line-size .ensures _ (under-length _ _ (ceilings-good here))) (c .if2 .taken), sixteen))
+    (too-short _ _ _ (here .quiet) (c .before .line-size .ensures _ (under-length _ _ (ceilings-accepted here))) (c .if2 .taken), sixteen))
     -- asked by `put_line_under`
     (λ c κs.
     let size = c .before .before in
     let here = quiet (judged size) in
-    (here .accepted, (ceilings-good here .for-each, line-room _ (size .line-size .ensures) (c .before .if2 .left))))
+    (here .accepted, (ceilings-accepted here .for-each, line-room _ (size .line-size .ensures) (c .before .if2 .left))))
     (λ c. search needs)
     -- the answer
     (λ c.
     let put = c .before .before in
     let here = quiet (judged (sized put)) in
-    let ceiling = ceilings-good here in
+    let ceiling = ceilings-accepted here in
     let size = sized put .line-size .ensures _ (under-length _ _ ceiling) in
     let line = put .put-line-under .ensures in
     (answered _ _ _ (here .quiet) size (put .before .before .if2 .left) line, λ _. line-holds _ (here .accepted) ceiling _ line)))

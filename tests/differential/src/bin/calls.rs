@@ -11,7 +11,7 @@ use differential::make;
 use reference::gen::{self, Order, Rng};
 use reference::{Message, Outcome, Table, TABLE_CHECKS};
 
-const CALLS: u64 = 250_000;
+const CALLS: u64 = 320_000;
 const SEED: u64 = 20_260_101;
 
 /// What a call would write into an endless buffer, then with room for it and

@@ -249,7 +249,8 @@ fn under(scope: Scope) -> Result<String, Failure> {
             };
             expected.push((list, lined));
         }
-        // Of two lists of which one is nowhere higher, its line is nowhere later.
+        // A test of what is expected, with which the library is compared below: of two
+        // lists of which one is nowhere higher, its line is nowhere later.
         let at_most = |one: &Line, other: &Line| one.iter().zip(other).all(|(a, b)| a <= b);
         for (lower, earlier) in &lines {
             for (higher, later) in lines.iter().filter(|(higher, _)| at_most(lower, higher)) {
