@@ -1,7 +1,7 @@
 -- The laws of the keeper's calls.
 --     AnswerLaws    what a refusal and an answer leave
 --     LineAnswers   the answers of the line calls
---     MarkedCases   the marked cases
+--     MarkedCases   the marked cases, and cases of later calls
 --     SheetBytes    the keep sheet, read back from the buffer
 --     SheetAnswer   the scratch of the keep sheet
 --     StepAnswers   the answers of the steps

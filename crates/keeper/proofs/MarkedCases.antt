@@ -1,4 +1,4 @@
--- The marked cases hold of the definitions: one statement, by computation.
+-- The marked cases hold of the definitions, and so do the cases of lines under ceilings: a statement each, by computation.
 -- Assumes nothing.
 use mathlib.Core.Bool.{true}
 use mathlib.Core.Path.{_≡_, refl}
@@ -9,15 +9,16 @@ use Rattle.run_table.specs.Format.{receiptsPart, sendsPart}
 use Rattle.run_table.specs.Lists.{any, anyBelow, rows, select, sum, tabulate}
 use Rattle.run_table.specs.Numbers.{u16At, u16Bytes, u16s}
 use Rattle.run_table.specs.Table.{countOf, messageCount, messageOf, processCount}
-use Rattle.consistency.specs.Ceilings.{ceilingOf, lineOf, recoveryLine, single}
+use Rattle.consistency.specs.Ceilings.{aboveCounts, ceilingOf, lineOf, recoveryLine, single}
 use Rattle.consistency.specs.Lowering.{isOrphan, lineUnder, lower, pass, passes}
 use Rattle.process_set.specs.Sets.{highBit, member}
 use Rattle.futures.specs.Steps.{afterRollback, putBack, remaining, stays}
 use Rattle.futures.specs.Sheet.{crosses, holderLine, keepsCheckpoint, keepsMessage, keptCheckpoints, keptMessages, sheet}
 use Rattle.keeper.specs.Answers.{answer, unless}
-use Rattle.keeper.specs.Calls.{keepSheetAnswer, lineAnswer, lineOfSetAnswer, recoveryLineAnswer, rollbackAnswer}
-use Rattle.refusals.specs.CallChecks.{keepSheetChecks, lineOfSetChecks}
-use Rattle.keeper.specs.Cases.{allHold, answerOf, lateReceipt, lateSend, markedCases, sameAnswer, sameBytes, tableA, tableB, tableC, tableD}
+use Rattle.keeper.specs.Calls.{keepSheetAnswer, lineAnswer, lineOfSetAnswer, lineUnderAnswer, recoveryLineAnswer, rollbackAnswer}
+use Rattle.refusals.specs.CallChecks.{keepSheetChecks, lineOfSetChecks, lineUnderChecks}
+use Rattle.keeper.specs.Cases.{allHold, answerOf, ceilingCases, lateReceipt, lateSend, markedCases, sameAnswer, sameBytes}
+use Rattle.keeper.specs.Cases.{tableA, tableB, tableC, tableD}
 
 pub marked-cases : allHold markedCases ≡ true
 unfolding firstCaught outside tooShort badProcessCount tooManyMessages badLength badCount unknownProcess toItself badSend badReceipt tableChecks
@@ -27,3 +28,10 @@ unfolding firstCaught outside tooShort badProcessCount tooManyMessages badLength
     keptMessages sheet unless answer lineAnswer recoveryLineAnswer lineOfSetChecks lineOfSetAnswer keepSheetChecks keepSheetAnswer rollbackAnswer tableA tableB
     tableC tableD lateReceipt lateSend answerOf sameBytes sameAnswer allHold markedCases
 marked-cases = refl
+
+pub ceiling-cases : allHold ceilingCases ≡ true
+unfolding firstCaught outside tooShort badProcessCount tooManyMessages badLength badCount unknownProcess toItself badSend badReceipt tableChecks
+    tableRefusal processesIn messagesIn countsPart sendsPart receiptsPart countAt processAt checkpointAt messageAt decode u16At u16Bytes u16s
+    tabulate any anyBelow processCount messageCount countOf messageOf isOrphan lower pass passes sum lineUnder unless answer lineAnswer tableA
+    tableB tableD lateReceipt answerOf sameBytes sameAnswer allHold aboveCounts lineUnderChecks lineUnderAnswer ceilingCases
+ceiling-cases = refl

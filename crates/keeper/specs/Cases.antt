@@ -1,10 +1,12 @@
--- The marked cases of the format's document (README.md, "What is proved"), as one table. Assumes nothing.
+-- The marked cases of the format's document (README.md, "What is proved"), as one table, and beside them cases of later
+-- calls. Assumes nothing.
 use mathlib.Core.Bool.{Bool, true, false, _&&_}
 use mathlib.Core.List.{List, [], _∷_, _++_}
 use Prim.Native.Nat.{ℕ}
 use lib.Dec.{eqb}
 use Rattle.keeper.specs.Answers.{Answer, answered, refused, unless}
-use Rattle.keeper.specs.Calls.{keepSheetAnswer, lineOfSetAnswer, recoveryLineAnswer, rollbackAnswer}
+use Rattle.keeper.specs.Calls.{keepSheetAnswer, lineOfSetAnswer, lineUnderAnswer, recoveryLineAnswer}
+use Rattle.keeper.specs.Calls.{rollbackAnswer}
 use Rattle.run_table.specs.Checks.{tableRefusal}
 use Rattle.run_table.specs.Numbers.{u16s}
 
@@ -39,6 +41,7 @@ pub data Call : Type 0 where
   checkTable : Call
   recoveryLine : Call
   hold : ℕ → Call
+  under : List ℕ → Call
   fallBack : Call
   keepSheet : Call
 
@@ -52,6 +55,7 @@ unfoldable pub answerOf : List ℕ → Call → Answer
 answerOf table checkTable = unless (tableRefusal table) []
 answerOf table recoveryLine = recoveryLineAnswer table 1000
 answerOf table (hold set) = lineOfSetAnswer table set 1000
+answerOf table (under ceilings) = lineUnderAnswer table ceilings 1000
 answerOf table fallBack = rollbackAnswer table 1000
 answerOf table keepSheet = keepSheetAnswer table 4 1000
 
@@ -115,4 +119,29 @@ markedCases =
     ∷ record { table = tableA ++ (0 ∷ []); call = checkTable; expected = refused 4 }
     ∷ record { table = lateReceipt; call = checkTable; expected = refused 9 }
     ∷ record { table = lateSend; call = checkTable; expected = refused 8 }
+    ∷ []
+
+-- ---- lines under ceilings (docs/MANUAL.md, "Lines")
+unfoldable pub ceilingCases : List Case
+ceilingCases =
+    -- A: both processes hold; one of them; none
+    record { table = tableA; call = under (2 ∷ 2 ∷ []); expected = answered (u16s (1 ∷ 1 ∷ [])) }
+    ∷ record { table = tableA; call = under (3 ∷ 2 ∷ []); expected = answered (u16s (3 ∷ 2 ∷ [])) }
+    ∷ record { table = tableA; call = under (2 ∷ 3 ∷ []); expected = answered (u16s (1 ∷ 1 ∷ [])) }
+    ∷ record { table = tableA; call = under (3 ∷ 3 ∷ []); expected = answered (u16s (3 ∷ 3 ∷ [])) }
+    -- A: one of them is taken up from its checkpoint 0
+    ∷ record { table = tableA; call = under (0 ∷ 3 ∷ []); expected = answered (u16s (0 ∷ 1 ∷ [])) }
+    ∷ record { table = tableA; call = under (3 ∷ 0 ∷ []); expected = answered (u16s (0 ∷ 0 ∷ [])) }
+    -- B: the virtual checkpoint; beyond it
+    ∷ record { table = tableB; call = under (1 ∷ []); expected = answered (u16s (1 ∷ [])) }
+    ∷ record { table = tableB; call = under (2 ∷ []); expected = refused 18 }
+    -- D: both put each other back
+    ∷ record { table = tableD; call = under (1 ∷ 2 ∷ []); expected = answered (u16s (0 ∷ 0 ∷ [])) }
+    -- A: 17, whatever the ceilings; 18, by each process; a refused table first
+    ∷ record { table = tableA; call = under []; expected = refused 17 }
+    ∷ record { table = tableA; call = under (4 ∷ []); expected = refused 17 }
+    ∷ record { table = tableA; call = under (3 ∷ 3 ∷ 0 ∷ []); expected = refused 17 }
+    ∷ record { table = tableA; call = under (4 ∷ 0 ∷ []); expected = refused 18 }
+    ∷ record { table = tableA; call = under (0 ∷ 4 ∷ []); expected = refused 18 }
+    ∷ record { table = lateReceipt; call = under []; expected = refused 9 }
     ∷ []
