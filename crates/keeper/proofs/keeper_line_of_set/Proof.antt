@@ -3,12 +3,11 @@
 use borrow.Author.Needs.{needs}
 use mathlib.Core.Path.{refl}
 use denote.Ref.{now}
-use Rattle.consistency.proofs.CeilingLaws.{set-ceiling, set-length}
-use Rattle.keeper.proofs.AnswerLaws.{answered, refused, sixteen, too-short}
-use Rattle.keeper.proofs.LineAnswers.{line-holds, line-room}
+use Rattle.consistency.proofs.CeilingLaws.{set-ceiling}
+use Rattle.keeper.proofs.LineAnswers.{line-answered, line-refused, line-room, line-short}
 use Rattle.refusals.proofs.RefusalLaws.{QuietCall, quiet-call}
 use Rattle.consistency.specs.Ceilings.{lineOf}
-use Rattle.keeper.specs.Calls.{lineAnswer, lineOfSetAnswer}
+use Rattle.keeper.specs.Calls.{lineOfSetAnswer}
 use Rattle.refusals.specs.CallChecks.{lineOfSetChecks}
 use Rattle.run_table.proofs.CheckLaws.{areRefusals}
 use Rattle.keeper.proofs.keeper_line_of_set.Statement.{statement}
@@ -31,17 +30,17 @@ quiet c = quiet-call _ _ refl (c .before .set-refusal .ensures) (c .if1 .left)
 
 -- ---- the needs, in the code's course
 pub keeper-line-of-set-spec : {M : Type 1} → statement M
-unfolding lineOfSetAnswer lineAnswer lineOf
+unfolding lineOfSetAnswer lineOf
 keeper-line-of-set-spec =
     tie.close
     (tie.spec
     (λ c κs. search needs)
     -- a check before 16
-    (λ c. (refused _ _ _ (c .before .set-refusal .ensures) (c .if1 .taken), λ e. absurd (c .if1 .taken e)))
+    (λ c. line-refused _ _ _ _ (c .before .set-refusal .ensures) (c .if1 .taken))
     -- asked by `line_size`
     (λ c κs. quiet c .accepted)
     -- 16
-    (λ c. (too-short _ _ _ (quiet (judged (c .before)) .quiet) (c .before .line-size .ensures _ (set-length _ _)) (c .if2 .taken), sixteen))
+    (λ c. line-short (quiet (judged (c .before))) (set-ceiling _ _) (c .before .line-size .ensures) (c .if2 .taken))
     -- asked by `put_line_of_set`
     (λ c κs.
     let size = c .before .before in
@@ -50,7 +49,5 @@ keeper-line-of-set-spec =
     -- the answer
     (λ c.
     let put = c .before .before in
-    let size = sized put .line-size .ensures _ (set-length _ _) in
-    let here = quiet (judged (sized put)) in
-    let line = put .put-line-of-set .ensures in
-    (answered _ _ _ (here .quiet) size (put .before .before .if2 .left) line, λ _. line-holds _ (here .accepted) (set-ceiling _ _) _ line)))
+    let size = sized put in
+    line-answered (quiet (judged size)) (set-ceiling _ _) (size .line-size .ensures) (put .before .before .if2 .left) (put .put-line-of-set .ensures)))

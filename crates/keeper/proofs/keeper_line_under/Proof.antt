@@ -3,10 +3,8 @@
 use borrow.Author.Needs.{needs}
 use mathlib.Core.Path.{refl}
 use denote.Ref.{now}
-use Rattle.consistency.proofs.CeilingLaws.{under-length}
-use Rattle.keeper.proofs.AnswerLaws.{answered, refused, sixteen, too-short}
-use Rattle.keeper.proofs.LineAnswers.{ceilings-accepted, line-holds, line-room}
-use Rattle.keeper.specs.Calls.{lineAnswer, lineUnderAnswer}
+use Rattle.keeper.proofs.LineAnswers.{ceilings-accepted, line-answered, line-refused, line-room, line-short}
+use Rattle.keeper.specs.Calls.{lineUnderAnswer}
 use Rattle.refusals.proofs.RefusalLaws.{QuietCall, quiet-call}
 use Rattle.refusals.specs.CallChecks.{lineUnderChecks}
 use Rattle.run_table.proofs.CheckLaws.{areRefusals}
@@ -32,19 +30,19 @@ quiet c = quiet-call _ _ refl (c .before .ceilings-refusal .ensures) (c .if1 .le
 
 -- ---- the needs, in the code's course
 pub keeper-line-under-spec : {M : Type 1} → statement M
-unfolding lineUnderAnswer lineAnswer
+unfolding lineUnderAnswer
 keeper-line-under-spec =
     tie.close
     (tie.spec
     (λ c κs. search needs)
     -- a check before 16
-    (λ c. (refused _ _ _ (c .before .ceilings-refusal .ensures) (c .if1 .taken), λ e. absurd (c .if1 .taken e)))
+    (λ c. line-refused _ _ _ _ (c .before .ceilings-refusal .ensures) (c .if1 .taken))
     -- asked by `line_size`
     (λ c κs. quiet c .accepted)
     -- 16
     (λ c.
     let here = quiet (judged (c .before)) in
-    (too-short _ _ _ (here .quiet) (c .before .line-size .ensures _ (under-length _ _ (ceilings-accepted here))) (c .if2 .taken), sixteen))
+    line-short here (ceilings-accepted here) (c .before .line-size .ensures) (c .if2 .taken))
     -- asked by `put_line_under`
     (λ c κs.
     let size = c .before .before in
@@ -54,8 +52,6 @@ keeper-line-under-spec =
     -- the answer
     (λ c.
     let put = c .before .before in
-    let here = quiet (judged (sized put)) in
-    let ceiling = ceilings-accepted here in
-    let size = sized put .line-size .ensures _ (under-length _ _ ceiling) in
-    let line = put .put-line-under .ensures in
-    (answered _ _ _ (here .quiet) size (put .before .before .if2 .left) line, λ _. line-holds _ (here .accepted) ceiling _ line)))
+    let size = sized put in
+    let here = quiet (judged size) in
+    line-answered here (ceilings-accepted here) (size .line-size .ensures) (put .before .before .if2 .left) (put .put-line-under .ensures)))

@@ -4,12 +4,11 @@ use borrow.Author.Needs.{needs}
 use mathlib.Core.List.{[]}
 use mathlib.Core.Path.{refl}
 use denote.Ref.{now}
-use Rattle.consistency.proofs.CeilingLaws.{set-ceiling, set-length}
+use Rattle.consistency.proofs.CeilingLaws.{set-ceiling}
 use Rattle.consistency.specs.Ceilings.{lineOf, recoveryLine}
-use Rattle.keeper.proofs.AnswerLaws.{answered, refused, sixteen, too-short}
-use Rattle.keeper.proofs.LineAnswers.{line-holds, line-room, recovery-put}
+use Rattle.keeper.proofs.LineAnswers.{line-answered, line-refused, line-room, line-short, recovery-put}
 use Rattle.refusals.proofs.RefusalLaws.{QuietCall, quiet-call}
-use Rattle.keeper.specs.Calls.{lineAnswer, recoveryLineAnswer}
+use Rattle.keeper.specs.Calls.{recoveryLineAnswer}
 use Rattle.process_set.specs.Sets.{allProcesses}
 use Rattle.run_table.proofs.CheckLaws.{areRefusals}
 use Rattle.run_table.specs.Checks.{tableChecks, tableRefusal}
@@ -33,17 +32,17 @@ quiet c = quiet-call _ [] refl (c .before .check .ensures) (c .if1 .left)
 
 -- ---- the needs, in the code's course
 pub keeper-recovery-line-spec : {M : Type 1} → statement M
-unfolding recoveryLineAnswer lineAnswer tableRefusal recoveryLine lineOf allProcesses
+unfolding recoveryLineAnswer tableRefusal recoveryLine lineOf allProcesses
 keeper-recovery-line-spec =
     tie.close
     (tie.spec
     (λ c κs. search needs)
     -- a check before 16
-    (λ c. (refused _ _ _ (c .before .check .ensures) (c .if1 .taken), λ e. absurd (c .if1 .taken e)))
+    (λ c. line-refused _ _ _ _ (c .before .check .ensures) (c .if1 .taken))
     -- asked by `line_size`
     (λ c κs. quiet c .accepted)
     -- 16
-    (λ c. (too-short _ _ _ (quiet (judged (c .before)) .quiet) (c .before .line-size .ensures _ (set-length _ _)) (c .if2 .taken), sixteen))
+    (λ c. line-short (quiet (judged (c .before))) (set-ceiling _ _) (c .before .line-size .ensures) (c .if2 .taken))
     -- asked by `put_line_of_set`
     (λ c κs.
     let size = c .before .before in
@@ -52,7 +51,7 @@ keeper-recovery-line-spec =
     -- the answer
     (λ c.
     let put = c .before .before in
-    let size = sized put .line-size .ensures _ (set-length _ _) in
-    let here = quiet (judged (sized put)) in
-    let line = recovery-put _ (here .accepted) _ (put .put-line-of-set .ensures) in
-    (answered _ _ _ (here .quiet) size (put .before .before .if2 .left) line, λ _. line-holds _ (here .accepted) (set-ceiling _ _) _ line)))
+    let size = sized put in
+    let here = quiet (judged size) in
+    line-answered here (set-ceiling _ _) (size .line-size .ensures) (put .before .before .if2 .left)
+    (recovery-put _ (here .accepted) _ (put .put-line-of-set .ensures))))
