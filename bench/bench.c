@@ -79,8 +79,8 @@ enum {
 struct row {
     char label[64], path[256];
     bool history;                  /* a row of the second goal; its passes are few, so it is also looked at closely */
-    /* At the start of a page, where the answers stand in the middle of one: a copy between places of the same number
-       in their pages can take three times as long, and no row is to have that by chance. */
+    /* At the start of a page, where the answers stand in the middle of one: a copy between nearly the same places of
+       two pages can take three times as long, and no row is to have that by chance. */
     _Alignas(PAGE) uint8_t table[KEEPER_LARGEST_TABLE];
     _Alignas(PAGE) uint8_t shorter[KEEPER_LARGEST_TABLE];
     size_t length, shorter_length, n, m;
