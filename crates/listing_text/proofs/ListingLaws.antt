@@ -1,13 +1,13 @@
 -- What the code reads is the listing of the table.
---     sum-positive                  the counts add up to something
 --     sheet-answered                the call for a keep sheet refuses by the table alone, and leaves its answers
 --     Reading, listing-left         the listing, in the parts that the code puts
 --     refused-text, accepted-text   the listing of bytes, by their refusal
 --     listing-refused, listing-answered, size-inside    the call's answer
+--     listing-ends                  it ends in the share
 -- Assumes nothing.
 use mathlib.Core.Bool.{Bool, true, false}
-use mathlib.Core.List.{List, [], _∷_, _++_, append-nil}
-use mathlib.Core.Path.{_≡_, refl, sym, ap, ap₂, _∙_, subst}
+use mathlib.Core.List.{List, [], _∷_, _++_, append-assoc, append-nil}
+use mathlib.Core.Path.{_≡_, refl, sym, ap, ap₂, _∙_, subst, subst⁻¹}
 use Prim.Native.Nat.{ℕ, zero, suc, _+_, _*_, _≤_, _<_}
 use native.Mathlib.Nat.{mul-le-mul}
 use native.Mathlib.Omega.{arith}
@@ -25,10 +25,11 @@ use Rattle.keeper.specs.Answers.{Yields, answer, bufferAfter, lengthAfter, numb
 use Rattle.keeper.specs.Calls.{keepSheetAnswer, scratchAfter}
 use Rattle.refusals.specs.CallChecks.{keepSheetChecks}
 use Rattle.listing_text.proofs.RowLaws.{line-in}
+use Rattle.listing_text.proofs.ShareLaws.{share-rounded}
 use Rattle.listing_text.proofs.SizeLaws.{listing-few}
 use Rattle.listing_text.proofs.TextLaws.{Left, all-left, each-rows, overlay-front}
-use Rattle.listing_text.specs.Listing.{checkpointRow, holdRow, lineRow, listing, listingAnswer, listingOf, listingUnless, messageRow, refusedRow, share}
-use Rattle.listing_text.specs.Listing.{shareRow}
+use Rattle.listing_text.specs.Listing.{EndsInShare, checkpointRow, holdRow, lineRow, listing, listingAnswer, listingOf, listingUnless}
+use Rattle.listing_text.specs.Listing.{messageRow, refusedRow, share, shareRow}
 use Rattle.listing_text.specs.Rows.{Answered, checkpointAt, checkpointRows, holdRows, lineAt, messageRows}
 use Rattle.listing_text.specs.Text.{Laid, each, overlay}
 use Rattle.sheet_writer.proofs.SheetReads.{entry-is, holder-length, kept-few, lines-length, lines-stand, sheet-length}
@@ -51,18 +52,6 @@ unfolding tabulate
 take-tabulate zero l fits = refl
 take-tabulate (suc n) [] fits = absurd (omega (arith, fits))
 take-tabulate (suc n) (x ∷ l) fits = ap (λ (r : List ℕ). x ∷ r) (take-tabulate n l (omega (arith, fits)))
-
--- ---- the share
-sum-some : (l : List ℕ) (p : ℕ) → getD l p 0 ≤ sum l
-unfolding sum
-sum-some [] p = omega arith
-sum-some (x ∷ l) zero = omega arith
-sum-some (x ∷ l) (suc p) = omega (arith, sum-some l p)
-
-pub sum-positive : (table : List ℕ) → tableRefusal table ≡ 0 → 0 < sum (decode table .counts)
-unfolding countOf
-sum-positive table accepted =
-    omega (arith, sum-some (decode table .counts) 0, facts table accepted .well-formed .some-checkpoint 0 (facts table accepted .well-formed .some-process))
 
 -- ---- the call for a keep sheet, with a scratch and a buffer that are always long enough
 module _ (table scratch bytes : List ℕ) (long : 1024 ≤ length scratch) (room : 12292 ≤ length bytes) where
@@ -234,6 +223,25 @@ pub accepted-text : (table : List ℕ) → tableRefusal table ≡ 0 → listing 
 unfolding listingOf listingUnless
 accepted-text table accepted = rw accepted
 
+-- ---- a listing ends in its share
+share-last : (table : List ℕ) → tableRefusal table ≡ 0 → EndsInShare (decode table) (listing (decode table))
+unfolding listing
+share-last table accepted =
+    let t : Table = decode table in
+    ends (lineRow (recoveryLine t)) (rows (λ k. holdRow k (holderLine t k)) (processCount t))
+    (each checkpointRow (keptCheckpoints t)) (each messageRow (keptMessages t)) where
+      ends : (a b c d : List ℕ) → EndsInShare (decode table) (a ++ (b ++ (c ++ (d ++ shareRow (share (decode table))))))
+      ends a b c d =
+          let last : List ℕ = shareRow (share (decode table)) in
+          let cd = append-assoc c d last in
+          let bcd = append-assoc b (c ++ d) last ∙ ap (λ (l : List ℕ). b ++ l) cd in
+          record {
+            before = a ++ (b ++ (c ++ d));
+            percent = share (decode table);
+            text-is = sym (append-assoc a (b ++ (c ++ d)) last ∙ ap (λ (l : List ℕ). a ++ l) bcd);
+            is-rounded = share-rounded table accepted;
+          }
+
 -- ---- the call's answer, once the text was measured by an empty buffer
 module _ (table buffer : List ℕ) {last : List ℕ} {size : ℕ} (measured : Laid [] last 0 (listingOf table) size) where
   unchanged : last ++ buffer ≡ buffer
@@ -253,16 +261,27 @@ module _ (table buffer : List ℕ) {last : List ℕ} {size : ℕ} (measured : La
   unfolding listingAnswer
   listing-refused short = rw unchanged (too-short [] (listingOf table) (length buffer) no-checks refl (listing-longer short))
 
-  pub listing-answered : {written : ℕ} → size ≤ length (last ++ buffer) → {after : List ℕ} {end : ℕ}
-      → Laid (last ++ buffer) after 0 (listingOf table) end
-      → Yields (listingAnswer table (length buffer)) 0 buffer after written size
-  unfolding listingAnswer
-  listing-answered enough laid =
-      let fits : size ≤ length buffer = omega (arith, enough, ap length unchanged) in
-      let is : size ≡ length (listingOf table) = omega (arith, measured .place) in
-      answered [] (listingOf table) (length buffer) no-checks is fits
-      (laid .contents ∙ ap (λ (b : List ℕ). overlay b 0 (listingOf table)) unchanged ∙ overlay-front buffer (listingOf table) (omega arith)
-      ∙ sym (put-in-front buffer (listingOf table)))
+  module _ (enough : size ≤ length (last ++ buffer)) {after : List ℕ} {end : ℕ} (laid : Laid (last ++ buffer) after 0 (listingOf table) end) where
+    fits : size ≤ length buffer
+    fits = omega (arith, enough, ap length unchanged)
+
+    size-is : size ≡ length (listingOf table)
+    size-is = omega (arith, measured .place)
+
+    text-put : after ≡ putAt buffer 0 (listingOf table)
+    text-put =
+        laid .contents ∙ ap (λ (b : List ℕ). overlay b 0 (listingOf table)) unchanged
+        ∙ overlay-front buffer (listingOf table) (omega (arith, fits, size-is)) ∙ sym (put-in-front buffer (listingOf table))
+
+    pub listing-answered : {written : ℕ} → Yields (listingAnswer table (length buffer)) 0 buffer after written size
+    unfolding listingAnswer
+    listing-answered = answered [] (listingOf table) (length buffer) no-checks size-is fits text-put
+
+    pub listing-ends : tableRefusal table ≡ 0 → EndsInShare (decode table) (take size after)
+    listing-ends accepted =
+        let front : take size after ≡ listingOf table =
+        ap₂ (take {A = ℕ}) size-is (text-put ∙ put-in-front buffer (listingOf table)) ∙ take-append-seam (listingOf table) _ in
+        subst⁻¹ (EndsInShare (decode table)) (front ∙ sym (accepted-text table accepted)) (share-last table accepted)
 
 -- an answer ends within the buffer
 answer-inside : (table buffer buffer′ : List ℕ) (written written′ : ℕ)

@@ -1,6 +1,7 @@
 -- The rows of a listing, as the code reads them off a scratch and a sheet.
 --     checkpoint-read        the row that comes next
 --     line-in, line-part     a line inside the scratch
+--     sum-append             a sum, with a number more
 --     Summed, summed-..      the loop over the counts
 -- Assumes nothing.
 use mathlib.Core.List.{List, [], _∷_, _++_}
@@ -34,7 +35,7 @@ line-part scratch n k =
     rw size
 
 -- ---- the loop over the counts
-sum-append : (xs : List ℕ) (n : ℕ) → sum (xs ++ (n ∷ [])) ≡ sum xs + n
+pub sum-append : (xs : List ℕ) (n : ℕ) → sum (xs ++ (n ∷ [])) ≡ sum xs + n
 unfolding sum
 sum-append [] n = omega arith
 sum-append (x ∷ xs) n = omega (arith, sum-append xs n)

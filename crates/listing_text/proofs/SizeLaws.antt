@@ -1,13 +1,11 @@
 -- How long a listing can be.
---     share-fits                   the share is a number
 --     fields-few .. share-few      each part
 --     listing-few, text-few        the whole: 80,000 bytes are always enough
 -- Assumes nothing.
 use mathlib.Core.Bool.{true}
 use mathlib.Core.List.{List, [], _∷_, _++_}
 use mathlib.Core.Path.{_≡_, refl, ap}
-use Prim.Native.Nat.{ℕ, zero, suc, _+_, _*_, _/_, _≤_, _<_}
-use native.Mathlib.Nat.{div-le-self}
+use Prim.Native.Nat.{ℕ, zero, suc, _+_, _*_, _≤_, _<_}
 use native.Mathlib.Omega.{arith}
 use lib.ListN.{length, getD, length-append}
 use Rattle.consistency.proofs.CeilingLaws.{set-below, set-length}
@@ -16,6 +14,7 @@ use Rattle.futures.proofs.FutureLaws.{known-process}
 use Rattle.futures.proofs.KeptLaws.{checkpoints-listed, keeps-checkpoint, listed-at, messages-listed}
 use Rattle.futures.specs.Demand3.{Listed}
 use Rattle.futures.specs.Sheet.{Checkpoint, holderLine, keptCheckpoints, keptMessages}
+use Rattle.listing_text.proofs.ShareLaws.{share-most}
 use Rattle.listing_text.proofs.TextLaws.{decimal-few, each-rows, tens}
 use Rattle.listing_text.specs.Listing.{checkpointRow, holdRow, lineRow, listing, listingOf, listingUnless, messageRow, refusedRow, share, shareRow}
 use Rattle.listing_text.specs.Text.{each, field, row}
@@ -25,12 +24,8 @@ use Rattle.run_table.proofs.ListLaws.{rows-most}
 use Rattle.run_table.proofs.ReadLaws.{messages-few, processes-few}
 use Rattle.run_table.specs.Checks.{tableRefusal}
 use Rattle.run_table.specs.Format.{decode}
-use Rattle.run_table.specs.Lists.{rows, sum}
+use Rattle.run_table.specs.Lists.{rows}
 use Rattle.run_table.specs.Table.{Table, countOf, messageCount, processCount}
-
-pub share-fits : (table : List ℕ) (kept total : ℕ) → tableRefusal table ≡ 0 → kept ≡ length (keptCheckpoints (decode table))
-    → 100 * kept / total ≤ 102400
-share-fits table kept total accepted is = omega (arith, div-le-self (100 * kept) total, kept-few table accepted .0)
 
 -- ---- fields and rows
 field-few : (k n : ℕ) → n < tens k → length (field n) ≤ suc (suc k)
@@ -103,10 +98,9 @@ module _ (table : List ℕ) (accepted : tableRefusal table ≡ 0) where
   unfolding messageRow tens
   message-few k l = row-few _ _ 5 (fields-more 3 k [] 0 (omega (arith, messages-few table accepted)) no-fields)
 
-  share-few : length (shareRow (share t)) ≤ 13
-  unfolding shareRow share tens
-  share-few =
-      row-few _ _ 7 (fields-more 5 (share t) [] 0 (omega (arith, share-fits table (length (keptCheckpoints t)) (sum (t .counts)) accepted refl)) no-fields)
+  share-few : length (shareRow (share t)) ≤ 10
+  unfolding shareRow tens
+  share-few = row-few _ _ 4 (fields-more 2 (share t) [] 0 (omega (arith, share-most table accepted)) no-fields)
 
   pub listing-few : length (listing t) ≤ 80000
   unfolding listing

@@ -1,10 +1,12 @@
 -- The listing (docs/MANUAL.md, "The listing"). Assumes nothing.
 use mathlib.Core.List.{List, [], _∷_, _++_}
-use Prim.Native.Nat.{ℕ, zero, suc, _*_, _/_}
+use mathlib.Core.Path.{_≡_}
+use Prim.Native.Nat.{ℕ, zero, suc, _*_}
 use lib.ListN.{length}
 use Rattle.consistency.specs.Ceilings.{recoveryLine}
 use Rattle.futures.specs.Sheet.{Checkpoint, holderLine, keptCheckpoints, keptMessages}
 use Rattle.keeper.specs.Answers.{Answer, answer}
+use Rattle.listing_text.specs.Rounding.{Rounded, roundedQuotient}
 use Rattle.listing_text.specs.Text.{each, row}
 use Rattle.run_table.specs.Checks.{tableRefusal}
 use Rattle.run_table.specs.Format.{decode}
@@ -37,9 +39,9 @@ shareRow percent = row (115 ∷ 104 ∷ 97 ∷ 114 ∷ 101 ∷ []) (percent ∷ 
 unfoldable pub refusedRow : ℕ → List ℕ
 refusedRow number = row (114 ∷ 101 ∷ 102 ∷ 117 ∷ 115 ∷ 101 ∷ 100 ∷ []) (number ∷ [])
 
--- 100 × K divided by the sum of counts, rounded down.
+-- 100 × K divided by the sum of counts, rounded.
 unfoldable pub share : Table → ℕ
-share t = 100 * length (keptCheckpoints t) / sum (t .counts)
+share t = roundedQuotient (100 * length (keptCheckpoints t)) (sum (t .counts))
 
 -- The listing of a table: the recovery line, the lines of single holders, what is kept, and the share.
 unfoldable pub listing : Table → List ℕ
@@ -47,6 +49,13 @@ listing t =
     lineRow (recoveryLine t)
     ++ (rows (λ k. holdRow k (holderLine t k)) (processCount t)
     ++ (each checkpointRow (keptCheckpoints t) ++ (each messageRow (keptMessages t) ++ shareRow (share t))))
+
+-- A text's last row is `share` and a percentage: 100 × K divided by the sum of counts, rounded.
+pub record EndsInShare (t : Table) (text : List ℕ) : Type 0 where
+  pub before : List ℕ
+  pub percent : ℕ
+  pub text-is : text ≡ before ++ shareRow percent
+  pub is-rounded : Rounded (100 * length (keptCheckpoints t)) (sum (t .counts)) percent
 
 -- A refusal of 0 is none; any other is all that is listed.
 unfoldable pub listingUnless : ℕ → List ℕ → List ℕ

@@ -8,11 +8,12 @@ use run_table::lookups;
 use run_table::numbers::u16_at;
 use run_table::parts;
 ghost use mathlib.Core.Path.{_≡_};
-ghost use Prim.Native.Nat.{ℕ, _≤_};
-ghost use lib.ListN.{length};
+ghost use Prim.Native.Nat.{ℕ, _≤_, _<_};
+ghost use lib.ListN.{length, take};
 ghost use Rattle.futures.specs.Sheet.{keptCheckpoints};
 ghost use Rattle.keeper.specs.Answers.{Yields};
-ghost use Rattle.listing_text.specs.Listing.{listing, listingAnswer, listingOf, share};
+ghost use Rattle.listing_text.specs.Listing.{EndsInShare, listing, listingAnswer, listingOf, share};
+ghost use Rattle.listing_text.specs.Rounding.{Rounded};
 ghost use Rattle.listing_text.specs.Rows.{Answered};
 ghost use Rattle.listing_text.specs.Text.{Laid};
 ghost use Rattle.run_table.specs.Checks.{tableRefusal};
@@ -34,13 +35,34 @@ fn count_sum(table: &[u8]) -> usize
     total
 }
 
+// A quotient as the nearest whole number, and on an exact half the even one.
+fn rounded_quotient(dividend: usize, divisor: usize) -> usize
+    requires { ⌜ 0 < divisor ⌝ }
+    requires { ⌜ dividend < 2147483648 ⌝ }
+    ensures { λ r. ⌜ Rounded dividend divisor r ⌝ }
+{
+    let below = dividend / divisor;
+    let above = below + 1;
+    let twice = 2 * (dividend % divisor);
+    if twice < divisor {
+        return below;
+    }
+    if divisor < twice {
+        return above;
+    }
+    if below % 2 == 0 {
+        return below;
+    }
+    above
+}
+
 // The share of the checkpoints that are kept, of 100, given their number.
 fn share_of(table: &[u8], kept: usize) -> u32
     requires { ⌜ tableRefusal (now table) ≡ 0 ⌝ }
     requires { ⌜ kept ≡ length (keptCheckpoints (decode (now table))) ⌝ }
     ensures { λ r. ⌜ r ≡ share (decode (now (table .entry))) ⌝ }
 {
-    (100 * kept / count_sum(table)) as u32
+    rounded_quotient(100 * kept, count_sum(table)) as u32
 }
 
 // Puts the listing of an accepted table, from the lines of single holders at the front of a scratch and
@@ -78,6 +100,8 @@ fn put_text(text: &mut [u8], table: &[u8], refusal: u32, scratch: &[u16], sheet:
 pub extern "C" fn keeper_listing(table: &[u8], text: &mut [u8], written: &mut usize) -> u32
     ensures outcome { λ r. ⌜ Yields (listingAnswer (now (table .entry)) (length (now (text .entry)))) r
         (now (text .entry)) (now (text .exit)) (now (written .entry)) (now (written .exit)) ⌝ }
+    ensures rounded { λ (r : ℕ). ⌜ (r ≡ 0 → tableRefusal (now (table .entry)) ≡ 0
+        → EndsInShare (decode (now (table .entry))) (take (now (written .exit)) (now (text .exit)))) ⌝ }
     ensures fits { λ (r : ℕ). ⌜ (80000 ≤ length (now (text .entry)) → r ≡ 0) ⌝ }
 {
     let mut scratch = [0u16; 1024];

@@ -20,9 +20,9 @@ main-spec =
     -- its listing
     (λ c.
     let listed = c .before .keeper-listing .ensures in
-    size-inside _ (listed .0) (listed .1) (lit≤ tt))
+    size-inside _ (listed .0) (listed .1 .1) (lit≤ tt))
     (λ c.
     let listed = c .before .before .keeper-listing .ensures in
-    size-taken _ (listed .0) (listed .1) (lit≤ tt))
+    size-taken _ (listed .0) (listed .1 .1) (lit≤ tt))
     (λ c κs. search needs)
     (λ c. search needs))

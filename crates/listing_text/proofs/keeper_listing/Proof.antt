@@ -1,6 +1,6 @@
 -- `keeper_listing` meets its contract, at each return.
 -- Assumes nothing.
-use Rattle.listing_text.proofs.ListingLaws.{listing-answered, listing-longer, listing-refused, sheet-answered, sheet-number}
+use Rattle.listing_text.proofs.ListingLaws.{listing-answered, listing-ends, listing-longer, listing-refused, sheet-answered, sheet-number}
 use Rattle.listing_text.proofs.SizeLaws.{text-few}
 use Rattle.listing_text.specs.Rows.{Answered}
 use Rattle.run_table.specs.Checks.{tableRefusal}
@@ -56,8 +56,10 @@ keeper-listing-spec =
     let size = c .before .before .before in
     let here = sheet size in
     let few = text-few (now (entry here .args .table)) (omega (arith, refusal-is here)) in
-    let longer = listing-longer _ _ (size .put-text .ensures) (c .if1 .taken) in
-    (listing-refused _ _ (size .put-text .ensures) (c .if1 .taken), λ room. absurd (omega (arith, room, longer, few))))
+    let longer = listing-longer _ _ (size .put-text .ensures) (c .if1 .taken) in (
+      listing-refused _ _ (size .put-text .ensures) (c .if1 .taken),
+      (λ none. absurd (omega (arith, none)), λ room. absurd (omega (arith, room, longer, few))),
+    ))
     -- the text is put
     (λ c. search needs)
     (λ c. search needs)
@@ -67,5 +69,7 @@ keeper-listing-spec =
     (λ c. search needs)
     (λ c.
     let text = c .before .before in
-    let size = measured (enough text) in
-    (listing-answered _ _ (size .put-text .ensures) (enough text .if1 .left) (text .put-text2 .ensures), λ room. refl)))
+    let laid = measured (enough text) .put-text .ensures in (
+      listing-answered _ _ laid (enough text .if1 .left) (text .put-text2 .ensures),
+      (λ none. listing-ends _ _ laid (enough text .if1 .left) (text .put-text2 .ensures), λ room. refl),
+    )))
