@@ -453,17 +453,29 @@ fn fall_back_by_lookups() {
     }
 }
 
+/// "to the nearest whole percent, and an exact half goes to the even
+/// neighbour", by the 100 halves on the way: the share is the number of halves
+/// that were passed, and one that is met exactly counts behind an odd percent.
+fn share_by_halves(k: usize, sum: usize) -> usize {
+    let behind = |percent: usize| {
+        let half = (2 * percent + 1) * sum;
+        half < 200 * k || (half == 200 * k && percent % 2 == 1)
+    };
+    (0..100).filter(|&percent| behind(percent)).count()
+}
+
 /// The listing says the same as the calls.
 #[test]
 fn listing_by_calls() {
     let mut rng = Rng::new(9);
+    let mut halves = [0, 0];
     let words = |bytes: &[u8]| -> Vec<String> {
         bytes
             .chunks_exact(2)
             .map(|pair| u16::from_le_bytes([pair[0], pair[1]]).to_string())
             .collect()
     };
-    for _ in 0..300 {
+    for _ in 0..3000 {
         let n = rng.between(1, 32);
         let m = rng.between(0, 60);
         let bytes = arbitrary(&mut rng, n, m, 12).to_bytes();
@@ -484,7 +496,13 @@ fn listing_by_calls() {
             text += &format!("message {position}\n");
         }
         let sum: usize = (0..n).map(|p| usize::from(count(&bytes, p))).sum();
-        text += &format!("share {}\n", 100 * k / sum);
+        let share = share_by_halves(k, sum);
+        text += &format!("share {share}\n");
         assert_eq!(listing(&bytes), text);
+        if 2 * (100 * k).abs_diff(share * sum) == sum {
+            halves[usize::from(share * sum > 100 * k)] += 1;
+        }
     }
+    let [down, up] = halves;
+    assert!(down > 10 && up > 10, "too few exact halves: {halves:?}");
 }
