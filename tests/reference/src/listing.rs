@@ -33,8 +33,8 @@ pub fn share(kept: u32, states: u32) -> u32 {
     match (2 * remainder).cmp(&states) {
         Ordering::Less => lower,
         Ordering::Greater => upper,
-        Ordering::Equal if lower % 2 == 0 => lower,
-        Ordering::Equal => upper,
+        Ordering::Equal if lower % 2 == 1 => upper,
+        Ordering::Equal => lower,
     }
 }
 
