@@ -5,8 +5,9 @@
 //!
 //! What a name promises is checked before anything is written: `refused_N_...`
 //! is refused with N and nothing else is refused (the cases of the document
-//! apart), `share_N_...` ends in that share, and the document's own cases have
-//! the texts that were worked out by hand from the document.
+//! apart), `share_N_...` ends in that share, `..._of_V_by_K_of_S` keeps K of S
+//! states, which is V percent, and the document's own cases have the texts that
+//! were worked out by hand from the document.
 
 use std::collections::BTreeSet;
 use std::path::Path;
@@ -346,16 +347,42 @@ fn order_of_checks(list: &mut Vec<Named>) {
 // ---------------------------------------------------------------------------
 // Accepted tables with a point.
 
-/// The stairs with no state to spare: process i has states 0 to i, and all of
-/// them are kept.
-fn full_stairs(n: u16) -> (Vec<u16>, Vec<Entry>) {
+/// The counts with one state more for each process in turn, up to a sum.
+fn up_to(mut counts: Vec<u16>, sum: u32) -> Vec<u16> {
+    let n = counts.len();
+    let more = sum - counts.iter().copied().map(u32::from).sum::<u32>();
+    for turn in 0..more as usize {
+        counts[turn % n] += 1;
+    }
+    counts
+}
+
+/// Processes without messages. Each keeps its last state, so `kept` of them
+/// keep `kept` of the `states`.
+fn apart(kept: u32, states: u32) -> Vec<u8> {
+    written(&up_to(vec![1; kept as usize], states), &[])
+}
+
+/// Stairs that keep `kept` of the `states`, 528 at most. Each process j sends
+/// from its last state to the later ones, which receive that in state j + 1:
+/// with j holding they stand at j. So process i keeps states 0 to i - 1 and its
+/// last one. The last process receives from as many only as are left to keep.
+fn stairs(kept: u32, states: u32) -> Vec<u8> {
+    let mut keeps = Vec::new();
+    let mut left = kept as u16;
+    while left > 0 {
+        let here = left.min(keeps.len() as u16 + 1);
+        keeps.push(here);
+        left -= here;
+    }
+    let counts = up_to(keeps.clone(), states);
     let mut messages = Vec::new();
-    for j in 0..n {
-        for i in j + 1..n {
-            messages.push([j, j, i, j + 1]);
+    for j in 0..counts.len() {
+        for i in (j + 1..counts.len()).filter(|&i| j + 1 < usize::from(keeps[i])) {
+            messages.push([j as u16, counts[j] - 1, i as u16, j as u16 + 1]);
         }
     }
-    ((1..=n).collect(), messages)
+    written(&counts, &messages)
 }
 
 /// Readings that the document warns of, and sentences easily missed.
@@ -387,42 +414,137 @@ fn points(list: &mut Vec<Named>) {
     });
 }
 
-/// The share: at its ends, and just below a whole number.
+/// The share: at its ends, just below a whole number, and with large sums of
+/// counts.
 fn shares(list: &mut Vec<Named>) {
-    let (counts, messages) = full_stairs(20);
-    add(list, "share_100_stairs", written(&counts, &messages));
-    // 210 of 211: 99.526.
-    let mut one_more = counts.clone();
-    one_more[0] += 1;
-    let mut later = messages.clone();
-    for message in later.iter_mut().filter(|message| message[0] == 0) {
-        message[1] += 1;
-    }
-    add(list, "share_99_of_99_5", written(&one_more, &later));
-    // 1 of 101: 0.990. 1 of 100: 1 exactly.
-    add(list, "share_0_of_0_990", written(&[101], &[]));
+    add(list, "share_100_stairs", stairs(210, 210));
+    add(
+        list,
+        "share_100_of_99_526_by_210_of_211_in_stairs",
+        stairs(210, 211),
+    );
+    add(list, "share_1_of_0_990_by_1_of_101", written(&[101], &[]));
+    // 1 of 100.
     add(list, "share_1_exactly", written(&[100], &[]));
-    // 10 of 143: 6.993.
     let mut counts = [14; 10];
     counts[9] = 17;
-    add(list, "share_6_of_6_993", written(&counts, &[]));
-    // 32 of 97: 32.990.
+    add(list, "share_7_of_6_993_by_10_of_143", written(&counts, &[]));
     let mut counts = [3; 32];
     counts[0] = 4;
-    add(list, "share_32_of_32_990", written(&counts, &[]));
-    // 77 of 151: 50.993. Stairs of 11 processes with 12 states each keep 66,
-    // and 11 processes without messages keep one each of 19.
-    let stairs = gen::staircase(11, 12);
+    add(
+        list,
+        "share_33_of_32_990_by_32_of_97",
+        written(&counts, &[]),
+    );
+    // Stairs of 11 processes with 12 states each keep 66, and 11 processes
+    // without messages keep one each of 19.
+    let even = gen::staircase(11, 12);
     let mut counts = [vec![12; 11], vec![1; 11]].concat();
     counts[11] = 5;
     counts[21] = 5;
-    let messages: Vec<Entry> = stairs.messages.iter().map(entry).collect();
-    add(list, "share_50_of_50_993", written(&counts, &messages));
+    let messages: Vec<Entry> = even.messages.iter().map(entry).collect();
+    add(list, "share_51_of_50_993_by_77_of_151", {
+        written(&counts, &messages)
+    });
     // The sum of counts is 65,536 + 3, and 131,072.
     let mut counts = [4_096; 17];
     counts[16] = 3;
     add(list, "share_0_sum_65539", written(&counts, &[]));
     add(list, "share_0_sum_131072", written(&[4_096; 32], &[]));
+}
+
+/// Share, value, kept states and all states, by hand. The value is exact with
+/// fewer than three digits behind the point.
+type Share = (u32, &'static str, u32, u32);
+
+/// Exact halves and their neighbours one state away: one state more, one less,
+/// one more kept, one fewer kept. Processes without messages.
+const HALVES_APART: [Share; 17] = [
+    // An even percent and a half: down.
+    (12, "12_5", 1, 8),
+    (12, "12_5", 32, 256),
+    (12, "12_451", 32, 257),
+    (13, "12_549", 32, 255),
+    (12, "12_109", 31, 256),
+    (62, "62_5", 5, 8),
+    (0, "0_5", 1, 200),
+    (0, "0_498", 1, 201),
+    (1, "0_503", 1, 199),
+    (0, "0_5", 32, 6_400),
+    (0, "0_49992", 32, 6_401),
+    (1, "0_50008", 32, 6_399),
+    (0, "0_484", 31, 6_400),
+    // An odd percent and a half: up.
+    (38, "37_5", 3, 8),
+    (88, "87_5", 7, 8),
+    // Halves that are missed with a quotient in 64-bit binary fractions:
+    // 100 x (23 / 40) falls below its half, 15 x (100 / 24) above.
+    (58, "57_5", 23, 40),
+    (62, "62_5", 15, 24),
+];
+
+/// The same in stairs, which keep more states than there are processes.
+const HALVES_IN_STAIRS: [Share; 30] = [
+    // One kept state more than 32 processes without messages keep.
+    (13, "12_891", 33, 256),
+    (1, "0_516", 33, 6_400),
+    (62, "62_5", 5, 8),
+    (38, "37_5", 3, 8),
+    (38, "37_5", 105, 280),
+    (37, "37_367", 105, 281),
+    (38, "37_634", 105, 279),
+    (38, "37_857", 106, 280),
+    (37, "37_143", 104, 280),
+    (88, "87_5", 7, 8),
+    // 99.5 is 199 of 200 or 398 of 400: 597 are more than can be kept. Beside
+    // 199 of 200 stand whole numbers and 99.005, and next to the half 200 of
+    // 201 and 198 of 199, whose sums are odd.
+    (100, "99_5", 199, 200),
+    (99, "99_005", 199, 201),
+    (100, "100", 199, 199),
+    (100, "100", 200, 200),
+    (99, "99", 198, 200),
+    (100, "99_502", 200, 201),
+    (99, "99_497", 198, 199),
+    (100, "99_5", 398, 400),
+    (99, "99_252", 398, 401),
+    (100, "99_749", 398, 399),
+    (100, "99_75", 399, 400),
+    (99, "99_25", 397, 400),
+    // Both halves beside 50.
+    (50, "49_5", 99, 200),
+    (50, "50_5", 101, 200),
+    // In 32-bit binary fractions 100 x (59 / 200) falls below its half.
+    (30, "29_5", 59, 200),
+    // The largest sums that have a half, with 528 states kept: 0.5 is the only
+    // half above 65,536, and 1.5 the next.
+    (0, "0_5", 528, 105_600),
+    (0, "0_499995", 528, 105_601),
+    (1, "0_500005", 528, 105_599),
+    (2, "1_5", 528, 35_200),
+    (1, "1_49996", 528, 35_201),
+];
+
+/// The share on exact halves and next to them.
+fn halves(list: &mut Vec<Named>) {
+    let name = |(share, value, kept, states): Share| {
+        format!("share_{share}_of_{value}_by_{kept}_of_{states}")
+    };
+    for share in HALVES_APART {
+        let (.., kept, states) = share;
+        add(list, &name(share), apart(kept, states));
+    }
+    for share in HALVES_IN_STAIRS {
+        let (.., kept, states) = share;
+        add(list, &(name(share) + "_in_stairs"), stairs(kept, states));
+    }
+    // 2 of 16 is 12.5. Two processes that put each other back to states 4 and
+    // 3, whichever holds; positions 2 and 3 are kept, by crossing that line and
+    // by waiting. One kept state alone is one process, so without messages.
+    add(list, "share_12_of_12_5_by_2_of_16_with_messages", {
+        let messages = [[0, 8, 1, 4], [1, 6, 0, 5], [0, 3, 1, 4], [1, 3, 0, 0]];
+        written(&[9, 7], &messages)
+    });
 }
 
 /// A message as an entry.
@@ -579,6 +701,7 @@ fn corpus() -> Vec<(String, Vec<u8>, String)> {
     order_of_checks(&mut list);
     points(&mut list);
     shares(&mut list);
+    halves(&mut list);
     digits(&mut list);
     largest(&mut list);
     by_chance(&mut list);
@@ -589,7 +712,7 @@ fn corpus() -> Vec<(String, Vec<u8>, String)> {
     }
     for (name, bytes) in list {
         let text = listing(&bytes);
-        promised(&name, &text);
+        promised(&name, &bytes, &text);
         enumerated(&name, &bytes);
         all.push((name, bytes, text));
     }
@@ -599,13 +722,40 @@ fn corpus() -> Vec<(String, Vec<u8>, String)> {
 }
 
 /// Stops when the text is not what the name says.
-fn promised(name: &str, text: &str) {
+fn promised(name: &str, bytes: &[u8], text: &str) {
     let mut words = name.split('_');
     let (word, number) = (words.next(), words.next().unwrap_or(""));
     match word {
         Some("refused") => assert_eq!(text, format!("refused {number}\n"), "{name}"),
-        Some("share") => assert!(text.ends_with(&format!("\nshare {number}\n")), "{name}"),
+        Some("share") => {
+            assert!(text.ends_with(&format!("\nshare {number}\n")), "{name}");
+            promised_value(name, bytes, text);
+        }
         _ => assert!(text.starts_with("line "), "{name}: {text}"),
+    }
+}
+
+/// `share_N_of_V_by_K_of_S...`: stops unless K of S states are kept and that is
+/// V percent, the point written `_`. With fewer than three digits behind it V
+/// is exact; else it is the nearest one with these digits, and not exact.
+fn promised_value(name: &str, bytes: &[u8], text: &str) {
+    let Some((front, back)) = name.split_once("_by_") else {
+        return;
+    };
+    let table = Table::read(bytes).expect("a table with a share");
+    let kept = text.matches("\ncheckpoint ").count() as u64;
+    let states: u64 = table.counts.iter().copied().map(u64::from).sum();
+    let told: Vec<&str> = back.split('_').take(3).collect();
+    assert_eq!(told.join(" "), format!("{kept} of {states}"), "{name}");
+
+    let (_, value) = front.split_once("_of_").expect("the value");
+    let (whole, digits) = value.split_once('_').unwrap_or((value, ""));
+    let scaled: u64 = format!("{whole}{digits}").parse().expect("digits");
+    let off = (scaled * states).abs_diff(100 * kept * 10u64.pow(digits.len() as u32));
+    if digits.len() < 3 {
+        assert_eq!(off, 0, "{name}");
+    } else {
+        assert!(0 < off && 2 * off <= states, "{name}");
     }
 }
 
