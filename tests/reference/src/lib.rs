@@ -11,7 +11,7 @@
 //! * `steps`   - send, save and fall back
 //! * `sheet`   - the keep sheet
 //! * `futures` - a search over lists of steps for what they need
-//! * `listing` - the text of the listing program
+//! * `listing` - the text of the listing program, and the share in it
 //! * `gen`     - tables made by chance, by pattern and by enumeration; ceilings
 
 pub mod futures;
