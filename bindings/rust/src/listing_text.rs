@@ -11,6 +11,10 @@ pub const LISTING_ROOM: usize = 80_000;
 /// too, so the call is refused just where `text` is shorter than the listing.
 /// With the feature `listing_text`.
 ///
+/// The last row is the share of the checkpoints that is kept, of 100: the
+/// nearest whole number, and on an exact half the even one. So 1 of 8 gives 12
+/// and 3 of 8 give 38.
+///
 /// Checks: 16.
 ///
 /// ```
@@ -19,6 +23,9 @@ pub const LISTING_ROOM: usize = 80_000;
 /// // One process with one checkpoint and no messages.
 /// let written = listing(&[1, 0, 0, 0, 1, 0], &mut text)?;
 /// assert_eq!(&text[..written], b"line 0\nhold 0 0\ncheckpoint 0 0\nshare 100\n");
+/// // With eight, of which the last is kept.
+/// let written = listing(&[1, 0, 0, 0, 8, 0], &mut text)?;
+/// assert_eq!(&text[..written], b"line 7\nhold 0 7\ncheckpoint 0 7\nshare 12\n");
 /// let written = listing(&[1, 0], &mut text)?;
 /// assert_eq!(&text[..written], b"refused 1\n");
 /// assert_eq!(listing(&[1, 0], &mut text[..9]), Err(Refusal::AnswerTooShort));
