@@ -219,9 +219,9 @@ differential-tests: archives need-cargo
 differential-faults: archives need-cargo need-gcc
 	@sh tests/differential/faults.sh
 
-# The fuzzer's target, over the archive and a model in C. The inputs of fuzz/corpus are replayed without clang.
+# The fuzzer's target, over the archives and a model in C. The inputs of fuzz/corpus are replayed without clang.
 FUZZ_SECONDS = 60
-FUZZ_SOURCES = fuzz/target.c fuzz/model.c target/staticlib/libkeeper.a
+FUZZ_SOURCES = fuzz/target.c fuzz/model.c target/staticlib/libkeeper.a target/staticlib/liblisting_text.a
 fuzz-replay: archives need-gcc
 	@gcc -std=c11 -Wall -Wextra -Werror -O2 -Iinclude -o target/tests/fuzz_replay fuzz/replay.c $(FUZZ_SOURCES)
 	@target/tests/fuzz_replay fuzz/corpus/*

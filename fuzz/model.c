@@ -335,3 +335,89 @@ uint32_t MODEL(keep_sheet)(const uint8_t *table, size_t length, uint16_t *scratc
     *written = out.at;
     return 0;
 }
+
+/* "Share rounded as the archive's forms do it", of the change requests: to the nearest whole percent, and an
+   exact half to the even one. */
+static unsigned share(unsigned kept, unsigned total)
+{
+    unsigned below = 100 * kept / total;
+    unsigned rest = 100 * kept % total;
+    if (2 * rest == total)
+        return below + below % 2;
+    return 2 * rest > total ? below + 1 : below;
+}
+
+static void put_word(struct out *out, const char *word)
+{
+    while (*word != '\0')
+        out->bytes[out->at++] = (uint8_t)*word++;
+}
+
+/* A field: a space and a decimal number. */
+static void put_field(struct out *out, unsigned number)
+{
+    unsigned value = 1;
+    put_word(out, " ");
+    while (number / value >= 10)
+        value *= 10;
+    for (; value > 0; value /= 10)
+        out->bytes[out->at++] = (uint8_t)('0' + number / value % 10);
+}
+
+static void put_row_of(struct out *out, const char *word, unsigned number)
+{
+    put_word(out, word);
+    put_field(out, number);
+    put_word(out, "\n");
+}
+
+/* "The listing program": its rows, from the sheet and the lines of single holders. */
+static void put_listing(struct out *out, const uint8_t *table, size_t length)
+{
+    static uint16_t lines[KEEPER_SCRATCH_NUMBERS];
+    static uint8_t sheet[KEEPER_SHEET_ROOM];
+    unsigned line[MOST_PROCESSES];
+    size_t size;
+    uint32_t refusal = MODEL(keep_sheet)(table, length, lines, KEEPER_SCRATCH_NUMBERS, sheet, sizeof sheet, &size);
+    if (refusal != 0) {
+        put_row_of(out, "refused", refusal);
+        return;
+    }
+    latest_line(&run, all_processes(&run), line);
+    put_word(out, "line");
+    for (unsigned p = 0; p < run.n; p++)
+        put_field(out, line[p]);
+    put_word(out, "\n");
+    for (unsigned hold = 0; hold < run.n; hold++) {
+        put_word(out, "hold");
+        put_field(out, hold);
+        for (unsigned p = 0; p < run.n; p++)
+            put_field(out, lines[hold * run.n + p]);
+        put_word(out, "\n");
+    }
+    unsigned kept = number_at(sheet, 0), messages = number_at(sheet, 2);
+    for (unsigned k = 0; k < kept; k++) {
+        put_word(out, "checkpoint");
+        put_field(out, number_at(sheet, 4 + 2 * k));
+        put_field(out, number_at(sheet, 4 + 2 * kept + 2 * k));
+        put_word(out, "\n");
+    }
+    for (unsigned q = 0; q < messages; q++)
+        put_row_of(out, "message", number_at(sheet, 4 + 4 * kept + 2 * q));
+    unsigned total = 0;
+    for (unsigned p = 0; p < run.n; p++)
+        total += run.count[p];
+    put_row_of(out, "share", share(kept, total));
+}
+
+uint32_t MODEL(listing)(const uint8_t *table, size_t length, uint8_t *text, size_t room, size_t *written)
+{
+    static uint8_t listing[KEEPER_LISTING_ROOM];
+    struct out out = {listing, 0};
+    put_listing(&out, table, length);
+    if (room < out.at)
+        return 16;
+    memcpy(text, listing, out.at);
+    *written = out.at;
+    return 0;
+}

@@ -1,10 +1,10 @@
 /* The keeper's calls, written a third time from the format's document: plain C that the fuzzer can
    instrument. The names have a prefix of their own, so that the archive links beside them; what they take is
-   what keeper.h says of the archive's. */
+   what keeper.h and listing_text.h say of the archives'. */
 #ifndef MODEL_H
 #define MODEL_H
 
-#include "keeper.h"
+#include "listing_text.h"
 
 #ifndef PREFIX
 #define PREFIX model_
@@ -21,5 +21,6 @@ __typeof__(keeper_send) MODEL(send);
 __typeof__(keeper_save) MODEL(save);
 __typeof__(keeper_fall_back) MODEL(fall_back);
 __typeof__(keeper_keep_sheet) MODEL(keep_sheet);
+__typeof__(keeper_listing) MODEL(listing);
 
 #endif

@@ -1,5 +1,5 @@
 /* The fuzzer's target: the bytes of an input choose a table and a list of calls; every call is made of the
-   archive and of the model (model.c), with guards round all that is lent, and any difference ends the program.
+   archives and of the model (model.c), with guards round all that is lent, and any difference ends the program.
 
    An input is a mode byte, a table, and then calls until the bytes run out. A missing byte reads as 0.
 
@@ -11,8 +11,9 @@
 
    A call is a byte for which call, a byte for the lengths of the answer buffer and the scratch, and its
    arguments. The low four bits of the first byte say which: 14 and 15 are the line under a list of ceilings,
-   below them it is by the remainder of 7. Bit 7: the answer of a step becomes the table. */
-#include "keeper.h"
+   below them it is by the remainder of 7. Bit 7: the answer of a step becomes the table. The check of the table
+   (0 and 7) has no answer: the listing, which takes any bytes too and no more than they, is made behind it, and
+   its buffer is by the byte of lengths. */
 #include "model.h"
 
 #include <stdbool.h>
@@ -27,7 +28,7 @@ unsigned long calls_compared;
 
 enum {
     LARGEST_RAW = 40000,
-    LARGEST_ROOM = KEEPER_LARGEST_TABLE + 8 + 64,
+    LARGEST_ROOM = KEEPER_LISTING_ROOM + 64,
     LARGEST_SCRATCH = KEEPER_SCRATCH_NUMBERS + 64,
     LARGEST_LIST = 65536 + 40,
     MOST_POSITIONS = 300,
@@ -65,33 +66,36 @@ struct loan {
 static struct loan before, by_archive, by_model;
 
 /* A call with its arguments. */
+enum { CHECK_TABLE, RECOVERY_LINE, LINE_OF_SET, SEND, SAVE, FALL_BACK, KEEP_SHEET, LINE_UNDER, LISTING };
 struct call {
     unsigned which;
     uint32_t set;
     uint16_t from, to;
     size_t entries, numbers, room;
 };
-static const char *const names[] = {"check_table", "recovery_line", "line_of_set", "send", "save", "fall_back", "keep_sheet", "line_under"};
+static const char *const names[] = {"check_table", "recovery_line", "line_of_set", "send",   "save",
+                                    "fall_back",   "keep_sheet",    "line_under",  "listing"};
 
 static uint32_t of_archive(const struct call *call, struct loan *loan)
 {
     const uint8_t *table = table_bytes + GUARDS;
     uint8_t *answer = loan->answer + GUARDS;
     switch (call->which) {
-    case 0: return keeper_check_table(table, table_length);
-    case 1: return keeper_recovery_line(table, table_length, answer, call->room, &loan->written[1]);
-    case 2: return keeper_line_of_set(table, table_length, call->set, answer, call->room, &loan->written[1]);
-    case 3: return keeper_send(table, table_length, call->from, call->to, answer, call->room, &loan->written[1]);
-    case 4:
+    case CHECK_TABLE: return keeper_check_table(table, table_length);
+    case RECOVERY_LINE: return keeper_recovery_line(table, table_length, answer, call->room, &loan->written[1]);
+    case LINE_OF_SET: return keeper_line_of_set(table, table_length, call->set, answer, call->room, &loan->written[1]);
+    case SEND: return keeper_send(table, table_length, call->from, call->to, answer, call->room, &loan->written[1]);
+    case SAVE:
         return keeper_save(table, table_length, call->from, loan->list + GUARDS, call->entries, answer, call->room,
                            &loan->written[1]);
-    case 5: return keeper_fall_back(table, table_length, answer, call->room, &loan->written[1]);
-    case 6:
+    case FALL_BACK: return keeper_fall_back(table, table_length, answer, call->room, &loan->written[1]);
+    case KEEP_SHEET:
         return keeper_keep_sheet(table, table_length, loan->scratch + GUARDS, call->numbers, answer, call->room,
                                  &loan->written[1]);
-    default:
+    case LINE_UNDER:
         return keeper_line_under(table, table_length, loan->list + GUARDS, call->entries, answer, call->room,
                                  &loan->written[1]);
+    default: return keeper_listing(table, table_length, answer, call->room, &loan->written[1]);
     }
 }
 
@@ -100,20 +104,21 @@ static uint32_t of_model(const struct call *call, struct loan *loan)
     const uint8_t *table = table_bytes + GUARDS;
     uint8_t *answer = loan->answer + GUARDS;
     switch (call->which) {
-    case 0: return model_check_table(table, table_length);
-    case 1: return model_recovery_line(table, table_length, answer, call->room, &loan->written[1]);
-    case 2: return model_line_of_set(table, table_length, call->set, answer, call->room, &loan->written[1]);
-    case 3: return model_send(table, table_length, call->from, call->to, answer, call->room, &loan->written[1]);
-    case 4:
+    case CHECK_TABLE: return model_check_table(table, table_length);
+    case RECOVERY_LINE: return model_recovery_line(table, table_length, answer, call->room, &loan->written[1]);
+    case LINE_OF_SET: return model_line_of_set(table, table_length, call->set, answer, call->room, &loan->written[1]);
+    case SEND: return model_send(table, table_length, call->from, call->to, answer, call->room, &loan->written[1]);
+    case SAVE:
         return model_save(table, table_length, call->from, loan->list + GUARDS, call->entries, answer, call->room,
                           &loan->written[1]);
-    case 5: return model_fall_back(table, table_length, answer, call->room, &loan->written[1]);
-    case 6:
+    case FALL_BACK: return model_fall_back(table, table_length, answer, call->room, &loan->written[1]);
+    case KEEP_SHEET:
         return model_keep_sheet(table, table_length, loan->scratch + GUARDS, call->numbers, answer, call->room,
                                 &loan->written[1]);
-    default:
+    case LINE_UNDER:
         return model_line_under(table, table_length, loan->list + GUARDS, call->entries, answer, call->room,
                                 &loan->written[1]);
+    default: return model_listing(table, table_length, answer, call->room, &loan->written[1]);
     }
 }
 
@@ -123,6 +128,13 @@ static void show_bytes(const char *what, const uint8_t *bytes, size_t length)
     for (size_t at = 0; at < length; at++)
         printf("%s%02x", at % 2 == 0 ? " " : "", bytes[at]);
     printf("\n");
+}
+
+/* A listing, as far as the length written says. */
+static void show_text(const char *what, const struct call *call, const struct loan *loan, uint32_t returned)
+{
+    if (call->which == LISTING && returned == 0 && loan->written[1] <= call->room)
+        printf("%s:\n%.*s\n", what, (int)loan->written[1], (const char *)loan->answer + GUARDS);
 }
 
 static _Noreturn void differ(const char *what, const struct call *call, uint32_t got, uint32_t expected)
@@ -136,6 +148,8 @@ static _Noreturn void differ(const char *what, const struct call *call, uint32_t
     show_bytes("table", table_before + GUARDS, table_length);
     printf("archive: number %u, length %zu; model: number %u, length %zu; length before the call %zu\n", got,
            by_archive.written[1], expected, by_model.written[1], before.written[1]);
+    show_text("listing of the archive", call, &by_archive, got);
+    show_text("listing of the model", call, &by_model, expected);
     show_bytes("answer buffer of the archive", by_archive.answer + GUARDS, call->room);
     show_bytes("answer buffer of the model  ", by_model.answer + GUARDS, call->room);
     fflush(stdout);
@@ -363,24 +377,28 @@ static void make_ceilings(struct input *input, struct call *call, size_t n)
 static void one_call(struct input *input)
 {
     unsigned first = byte(input), lengths = byte(input);
-    struct call call = {.which = (first & 15) < 14 ? (first & 15) % 7 : 7};
+    struct call call = {.which = (first & 15) < 14 ? (first & 15) % 7 : LINE_UNDER};
     size_t n = table_length >= 2 ? get_number(0) : 0;
     n = n > 32 ? 32 : n;
-    if (call.which == 2) {
+    if (call.which == CHECK_TABLE) {
+        compare(&call);
+        call.which = LISTING;
+    }
+    if (call.which == LINE_OF_SET) {
         unsigned kind = byte(input);
         call.set = kind % 2 == 0 ? kind / 2 : number(input) + 65536u * number(input);
     }
-    if (call.which == 3 || call.which == 4) {
+    if (call.which == SEND || call.which == SAVE) {
         unsigned named = byte(input);
         call.from = (uint16_t)(named == 255 ? number(input) : named % (n + 1));
-        named = call.which == 3 ? byte(input) : 0;
+        named = call.which == SEND ? byte(input) : 0;
         call.to = (uint16_t)(named == 255 ? number(input) : named % (n + 1));
     }
-    if (call.which == 4)
+    if (call.which == SAVE)
         make_list(input, &call);
-    if (call.which == 7)
+    if (call.which == LINE_UNDER)
         make_ceilings(input, &call, n);
-    if (call.which == 6) {
+    if (call.which == KEEP_SHEET) {
         switch (lengths >> 5) {
         case 0: call.numbers = n * n - (n > 0); break;
         case 1: call.numbers = n * n + 1; break;
@@ -393,17 +411,22 @@ static void one_call(struct input *input)
     struct call unbounded = call;
     unbounded.room = LARGEST_ROOM;
     memcpy(by_model.list, before.list, sizeof(uint16_t) * (GUARDS + call.entries + GUARDS));
-    size_t answer = of_model(&unbounded, &by_model) == 0 && call.which != 0 ? by_model.written[1] : 0;
+    size_t answer = of_model(&unbounded, &by_model) == 0 ? by_model.written[1] : 0;
     switch (lengths & 7) {
     case 0: call.room = answer > 0 ? answer - 1 : 0; break;
     case 1: call.room = answer + 1 + byte(input) % 40; break;
     case 2: call.room = 0; break;
     case 3: call.room = byte(input); break;
-    case 4: call.room = answer > 0 ? number(input) % answer : 0; break;
+    case 4:
+        if (call.which == LISTING)
+            call.room = KEEPER_LISTING_ROOM;
+        else
+            call.room = answer > 0 ? number(input) % answer : 0;
+        break;
     default: call.room = answer; break;
     }
     uint32_t got = compare(&call);
-    bool step = call.which >= 3 && call.which <= 5;
+    bool step = call.which == SEND || call.which == SAVE || call.which == FALL_BACK;
     if ((first & 128) != 0 && step && got == 0) {
         memcpy(table_bytes + GUARDS, by_archive.answer + GUARDS, by_archive.written[1]);
         table_is_set(by_archive.written[1]);
