@@ -1,6 +1,6 @@
-/* The calls of an archive in the library's place: those of one of several faulty models, which the environment
+/* The calls of archives in the library's place: those of one of several faulty models, which the environment
    variable FAULT names by number; 0 is the model as it is. "faults.inc" has a line FAULT(k) for each. */
-#include "keeper.h"
+#include "listing_text.h"
 
 #include <stdlib.h>
 
@@ -12,13 +12,14 @@
     __typeof__(keeper_send) fault##k##_send;                    \
     __typeof__(keeper_save) fault##k##_save;                    \
     __typeof__(keeper_fall_back) fault##k##_fall_back;          \
-    __typeof__(keeper_keep_sheet) fault##k##_keep_sheet;
+    __typeof__(keeper_keep_sheet) fault##k##_keep_sheet;        \
+    __typeof__(keeper_listing) fault##k##_listing;
 #include "faults.inc"
 #undef FAULT
 
 #define FAULT(k)                                                                                             \
     {fault##k##_check_table, fault##k##_recovery_line, fault##k##_line_of_set, fault##k##_line_under,        \
-     fault##k##_send, fault##k##_save, fault##k##_fall_back, fault##k##_keep_sheet},
+     fault##k##_send, fault##k##_save, fault##k##_fall_back, fault##k##_keep_sheet, fault##k##_listing},
 static const struct {
     __typeof__(keeper_check_table) *check_table;
     __typeof__(keeper_recovery_line) *recovery_line;
@@ -28,6 +29,7 @@ static const struct {
     __typeof__(keeper_save) *save;
     __typeof__(keeper_fall_back) *fall_back;
     __typeof__(keeper_keep_sheet) *keep_sheet;
+    __typeof__(keeper_listing) *listing;
 } faults[] = {
 #include "faults.inc"
 };
@@ -85,4 +87,9 @@ uint32_t keeper_fall_back(TABLE, ANSWER)
 uint32_t keeper_keep_sheet(TABLE, uint16_t *scratch, size_t numbers, ANSWER)
 {
     return faults[chosen()].keep_sheet(table, length, scratch, numbers, answer, room, written);
+}
+
+uint32_t keeper_listing(TABLE, uint8_t *text, size_t room, size_t *written)
+{
+    return faults[chosen()].listing(table, length, text, room, written);
 }

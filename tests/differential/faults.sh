@@ -4,9 +4,9 @@
 # Shows that the comparisons can fail. The model of the fuzzer (fuzz/model.c) stands in the library's place: as
 # it is, with which all must agree, and then with one fault of faults.txt at a time. The differential tests
 # (CALLS calls) must find each fault; what small scopes and the replay of the fuzzer's inputs say is printed
-# too. Needs gcc, cargo and the archives.
+# too. Needs gcc, cargo and the archives. All the model's calls stand in one archive, which has both names.
 set -u
-calls=${1:-60000}
+calls=${1:-100000}
 cd "$(dirname "$0")/../.." || exit 1
 work=$(pwd)/target/faults
 list=tests/differential/faults.txt
@@ -35,7 +35,7 @@ while IFS='|' read -r name edit; do
     add $number
 done <"$work/faults.txt"
 gcc -std=c11 -Wall -Wextra -Werror -O2 -Iinclude -I"$work" -c -o "$work/faults.o" tests/differential/faults.c &&
-ar rcs "$work/libkeeper.a" "$work"/*.o &&
+ar rcs "$work/libkeeper.a" "$work"/*.o && cp "$work/libkeeper.a" "$work/liblisting_text.a" &&
 (cd tests/differential && KEEPER_LIB_DIR=$work cargo --quiet build --release --target-dir "$work/cargo") &&
 gcc -std=c11 -O2 -Iinclude -o "$work/replay" fuzz/replay.c fuzz/target.c fuzz/model.c "$work/libkeeper.a" || exit 1
 
@@ -44,22 +44,30 @@ verdict() {
     if timeout 60 "$@" >"$work/log" 2>&1; then echo agrees; else echo found; fi
 }
 
-FAULT=0 "$work/cargo/release/calls" "$calls" >"$work/log" || { cat "$work/log"; exit 1; }
-FAULT=0 "$work/replay" fuzz/corpus/* >"$work/log" || { cat "$work/log"; exit 1; }
-echo "with no fault: the model agrees with the second implementation ($calls calls)"
+# The verdict of small scopes: found where one of them finds something.
+of_scopes() {
+    for scope in 'lines 3 2 2' 'under 3 2 2' 'listing 8 1'; do
+        said=$(verdict "$work/cargo/release/scopes" $scope)
+        test $said = agrees || break
+    done
+    echo $said
+}
+
+export FAULT=0
+"$work/cargo/release/calls" "$calls" >"$work/log" || { cat "$work/log"; exit 1; }
+"$work/replay" fuzz/corpus/* >"$work/log" || { cat "$work/log"; exit 1; }
+test "$(of_scopes)" = agrees || { cat "$work/log"; exit 1; }
+echo "with no fault: the model agrees with the second implementation ($calls calls, and small scopes)"
 missed=0
 number=0
 while IFS='|' read -r name edit; do
     number=$((number + 1))
     export FAULT=$number
-    by_scopes=agrees
-    for scope in lines under; do
-        test $by_scopes = found || by_scopes=$(verdict "$work/cargo/release/scopes" $scope 3 2 2)
-    done
+    by_scopes=$(of_scopes)
     by_replay=$(verdict "$work/replay" fuzz/corpus/*)
     by_calls=$(verdict "$work/cargo/release/calls" "$calls")
     after=$(sed -n 's/^FAILED after \([0-9]*\) calls.*/\1/p' "$work/log")
-    echo "$name: calls: $by_calls${after:+ after $after}; scopes lines and under 3 2 2: $by_scopes; replay: $by_replay"
+    echo "$name: calls: $by_calls${after:+ after $after}; scopes lines and under 3 2 2, listing 8 1: $by_scopes; replay: $by_replay"
     test "$by_calls" = found || missed=$((missed + 1))
 done <"$work/faults.txt"
 echo "$number faults, $missed not found by the differential tests"

@@ -1,7 +1,8 @@
 //! One call, made by the archive, by the binding and by the second
 //! implementation, and everything that may differ: the returned number, the
 //! length written, every byte of the answer buffer and of its guards, every
-//! number of the scratch and of its guards, and what may only be read.
+//! number of the scratch and of its guards, and what may only be read. The share
+//! of a listing is also held against the rule of its rounding.
 
 use std::collections::BTreeMap;
 use std::fmt;
@@ -11,6 +12,7 @@ use reference::gen::Rng;
 use reference::Outcome;
 
 use crate::lend::{Element, Lent};
+use crate::share::{self, ROUNDINGS};
 use crate::show;
 
 /// A call and its arguments, apart from the table. `room` is the length of the
@@ -46,10 +48,13 @@ pub enum Call {
         numbers: usize,
         room: usize,
     },
+    Listing {
+        room: usize,
+    },
 }
 
 /// The names of the calls, in the order of the report.
-pub const NAMES: [&str; 8] = [
+pub const NAMES: [&str; 9] = [
     "check_table",
     "recovery_line",
     "line_of_set",
@@ -58,6 +63,7 @@ pub const NAMES: [&str; 8] = [
     "save",
     "fall_back",
     "keep_sheet",
+    "listing",
 ];
 
 /// The refusals, and the checks of each call.
@@ -99,6 +105,7 @@ impl Call {
             Call::Save { .. } => 5,
             Call::FallBack { .. } => 6,
             Call::KeepSheet { .. } => 7,
+            Call::Listing { .. } => 8,
         }
     }
 
@@ -112,7 +119,8 @@ impl Call {
             | Call::Send { room, .. }
             | Call::Save { room, .. }
             | Call::FallBack { room }
-            | Call::KeepSheet { room, .. } => room,
+            | Call::KeepSheet { room, .. }
+            | Call::Listing { room } => room,
         }
     }
 
@@ -127,7 +135,8 @@ impl Call {
             | Call::Send { room, .. }
             | Call::Save { room, .. }
             | Call::FallBack { room }
-            | Call::KeepSheet { room, .. } => *room = new,
+            | Call::KeepSheet { room, .. }
+            | Call::Listing { room } => *room = new,
         }
         call
     }
@@ -149,6 +158,14 @@ impl Call {
         }
     }
 
+    /// An answer for a reader.
+    fn show(&self, answer: &[u8]) -> String {
+        match self {
+            Call::Listing { .. } => answer.escape_ascii().to_string(),
+            _ => show::hex(answer),
+        }
+    }
+
     /// What the second implementation answers.
     pub fn expected(&self, table: &[u8]) -> Outcome {
         match self {
@@ -164,6 +181,9 @@ impl Call {
             } => reference::save(table, *process, list, *room),
             Call::FallBack { room } => reference::fall_back(table, *room),
             Call::KeepSheet { numbers, room } => reference::keep_sheet(table, *numbers, *room),
+            Call::Listing { room } => {
+                Outcome::answered(reference::listing(table).into_bytes(), *room)
+            }
         }
     }
 
@@ -204,6 +224,9 @@ impl Call {
                 Call::KeepSheet { .. } => archive::keeper_keep_sheet(
                     bytes, length, numbers, of_numbers, answer, room, written,
                 ),
+                Call::Listing { .. } => {
+                    archive::keeper_listing(bytes, length, answer, room, written)
+                }
             }
         }
     }
@@ -221,6 +244,7 @@ impl Call {
             Call::Save { process, .. } => keeper::save(table, process, lent.list.slice(), answer),
             Call::FallBack { .. } => keeper::fall_back(table, answer),
             Call::KeepSheet { .. } => keeper::keep_sheet(table, lent.scratch.slice_mut(), answer),
+            Call::Listing { .. } => keeper::listing(table, answer),
         };
         if let Ok(length) = result {
             lent.written.put(&[length]);
@@ -338,6 +362,8 @@ pub struct Comparison {
     pub calls: BTreeMap<(usize, u32), u64>,
     /// How many lookups of the table reader were compared.
     pub lookups: u64,
+    /// How many shares of listings were rounded in each of the ways.
+    pub shares: [u64; ROUNDINGS.len()],
 }
 
 impl Comparison {
@@ -402,14 +428,14 @@ impl Comparison {
                         loan.written.slice()[0],
                         before.written.slice()[0],
                         loan.scratch.slice(),
-                        show::hex(loan.answer.slice())
+                        call.show(loan.answer.slice())
                     ),
                     expected: format!(
                         "number {}, length written {}, scratch {:?}, answer buffer {}",
                         expected.number,
                         wanted.written.slice()[0],
                         wanted.scratch.slice(),
-                        show::hex(wanted.answer.slice())
+                        call.show(wanted.answer.slice())
                     ),
                 }));
             }
@@ -429,6 +455,21 @@ impl Comparison {
                         .map(|lines| loan.scratch.slice()[..lines.len()].to_vec()),
                 };
             }
+        }
+        if let (Call::Listing { .. }, Some((kept, share))) = (call, share::read(&got.answer)) {
+            let n = usize::from(reference::processes(table));
+            let total = (0..n).map(|p| u32::from(reference::count(table, p))).sum();
+            let Some(way) = share::rounding(share, kept, total) else {
+                return Err(Box::new(Difference {
+                    made_by: made_by.to_string(),
+                    table: table.to_vec(),
+                    call: format!("{call:?}"),
+                    what: vec![format!("the share of {kept} of {total} is {share}")],
+                    got: call.show(&got.answer),
+                    expected: "the same text".to_string(),
+                }));
+            };
+            self.shares[way] += 1;
         }
         *self.calls.entry((call.place(), got.number)).or_default() += 1;
         Ok(got)
@@ -481,7 +522,7 @@ impl Comparison {
     }
 
     /// What the numbers of the calls made, and the checks of each call, have
-    /// without the other.
+    /// without the other; and the ways to round a share that were not met.
     pub fn strays(&self) -> Vec<String> {
         let mut strays = Vec::new();
         for (place, name) in NAMES.iter().enumerate() {
@@ -500,6 +541,11 @@ impl Comparison {
                 }
             }
         }
+        for (way, times) in ROUNDINGS.iter().zip(self.shares) {
+            if times == 0 {
+                strays.push(format!("no listing had a share {way}"));
+            }
+        }
         strays
     }
 
@@ -510,7 +556,7 @@ impl Comparison {
             .map(|(&(_, number), &times)| (number, times))
     }
 
-    /// The calls by name and number, a line for each name.
+    /// The calls by name and number, a line for each name; then the shares.
     pub fn report(&self) -> String {
         let mut text = String::new();
         for (place, name) in NAMES.iter().enumerate() {
@@ -520,6 +566,6 @@ impl Comparison {
                 .collect();
             text += &format!("  {name:13} {}\n", numbers.join(", "));
         }
-        text
+        text + &format!("shares of listings: {}\n", share::report(&self.shares))
     }
 }

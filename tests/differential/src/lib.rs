@@ -4,6 +4,8 @@
 //! * `compare` - one call made by the archive, by the binding and by the
 //!   second implementation, and everything that may differ
 //! * `make`    - tables and arguments by chance
+//! * `share`   - how the share of a listing was rounded, and tables that have a
+//!   chosen one
 //! * `scope`   - all tables up to a size
 //! * `show`    - tables and answers for a reader
 
@@ -11,4 +13,5 @@ pub mod compare;
 pub mod lend;
 pub mod make;
 pub mod scope;
+pub mod share;
 pub mod show;

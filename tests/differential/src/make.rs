@@ -1,8 +1,9 @@
 //! Tables and arguments by chance, and the calls to make on a table.
 
+use keeper::LISTING_ROOM;
 use reference::gen::{self, Order, Rng};
 use reference::table::{MOST_MESSAGES, MOST_STATES};
-use reference::{Message, Table, TABLE_CHECKS};
+use reference::{Message, Outcome, Table, TABLE_CHECKS};
 
 use crate::compare::{Call, Comparison, Difference};
 
@@ -410,7 +411,26 @@ fn calls(rng: &mut Rng, bytes: &[u8], few: bool) -> Vec<Call> {
     for numbers in scratches {
         calls.push(Call::KeepSheet { numbers, room });
     }
+    calls.push(Call::Listing { room });
     calls
+}
+
+/// The listing in a buffer of just its length, of one byte less and one more,
+/// in none, and in one that is enough for every listing.
+pub fn listings(
+    comparison: &mut Comparison,
+    rng: &mut Rng,
+    made_by: &str,
+    bytes: &[u8],
+) -> Result<(), Box<Difference>> {
+    let text = reference::listing(bytes).into_bytes();
+    let length = text.len();
+    for room in [length, length - 1, length + 1, 0, LISTING_ROOM] {
+        let expected = Outcome::answered(text.clone(), room);
+        let call = Call::Listing { room };
+        comparison.call_expecting(rng, made_by, bytes, &call, expected)?;
+    }
+    Ok(())
 }
 
 /// Makes all the calls on a table, with all sorts of answer buffers, and the
@@ -432,6 +452,9 @@ pub fn battery(
                 break;
             }
         }
+    }
+    if rng.chance(1, 8) {
+        listings(comparison, rng, made_by, bytes)?;
     }
     let n = usize::from(reference::processes(bytes));
     let m = usize::from(reference::messages(bytes));

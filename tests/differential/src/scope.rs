@@ -4,15 +4,36 @@
 
 use reference::{Message, Table};
 
-/// A scope: at most so many processes, states each, and messages.
+/// A scope: at most so many processes, states each, states in all, and messages.
 #[derive(Clone, Copy, Debug, PartialEq, Eq)]
 pub struct Scope {
     pub processes: usize,
     pub states: u32,
+    pub total: u32,
     pub messages: usize,
 }
 
 impl Scope {
+    /// The scope of at most so many processes, states each, and messages.
+    pub fn of(processes: usize, states: u32, messages: usize) -> Scope {
+        Scope {
+            processes,
+            states,
+            total: processes as u32 * states,
+            messages,
+        }
+    }
+
+    /// The scope of at most so many states in all, and messages.
+    pub fn of_total(total: u32, messages: usize) -> Scope {
+        Scope {
+            processes: total as usize,
+            states: total,
+            total,
+            messages,
+        }
+    }
+
     /// All counts of the scope.
     fn counts(self) -> Vec<Vec<u32>> {
         let mut all: Vec<Vec<u32>> = Vec::new();
@@ -21,7 +42,8 @@ impl Scope {
             of_n = of_n
                 .iter()
                 .flat_map(|front| {
-                    (1..=self.states).map(move |count| [&front[..], &[count]].concat())
+                    let most = self.states.min(self.total - front.iter().sum::<u32>());
+                    (1..=most).map(move |count| [&front[..], &[count]].concat())
                 })
                 .collect();
             all.extend(of_n.iter().cloned());
@@ -147,28 +169,40 @@ mod tests {
     #[test]
     fn every_table_once() {
         for (processes, states, messages) in [(1, 3, 2), (2, 2, 3), (2, 3, 2), (3, 2, 2)] {
-            let scope = Scope {
-                processes,
-                states,
-                messages,
-            };
-            let mut met = HashSet::new();
-            let mut times = 0;
-            let all: Result<(), ()> = scope.each_sorted(|sorted| {
-                let mut table = sorted.clone();
-                loop {
-                    times += 1;
-                    met.insert(table.clone());
-                    if !next_order(&mut table.messages) {
-                        return Ok(());
-                    }
-                }
-            });
-            assert_eq!(all, Ok(()));
-            assert_eq!(times, scope.size());
+            let met = tables_of(Scope::of(processes, states, messages));
             assert_eq!(met, all_tables(processes, states, messages).collect());
-            assert_eq!(met.len() as u64, times);
         }
+    }
+
+    /// With a bound on the states in all there are those that keep to it.
+    #[test]
+    fn every_table_of_a_total_once() {
+        for (total, messages) in [(1, 2), (3, 2), (4, 2), (5, 1)] {
+            let keeps = |table: &Table| table.counts.iter().sum::<u32>() <= total;
+            let all = all_tables(total as usize, total, messages);
+            let met = tables_of(Scope::of_total(total, messages));
+            assert_eq!(met, all.filter(keeps).collect());
+        }
+    }
+
+    /// All tables of a scope, each of which came once.
+    fn tables_of(scope: Scope) -> HashSet<Table> {
+        let mut met = HashSet::new();
+        let mut times = 0;
+        let all: Result<(), ()> = scope.each_sorted(|sorted| {
+            let mut table = sorted.clone();
+            loop {
+                times += 1;
+                met.insert(table.clone());
+                if !next_order(&mut table.messages) {
+                    return Ok(());
+                }
+            }
+        });
+        assert_eq!(all, Ok(()));
+        assert_eq!(times, scope.size());
+        assert_eq!(met.len() as u64, times);
+        met
     }
 
     #[test]

@@ -3,6 +3,7 @@
 
 use differential::compare::{checks_of, Call, Comparison, NAMES};
 use differential::lend::Lent;
+use differential::share::ROUNDINGS;
 use reference::gen::{arbitrary, Rng};
 use reference::{Message, Outcome, Table, TABLE_CHECKS};
 
@@ -39,8 +40,12 @@ fn all_calls(room: usize) -> Vec<Call> {
         },
         Call::FallBack { room },
         Call::KeepSheet { numbers: 6, room },
+        Call::Listing { room },
     ]
 }
+
+/// A buffer that is enough for the answers of these calls on small tables.
+const ENOUGH: usize = 400;
 
 /// Whether the comparison of this call with this outcome fails.
 fn fails(table: &[u8], call: &Call, outcome: Outcome) -> bool {
@@ -54,7 +59,7 @@ fn fails(table: &[u8], call: &Call, outcome: Outcome) -> bool {
 #[test]
 fn every_bit_of_an_answer_counts() {
     let table = example_a().to_bytes();
-    for call in all_calls(100) {
+    for call in all_calls(ENOUGH) {
         let expected = call.expected(&table);
         assert!(!fails(&table, &call, expected.clone()));
         for bit in 0..8 * expected.answer.len() {
@@ -68,7 +73,7 @@ fn every_bit_of_an_answer_counts() {
 #[test]
 fn the_length_counts() {
     let table = example_a().to_bytes();
-    for call in all_calls(100) {
+    for call in all_calls(ENOUGH) {
         let expected = call.expected(&table);
         let mut shorter = expected.clone();
         shorter.answer.pop();
@@ -82,7 +87,7 @@ fn the_length_counts() {
 #[test]
 fn the_number_counts() {
     let table = example_a().to_bytes();
-    for room in [0, 100] {
+    for room in [0, ENOUGH] {
         for call in all_calls(room) {
             let expected = call.expected(&table);
             for number in (0..=18).filter(|&number| number != expected.number) {
@@ -121,18 +126,25 @@ fn the_scratch_counts() {
     }
 }
 
-/// The numbers answered are held against each call's list of checks: one that
-/// was never met counts, and so does one that is not on the list.
-#[test]
-fn the_lists_of_checks_count() {
-    assert_eq!(checks_of("check_table"), TABLE_CHECKS);
-    assert_eq!(checks_of("listing"), [16]);
+/// Each call has met each of its checks once, and shares each rounding.
+fn all_met() -> Comparison {
     let mut comparison = Comparison::default();
     for (place, name) in NAMES.iter().enumerate() {
         for number in checks_of(name).into_iter().chain([0]) {
             comparison.calls.insert((place, number), 1);
         }
     }
+    comparison.shares = [1; ROUNDINGS.len()];
+    comparison
+}
+
+/// The numbers answered are held against each call's list of checks: one that
+/// was never met counts, and so does one that is not on the list.
+#[test]
+fn the_lists_of_checks_count() {
+    assert_eq!(checks_of("check_table"), TABLE_CHECKS);
+    assert_eq!(checks_of("listing"), [16]);
+    let mut comparison = all_met();
     assert_eq!(comparison.strays(), [""; 0]);
     for (place, name) in NAMES.iter().enumerate() {
         for number in checks_of(name).into_iter().chain([0]) {
@@ -148,6 +160,48 @@ fn the_lists_of_checks_count() {
     }
 }
 
+/// A way to round a share that was never met counts, and it is counted by what
+/// the listing says.
+#[test]
+fn the_ways_to_round_count() {
+    for (place, way) in ROUNDINGS.iter().enumerate() {
+        let mut comparison = all_met();
+        comparison.shares[place] = 0;
+        let stray = format!("no listing had a share {way}");
+        assert_eq!(comparison.strays(), [stray]);
+    }
+    // 50 of example A; none of a refused table, and none under 16.
+    let mut comparison = Comparison::default();
+    let table = example_a().to_bytes();
+    let rng = &mut Rng::new(12);
+    for (bytes, room) in [(&table[..], ENOUGH), (&table[1..], ENOUGH), (&table[..], 0)] {
+        let call = Call::Listing { room };
+        assert!(comparison.call(rng, "example A", bytes, &call).is_ok());
+    }
+    assert_eq!(comparison.shares, [1, 0, 0, 0]);
+}
+
+/// "So 1 state of 8 prints 12 and 3 of 8 print 38": every other number is a
+/// difference.
+#[test]
+fn the_share_counts() {
+    let one = "line 7\nhold 0 7\ncheckpoint 0 7\nshare ";
+    let three = "line 0 1 4\nhold 0 0 2 5\nhold 1 1 1 5\nhold 2 1 2 4\n\
+        checkpoint 0 0\ncheckpoint 1 1\ncheckpoint 2 4\nshare ";
+    for (counts, text, share) in [(vec![8], one, 12), (vec![1, 2, 5], three, 38)] {
+        let table = Table {
+            counts,
+            messages: Vec::new(),
+        };
+        let call = Call::Listing { room: ENOUGH };
+        for percent in 0..=101 {
+            let outcome = Outcome::answered(format!("{text}{percent}\n").into(), ENOUGH);
+            let difference = fails(&table.to_bytes(), &call, outcome);
+            assert_eq!(difference, percent != share, "{text}{percent}");
+        }
+    }
+}
+
 /// An outcome of another table is seen.
 #[test]
 fn another_table_counts() {
@@ -158,10 +212,10 @@ fn another_table_counts() {
         let mut other = table.clone();
         let at = rng.between(0, 4);
         other.messages[at].received = 0;
-        let mut calls = all_calls(100);
+        let mut calls = all_calls(ENOUGH);
         calls.push(Call::LineUnder {
             ceilings: table.counts.iter().map(|&count| count as u16 / 2).collect(),
-            room: 100,
+            room: ENOUGH,
         });
         for call in calls {
             let here = call.expected(&table.to_bytes());

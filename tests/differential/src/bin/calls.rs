@@ -7,11 +7,11 @@ use std::process::ExitCode;
 use std::time::Instant;
 
 use differential::compare::{Call, Comparison, Difference};
-use differential::make;
+use differential::{make, share};
 use reference::gen::{self, Order, Rng};
 use reference::{Message, Outcome, Table, TABLE_CHECKS};
 
-const CALLS: u64 = 320_000;
+const CALLS: u64 = 360_000;
 const SEED: u64 = 20_260_101;
 
 /// What a call would write into an endless buffer, then with room for it and
@@ -90,6 +90,13 @@ fn limits(comparison: &mut Comparison, seed: u64) -> Result<(), Box<Difference>>
         for call in &calls {
             exact_and_short(comparison, rng, &made_by, &bytes, call)?;
         }
+        make::listings(comparison, rng, &made_by, &bytes)?;
+        // Longer inputs; of the second the low 16 bits of the length are right.
+        for more in [1, 65_536] {
+            let longer = [&bytes[..], &vec![0; more]].concat();
+            comparison.call(rng, &made_by, &longer, &Call::CheckTable)?;
+            make::listings(comparison, rng, &made_by, &longer)?;
+        }
         let indices = [0, 31, 32, 4_095, 4_096, usize::MAX];
         comparison.lookups(rng, &made_by, &bytes, &indices)?;
         // One count more than there may be, and one message more.
@@ -113,6 +120,38 @@ fn truncations(comparison: &mut Comparison, seed: u64) -> Result<(), Box<Differe
             let made_by = format!("truncations, seed {seed}, table {number}");
             make::battery(comparison, rng, &made_by, &bytes, true)?;
         }
+    }
+    Ok(())
+}
+
+/// Each number of a table at the least value that is refused, which damage by
+/// chance may miss.
+fn bounds(comparison: &mut Comparison, seed: u64) -> Result<(), Box<Difference>> {
+    let rng = &mut Rng::new(seed);
+    let whole = gen::arbitrary(rng, 3, 6, 4);
+    let mut tables = Vec::new();
+    for p in 0..3 {
+        for count in [0, 4_097] {
+            let mut table = whole.clone();
+            table.counts[p] = count;
+            tables.push(table);
+        }
+    }
+    for (k, message) in whole.messages.iter().enumerate() {
+        let mut spoilt = [*message; 4];
+        spoilt[0].sender = 3;
+        spoilt[1].receiver = 3;
+        spoilt[2].sent = whole.counts[message.sender];
+        spoilt[3].received = whole.counts[message.receiver];
+        for message in spoilt {
+            let mut table = whole.clone();
+            table.messages[k] = message;
+            tables.push(table);
+        }
+    }
+    for (number, table) in tables.iter().enumerate() {
+        let made_by = format!("bounds, seed {seed}, table {number}");
+        make::battery(comparison, rng, &made_by, &table.to_bytes(), true)?;
     }
     Ok(())
 }
@@ -238,6 +277,50 @@ fn orders(comparison: &mut Comparison, seed: u64) -> Result<(), Box<Difference>>
                 comparison.call(rng, &made_by, table, &call.with_room(room))?;
             }
         }
+        make::listings(comparison, rng, &made_by, table)?;
+    }
+    Ok(())
+}
+
+/// Listings of tables whose share is an exact half, or one state away from it:
+/// for all small numbers of kept states and some up to the most, with totals
+/// from the least to the most; then of histories to which a process is added
+/// whose count makes the share so.
+fn shares(comparison: &mut Comparison, seed: u64) -> Result<(), Box<Difference>> {
+    let rng = &mut Rng::new(seed);
+    let listing = Call::Listing { room: usize::MAX };
+    let most = share::most_kept(32);
+    let mut numbers: Vec<usize> = (1..=most).collect();
+    // Large ones are slow.
+    numbers.retain(|&kept| kept <= 64 || kept == most || rng.chance(1, 6));
+    for kept in numbers {
+        for total in share::halves(kept) {
+            for (kept, total) in share::near(kept, total) {
+                let Some(table) = share::table(rng, kept, total) else {
+                    continue;
+                };
+                let made_by = format!("shares, seed {seed}, {kept} of {total}");
+                let bytes = table.to_bytes();
+                exact_and_short(comparison, rng, &made_by, &bytes, &listing)?;
+            }
+        }
+    }
+    for number in 0..300 {
+        let (n, m) = (rng.between(1, 31), rng.between(0, 60));
+        let history = gen::history(rng, n, m);
+        let states = history.counts.iter().sum::<u32>() as usize;
+        let text = reference::listing(&history.to_bytes());
+        let (kept, _) = share::read(text.as_bytes()).expect("an accepted table");
+        for total in share::halves(kept as usize + 1) {
+            for total in [total - 1, total, total + 1] {
+                if !(states + 1..=states + 4_096).contains(&total) {
+                    continue;
+                }
+                let made_by = format!("shares, seed {seed}, history {number}, a total of {total}");
+                let bytes = share::with_another(&history, total - states).to_bytes();
+                exact_and_short(comparison, rng, &made_by, &bytes, &listing)?;
+            }
+        }
     }
     Ok(())
 }
@@ -272,6 +355,7 @@ fn chain(comparison: &mut Comparison, seed: u64, steps: usize) -> Result<(), Box
                 Call::LineOfSet { set, room },
                 Call::LineUnder { ceilings, room },
                 Call::KeepSheet { numbers, room },
+                Call::Listing { room },
             ] {
                 exact_and_short(comparison, rng, &made_by, &bytes, &call)?;
             }
@@ -296,10 +380,13 @@ fn run(comparison: &mut Comparison, calls: u64, seed: u64) -> Result<(), Box<Dif
     part(comparison, "limits and long dominoes");
     truncations(comparison, seed + 1)?;
     part(comparison, "every truncation");
+    bounds(comparison, seed + 5)?;
     damages(comparison, seed + 2)?;
-    part(comparison, "damages and pairs of damages");
+    part(comparison, "bounds, damages and pairs of damages");
     orders(comparison, seed + 3)?;
     part(comparison, "several refusals at once");
+    shares(comparison, seed + 4)?;
+    part(comparison, "shares at and near exact halves");
     for number in 0..40 {
         chain(comparison, seed + 1_000 + number, 250)?;
     }
@@ -344,7 +431,7 @@ fn main() -> ExitCode {
         return ExitCode::FAILURE;
     }
     println!(
-        "{} calls and {} lookups agree; every call met each of its refusals and no other",
+        "{} calls and {} lookups agree; every call met each of its refusals and no other, and shares each rounding",
         comparison.total(),
         comparison.lookups
     );

@@ -7,6 +7,9 @@
 //!   above each count, and under lists of another length; that a lower list
 //!   never has a later line; and the line of every set beside the line under
 //!   the ceilings of that set.
+//! * `scopes listing T M`: the listings of all tables with at most T states in
+//!   all and at most M messages, so with up to T processes. From T = 8 on these
+//!   have each exact half of a percent that a total of 8 can have.
 //! * `scopes steps N C M`: every send, every save with any list of at most M
 //!   positions, and the fall back.
 //! * `scopes needs N C M DEPTH`: what some future of at most DEPTH steps
@@ -22,7 +25,7 @@ use std::time::Instant;
 
 use differential::compare::{number, Call};
 use differential::scope::{least_renaming, next_order, renamed_message, Scope};
-use differential::show;
+use differential::{share, show};
 use keeper::archive;
 use reference::lines::{
     all_hold, ceiling, line_by_enumeration, line_to_bytes, single_holder, Line,
@@ -317,6 +320,81 @@ fn under(scope: Scope) -> Result<String, Failure> {
     ))
 }
 
+/// What stands round a text, on either side.
+const ROUND: usize = 4;
+
+/// The listings, on every table of a scope: with room to spare, exact, and one
+/// byte short.
+fn listing(scope: Scope) -> Result<String, Failure> {
+    let mut buffer = vec![FILL; 2_000];
+    let mut tables = 0;
+    let mut calls: u64 = 0;
+    let mut shares = [0; share::ROUNDINGS.len()];
+    let mut halves: BTreeSet<(u32, u32)> = BTreeSet::new();
+    scope.each_sorted(|sorted| -> Result<(), Failure> {
+        let total: u32 = sorted.counts.iter().sum();
+        let mut table = sorted.clone();
+        loop {
+            tables += 1;
+            let bytes = table.to_bytes();
+            let text = reference::listing(&bytes);
+            let length = text.len();
+            for room in [length + 3, length, length - 1] {
+                calls += 1;
+                let here = &mut buffer[..ROUND + room + ROUND];
+                here.fill(FILL);
+                let mut written = UNWRITTEN;
+                let lent = &mut here[ROUND..ROUND + room];
+                // SAFETY: each pointer and length is a slice of a buffer of its own.
+                let number = unsafe {
+                    archive::keeper_listing(bytes.as_ptr(), bytes.len(), lent.as_mut_ptr(), room, &mut written)
+                };
+                let (wanted, wanted_length, wanted_text) = if room < length {
+                    (16, UNWRITTEN, "")
+                } else {
+                    (0, length, &text[..])
+                };
+                let (front, rest) = here.split_at(ROUND);
+                let (got, behind) = rest.split_at(wanted_text.len());
+                let same = number == wanted
+                    && written == wanted_length
+                    && got == wanted_text.as_bytes()
+                    && front.iter().chain(behind).all(|&byte| byte == FILL);
+                if !same {
+                    return Err(format!(
+                        "difference in listing, room {room}\n{}library:               {number}, length {written}, buffer {}\nsecond implementation: {wanted}, length {wanted_length}, {wanted_text:?}",
+                        show::table(&bytes),
+                        here.escape_ascii()
+                    ));
+                }
+            }
+            // The share as the rule has it, and not as another program.
+            let (kept, percent) = share::read(text.as_bytes()).expect("an accepted table");
+            let Some(way) = share::rounding(percent, kept, total) else {
+                return Err(format!("the share of {kept} of {total} is {percent}\n{}", show::table(&bytes)));
+            };
+            shares[way] += 1;
+            if way == 1 || way == 2 {
+                halves.insert((kept, total));
+            }
+            if !next_order(&mut table.messages) {
+                return Ok(());
+            }
+        }
+    })?;
+    assert_eq!(tables, scope.size(), "every table once");
+    let of_8 = [1, 3, 5, 7].map(|kept| (kept, 8));
+    if scope.total >= 8 && !of_8.iter().all(|half| halves.contains(half)) {
+        return Err(format!(
+            "the exact halves are {halves:?}, and some of {of_8:?} is not there"
+        ));
+    }
+    Ok(format!(
+        "{tables} tables, {calls} calls, shares ({})",
+        share::report(&shares)
+    ))
+}
+
 /// Every list of positions 0 to m with at most m entries.
 fn all_lists(m: usize) -> Vec<Vec<u16>> {
     let mut all: Vec<Vec<u16>> = vec![Vec::new()];
@@ -470,14 +548,16 @@ fn needs(scope: Scope, depth: usize) -> Result<String, Failure> {
 /// One task: its words and numbers.
 fn task(words: &[&str]) -> Option<Result<String, Failure>> {
     let number = |at: usize| words.get(at).and_then(|word| word.parse::<usize>().ok());
-    let scope = Scope {
-        processes: number(1)?,
-        states: u32::try_from(number(2)?).ok()?,
-        messages: number(3)?,
-    };
-    if scope.processes > 4 || scope.states > 8 || scope.messages > 6 {
+    if let ["listing", _, _] = words {
+        let (total, messages) = (number(1)?, number(2)?);
+        let small = (1..=10).contains(&total) && messages <= 4;
+        return small.then(|| listing(Scope::of_total(total as u32, messages)));
+    }
+    let (processes, states, messages) = (number(1)?, number(2)?, number(3)?);
+    if processes > 4 || states > 8 || messages > 6 {
         return None;
     }
+    let scope = Scope::of(processes, states as u32, messages);
     match (words[0], words.len()) {
         ("lines", 4) => Some(lines(scope)),
         ("under", 4) => Some(under(scope)),
@@ -488,12 +568,14 @@ fn task(words: &[&str]) -> Option<Result<String, Failure>> {
 }
 
 /// The scopes of `make test`.
-const PART: [&str; 9] = [
+const PART: [&str; 11] = [
     "lines 3 3 3",
     "lines 2 4 4",
     "under 3 3 3",
     "under 2 4 3",
     "under 4 2 2",
+    "listing 8 2",
+    "listing 6 3",
     "steps 2 3 3",
     "steps 3 2 2",
     "needs 2 3 3 5",
@@ -501,11 +583,13 @@ const PART: [&str; 9] = [
 ];
 
 /// Larger ones: some minutes.
-const MORE: [&str; 6] = [
+const MORE: [&str; 8] = [
     "lines 3 3 4",
     "lines 4 2 3",
     "under 2 4 4",
     "under 4 2 3",
+    "listing 10 2",
+    "listing 7 3",
     "steps 3 3 2",
     "needs 3 2 3 4",
 ];
@@ -531,7 +615,7 @@ fn main() -> ExitCode {
                 return ExitCode::FAILURE;
             }
             None => {
-                eprintln!("usage: scopes [more | lines N C M | under N C M | steps N C M | needs N C M DEPTH]");
+                eprintln!("usage: scopes [more | lines N C M | under N C M | listing T M | steps N C M | needs N C M DEPTH]");
                 return ExitCode::from(2);
             }
         }
