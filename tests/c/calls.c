@@ -372,6 +372,82 @@ static void example_a_sheet(void)
     refuses("A", &check, KEEPER_OK);
 }
 
+/* ---- shares of listings: the nearest whole percent, and of an exact half the even one */
+static void listing_of(const char *what, const uint16_t *numbers, size_t count, const char *text)
+{
+    uint8_t table[128];
+    struct answer t = { KEEPER_OK, (const uint8_t *)text, strlen(text), NULL, 0 };
+    answers(what, about(LISTING, table, put_numbers(table, numbers, count)), t);
+}
+
+/* Halves of a total of 8, on both sides of 50, as whole texts: 12.5, 37.5, 62.5 and 87.5. A message is sent at
+   the end of process 0 and received before state 1, so that the line of process 0 puts its receiver back to 0. */
+static void shares_of_8(void)
+{
+    static const uint16_t one[] = { 1, 0, 8 }, three[] = { 2, 1, 4, 4, 0, 3, 1, 1 },
+                          five[] = { 3, 2, 2, 3, 3, 0, 1, 0, 1, 1, 1, 2, 1 },
+                          seven[] = { 4, 3, 1, 2, 2, 3, 0, 0, 0, 0, 0, 0, 1, 1, 2, 1, 3, 1 };
+    listing_of("1 of 8", one, 3, "line 7\nhold 0 7\ncheckpoint 0 7\nshare 12\n");
+    listing_of("3 of 8", three, 8,
+               "line 3 0\nhold 0 3 0\nhold 1 4 3\ncheckpoint 0 3\ncheckpoint 1 0\ncheckpoint 1 3\nshare 38\n");
+    listing_of("5 of 8", five, 13,
+               "line 1 0 0\nhold 0 1 0 0\nhold 1 2 2 3\nhold 2 2 3 2\ncheckpoint 0 1\ncheckpoint 1 0\ncheckpoint 1 2\n"
+               "checkpoint 2 0\ncheckpoint 2 2\nshare 62\n");
+    listing_of("7 of 8", seven, 18,
+               "line 0 0 0 0\nhold 0 0 0 0 0\nhold 1 1 1 2 3\nhold 2 1 2 1 3\nhold 3 1 2 2 2\ncheckpoint 0 0\ncheckpoint 1 0\n"
+               "checkpoint 1 1\ncheckpoint 2 0\ncheckpoint 2 1\ncheckpoint 3 0\ncheckpoint 3 2\nshare 88\n");
+}
+
+/* Processes without messages: each keeps its last checkpoint, and puts nobody back. The first ones have as many
+   checkpoints as they may, and the others one each. */
+static void share_of(size_t kept, size_t total, unsigned share)
+{
+    static char text[8000];
+    uint16_t numbers[34] = { 0 }, *counts = numbers + 2;
+    size_t p, i, n = 0, left = total - kept;
+    char what[64];
+    numbers[0] = (uint16_t)kept;
+    for (p = 0; p < kept; p++) {
+        size_t more = left < 4095 ? left : 4095;
+        counts[p] = (uint16_t)(1 + more);
+        left -= more;
+    }
+    n += (size_t)sprintf(text + n, "line");
+    for (p = 0; p < kept; p++)
+        n += (size_t)sprintf(text + n, " %u", counts[p] - 1u);
+    for (p = 0; p < kept; p++) {
+        n += (size_t)sprintf(text + n, "\nhold %u", (unsigned)p);
+        for (i = 0; i < kept; i++)
+            n += (size_t)sprintf(text + n, " %u", counts[i] - (i == p ? 1u : 0u));
+    }
+    for (p = 0; p < kept; p++)
+        n += (size_t)sprintf(text + n, "\ncheckpoint %u %u", (unsigned)p, counts[p] - 1u);
+    sprintf(text + n, "\nshare %u\n", share);
+    snprintf(what, sizeof what, "%lu of %lu", (unsigned long)kept, (unsigned long)total);
+    listing_of(what, numbers, 2 + kept, text);
+}
+
+/* Halves, and one checkpoint on either side of them; thirds and sixths; 100; the largest total. */
+static void shares(void)
+{
+    static const struct {
+        size_t kept, total;
+        unsigned share;
+    } cases[] = {
+        { 1, 199, 1 }, { 1, 200, 0 }, { 1, 201, 0 }, { 3, 199, 2 }, { 3, 200, 2 }, { 3, 201, 1 },
+        { 1, 39, 3 }, { 1, 40, 2 }, { 1, 41, 2 }, { 3, 39, 8 }, { 3, 40, 8 }, { 3, 41, 7 },
+        { 1, 7, 14 }, { 1, 8, 12 }, { 1, 9, 11 }, { 2, 8, 25 }, { 3, 8, 38 }, { 4, 8, 50 },
+        { 5, 8, 62 }, { 5, 9, 56 }, { 6, 8, 75 }, { 7, 8, 88 }, { 7, 9, 78 }, { 8, 8, 100 },
+        { 17, 40, 42 }, { 19, 40, 48 }, { 21, 40, 52 }, { 23, 40, 58 }, { 32, 255, 13 }, { 32, 256, 12 }, { 32, 257, 12 },
+        { 1, 3, 33 }, { 2, 3, 67 }, { 1, 6, 17 }, { 5, 6, 83 }, { 3, 55, 5 }, { 1, 1, 100 }, { 1, 2, 50 },
+        { 32, 33, 97 }, { 32, 32, 100 }, { 32, 6399, 1 }, { 32, 6400, 0 }, { 32, 6401, 0 }, { 32, 131072, 0 },
+    };
+    size_t i;
+    shares_of_8();
+    for (i = 0; i < sizeof cases / sizeof cases[0]; i++)
+        share_of(cases[i].kept, cases[i].total, cases[i].share);
+}
+
 /* ---- refused tables, in every call: with arguments and room that are right, and with none that is */
 static void refused_in_every_call(void)
 {
@@ -712,6 +788,7 @@ int main(void)
     example_a_ceilings();
     example_a_steps();
     example_a_sheet();
+    shares();
     refused_in_every_call();
     largest();
     full_counts();

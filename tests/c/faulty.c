@@ -161,6 +161,48 @@ uint32_t faulty_keep_sheet(const uint8_t *table, size_t length, uint16_t *scratc
     return r;
 }
 
+/* A share by another rule; `right` where no fault of the share is asked for. */
+static unsigned faulty_share(unsigned kept, unsigned total, unsigned right)
+{
+    unsigned below = 100 * kept / total, rest = 100 * kept % total;
+    int half = 2 * rest == total;
+    if (fault(74)) return below;
+    if (fault(75)) return below + (rest > 0);
+    if (fault(76) && half) return below + 1;
+    if (fault(77) && half) return below;
+    if (fault(78) && half) return below + 1 - below % 2;
+    if (fault(79) && half && below >= 50) return below + 1;
+    if (fault(80) && half && below >= 50) return below;
+    if (fault(81) && half && below < 50) return below;
+    if (fault(82) && 1000 * kept / total % 10 == 5) return below + below % 2;
+    if (fault(83) && (2000 * kept + total) / (2 * total) % 10 == 5) return below + below % 2;
+    if (fault(84) && rest == total / 2) return below + below % 2;
+    if (fault(85) && !half && rest >= total / 2) return below + 1;
+    if (fault(86)) return 100 / total * kept;
+    if (fault(87) && kept == total) return 99;
+    return right;
+}
+
+/* The share of a listing replaced, where there is room for it. */
+static void put_faulty_share(const uint8_t *table, uint8_t *text, size_t room, size_t *written)
+{
+    unsigned kept = 0, total = 0, p;
+    size_t i, row = 0;
+    char other[32];
+    for (p = 0; p < table[0]; p++)
+        total += keeper_u16_at(table, 4 + 2 * p);
+    for (i = 0; i + 1 < *written; i++)
+        if (text[i] == '\n') {
+            row = i + 1;
+            kept += text[row] == 'c';
+        }
+    sprintf(other, "share %u\n", faulty_share(kept, total, (unsigned)atoi((const char *)text + row + 6)));
+    if (row + strlen(other) <= room) {
+        memcpy(text + row, other, strlen(other));
+        *written = row + strlen(other);
+    }
+}
+
 uint32_t faulty_listing(const uint8_t *table, size_t length, uint8_t *text, size_t room, size_t *written)
 {
     uint32_t r = keeper_listing(table, length, text, room, written);
@@ -168,5 +210,8 @@ uint32_t faulty_listing(const uint8_t *table, size_t length, uint8_t *text, size
     if (fault(44) && r == KEEPER_OK && keeper_check_table(table, length) != KEEPER_OK) return keeper_check_table(table, length);
     if (fault(45) && r == KEEPER_OK) *written -= 1;
     if (fault(46) && r == KEEPER_ANSWER_TOO_SHORT && room > 0) text[0] = 'l';
+    if (fault(88) && r == KEEPER_ANSWER_TOO_SHORT) *written = 0;
+    if (fault(89) && r == KEEPER_OK && room == *written) return KEEPER_ANSWER_TOO_SHORT;
+    if (r == KEEPER_OK && keeper_check_table(table, length) == KEEPER_OK) put_faulty_share(table, text, room, written);
     return r;
 }
