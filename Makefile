@@ -204,9 +204,10 @@ binding-tests: archives need-cargo
 	@cd bindings/rust && $(CARGO) test --release --all-features --target-dir ../../target/cargo >../../target/tests/binding.log 2>&1 || { cat ../../target/tests/binding.log; exit 1; }
 	@awk '/^test result/ { n += $$4 } END { print n " tests of the Rust binding passed" }' target/tests/binding.log
 
-# Every call of the library beside the second implementation: tables by chance, at the limits, damaged, chains
-# of steps; then every table of small scopes. A difference prints the table, the call and both answers.
-CALLS = 320000
+# Every call of the library beside the second implementation: tables by chance, at the limits, damaged, with shares
+# at and near exact halves, chains of steps; then every table of small scopes. A difference prints the table, the call
+# and both answers.
+CALLS = 360000
 SEED = 20260101
 SCOPES =
 differential-tests: archives need-cargo
