@@ -20,8 +20,8 @@ extern "C" {
        hold P L0 .. LN-1       for each process P, the line of the set of P alone
        checkpoint P C          for each kept checkpoint, in the order of the keep sheet
        message K               for each kept message, by position
-       share S                 100 * K divided by the sum of the counts, K as on the sheet: the nearest
-                               whole number, and on an exact half the even one
+       share S                 100 times the number of kept checkpoints divided by the sum of the counts:
+                               the nearest whole number, and on an exact half the even one
 
    So 1 checkpoint of 8 gives 12, and 3 of 8 give 38. S is at most 100; it may be 100 where not all are
    kept, and 0 where some are.

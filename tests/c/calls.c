@@ -380,8 +380,9 @@ static void listing_of(const char *what, const uint16_t *numbers, size_t count, 
     answers(what, about(LISTING, table, put_numbers(table, numbers, count)), t);
 }
 
-/* Halves of a total of 8, on both sides of 50, as whole texts: 12.5, 37.5, 62.5 and 87.5. A message is sent at
-   the end of process 0 and received before state 1, so that the line of process 0 puts its receiver back to 0. */
+/* Halves of a total of 8, on both sides of 50, as whole texts: 12.5, 37.5, 62.5 and 87.5. Messages are sent at the
+   end of process 0, each to another process, and received before state 1, so that the line of process 0 puts the
+   receivers back to 0. */
 static void shares_of_8(void)
 {
     static const uint16_t one[] = { 1, 0, 8 }, three[] = { 2, 1, 4, 4, 0, 3, 1, 1 },
@@ -427,7 +428,8 @@ static void share_of(size_t kept, size_t total, unsigned share)
     listing_of(what, numbers, 2 + kept, text);
 }
 
-/* Halves, and one checkpoint on either side of them; thirds and sixths; 100; the largest total. */
+/* Halves, and one checkpoint on either side of them; thirds and sixths; 5.4545.., a half if tenths were rounded
+   first; 100; the largest total. */
 static void shares(void)
 {
     static const struct {

@@ -11,9 +11,9 @@ pub const LISTING_ROOM: usize = 80_000;
 /// too, so the call is refused just where `text` is shorter than the listing.
 /// With the feature `listing_text`.
 ///
-/// The last row is the share of the checkpoints that is kept, of 100: the
+/// The last row is the share of the checkpoints that is kept, in percent: the
 /// nearest whole number, and on an exact half the even one. So 1 of 8 gives 12
-/// and 3 of 8 give 38.
+/// and 3 of 8 give 38; 199 of 200 give 100, and 1 of 200 gives 0.
 ///
 /// Checks: 16.
 ///

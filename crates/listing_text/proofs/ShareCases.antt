@@ -8,15 +8,15 @@ use Rattle.futures.specs.Sheet.{holderLine, keepsCheckpoint, keptCheckpoints}
 use Rattle.keeper.specs.Cases.{tableA, tableB, tableC, tableD}
 use Rattle.listing_text.specs.Listing.{share}
 use Rattle.listing_text.specs.Rounding.{evenOf, roundedQuotient}
-use Rattle.listing_text.specs.ShareCases.{allRound, allShares, portions, shareCases}
+use Rattle.listing_text.specs.ShareCases.{allPortions, allShares, portions, shareCases}
 use Rattle.run_table.specs.Format.{checkpointAt, countAt, countsPart, decode, messageAt, messagesIn, processAt, processesIn, receiptsPart, sendsPart}
 use Rattle.run_table.specs.Lists.{anyBelow, rows, select, sum, tabulate}
 use Rattle.run_table.specs.Numbers.{u16At, u16Bytes, u16s}
 use Rattle.run_table.specs.Table.{countOf, messageCount, messageOf, processCount}
 
-pub portions-round : allRound portions ≡ true
-unfolding evenOf roundedQuotient allRound portions
-portions-round = refl
+pub all-portions : allPortions portions ≡ true
+unfolding evenOf roundedQuotient allPortions portions
+all-portions = refl
 
 pub share-cases : allShares shareCases ≡ true
 unfolding evenOf roundedQuotient allShares shareCases share tableA tableB tableC tableD processesIn messagesIn countsPart sendsPart receiptsPart countAt

@@ -50,7 +50,7 @@ listing t =
     ++ (rows (λ k. holdRow k (holderLine t k)) (processCount t)
     ++ (each checkpointRow (keptCheckpoints t) ++ (each messageRow (keptMessages t) ++ shareRow (share t))))
 
--- A text's last row is `share` and a percentage: 100 × K divided by the sum of counts, rounded.
+-- A text ends with `share`, a percentage and a line feed: 100 × K divided by the sum of counts, rounded.
 pub record EndsInShare (t : Table) (text : List ℕ) : Type 0 where
   pub before : List ℕ
   pub percent : ℕ

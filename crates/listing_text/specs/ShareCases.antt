@@ -9,27 +9,32 @@ use Rattle.listing_text.specs.Rounding.{roundedQuotient}
 use Rattle.run_table.specs.Format.{decode}
 use Rattle.run_table.specs.Numbers.{u16s}
 
--- ---- of so many kept of so many
+-- So many checkpoints of so many, and the percentage.
 pub record Portion : Type 0 where
   pub kept : ℕ
   pub all : ℕ
   pub expected : ℕ
 
-unfoldable pub allRound : List Portion → Bool
-allRound [] = true
-allRound (c ∷ rest) = eqb (roundedQuotient (100 * c .kept) (c .all)) (c .expected) && allRound rest
+-- Whether the definition gives each of them.
+unfoldable pub allPortions : List Portion → Bool
+allPortions [] = true
+allPortions (c ∷ rest) = eqb (roundedQuotient (100 * c .kept) (c .all)) (c .expected) && allPortions rest
 
+-- Halves, what lies next to them on both sides, whole numbers and thirds.
 unfoldable pub portions : List Portion
 portions =
-    -- the two of the owners' forms: 12.5 and 37.5
+    -- the two of the request: 12.5 and 37.5
     record { kept = 1; all = 8; expected = 12 } ∷ record { kept = 3; all = 8; expected = 38 }
     -- the other halves of eighths: 62.5 and 87.5
     ∷ record { kept = 5; all = 8; expected = 62 } ∷ record { kept = 7; all = 8; expected = 88 }
-    -- the lowest half and the highest, 0.5 and 99.5
+    -- the lowest half and the highest: 0.5 and 99.5
     ∷ record { kept = 1; all = 200; expected = 0 } ∷ record { kept = 199; all = 200; expected = 100 }
-    -- 12.56 and 12.44, 37.69 and 37.31: a checkpoint fewer and one more than at the half
+    -- one checkpoint from a half, fewer and more in all: 12.56 and 12.44, 37.69 and 37.31
     ∷ record { kept = 25; all = 199; expected = 13 } ∷ record { kept = 25; all = 201; expected = 12 }
     ∷ record { kept = 75; all = 199; expected = 38 } ∷ record { kept = 75; all = 201; expected = 37 }
+    -- 62.81 and 62.19, 87.94 and 87.06
+    ∷ record { kept = 125; all = 199; expected = 63 } ∷ record { kept = 125; all = 201; expected = 62 }
+    ∷ record { kept = 175; all = 199; expected = 88 } ∷ record { kept = 175; all = 201; expected = 87 }
     -- 0.503 and 0.498, 99.497 and 99.502
     ∷ record { kept = 1; all = 199; expected = 1 } ∷ record { kept = 1; all = 201; expected = 0 }
     ∷ record { kept = 198; all = 199; expected = 99 } ∷ record { kept = 200; all = 201; expected = 100 }
@@ -37,11 +42,12 @@ portions =
     ∷ record { kept = 1; all = 1; expected = 100 } ∷ record { kept = 2; all = 5; expected = 40 }
     ∷ record { kept = 1; all = 3; expected = 33 } ∷ record { kept = 2; all = 3; expected = 67 } ∷ []
 
--- ---- of a table
+-- A table, and its share.
 pub record ShareCase : Type 0 where
   pub table : List ℕ
   pub expected : ℕ
 
+-- Whether the definition gives each of them.
 unfoldable pub allShares : List ShareCase → Bool
 allShares [] = true
 allShares (c ∷ rest) = eqb (share (decode (c .table))) (c .expected) && allShares rest

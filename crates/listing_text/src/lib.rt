@@ -35,7 +35,8 @@ fn count_sum(table: &[u8]) -> usize
     total
 }
 
-// A quotient as the nearest whole number, and on an exact half the even one.
+// A quotient as the nearest whole number, and on an exact half the even one. The dividend is below 2 ^ 31, so that
+// twice the remainder is a number.
 fn rounded_quotient(dividend: usize, divisor: usize) -> usize
     requires { ⌜ 0 < divisor ⌝ }
     requires { ⌜ dividend < 2147483648 ⌝ }

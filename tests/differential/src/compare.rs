@@ -543,7 +543,7 @@ impl Comparison {
         }
         for (way, times) in ROUNDINGS.iter().zip(self.shares) {
             if times == 0 {
-                strays.push(format!("no listing had a share {way}"));
+                strays.push(format!("no share was rounded: {way}"));
             }
         }
         strays

@@ -6,12 +6,16 @@ use reference::table::{MOST_PROCESSES, MOST_STATES};
 use reference::{Message, Table};
 
 /// The ways in which a share is rounded, in the order of the report.
-pub const ROUNDINGS: [&str; 4] = [
+pub const ROUNDINGS: [&str; 5] = [
+    "whole",
     "below half",
     "half to even below",
     "half to even above",
     "above half",
 ];
+
+/// The place of the exact halves there.
+pub const HALVES: [usize; 2] = [2, 3];
 
 /// The place in [`ROUNDINGS`] of the way from `kept` of `total` to `share`;
 /// `None` where that is not the nearest whole percent, or of two that are
@@ -25,10 +29,11 @@ pub fn rounding(share: u32, kept: u32, total: u32) -> Option<usize> {
     }
     match taken {
         _ if taken.abs() > total => None,
-        _ if taken == total => Some(1),
-        _ if taken == -total => Some(2),
-        0.. => Some(0),
-        _ => Some(3),
+        _ if taken == total => Some(2),
+        _ if taken == -total => Some(3),
+        0 => Some(0),
+        1.. => Some(1),
+        _ => Some(4),
     }
 }
 
@@ -157,25 +162,25 @@ mod tests {
     #[test]
     fn roundings() {
         // Eighths: on both sides of 50, each beside the percents next to it.
-        for (kept, below, way) in [(1, 12, 1), (3, 37, 2), (5, 62, 1), (7, 87, 2)] {
+        for (kept, below, way) in [(1, 12, 2), (3, 37, 3), (5, 62, 2), (7, 87, 3)] {
             let found: Vec<_> = (below - 1..=below + 2)
                 .map(|share| rounding(share, kept, 8))
                 .collect();
             let even = |at| (way == at).then_some(way);
-            assert_eq!(found, [None, even(1), even(2), None], "{kept} of 8");
+            assert_eq!(found, [None, even(2), even(3), None], "{kept} of 8");
         }
         // A half of a percent, and one state away from it.
-        assert_eq!([0, 1].map(|share| rounding(share, 1, 200)), [Some(1), None]);
-        assert_eq!([0, 1].map(|share| rounding(share, 1, 201)), [Some(0), None]);
-        assert_eq!([0, 1].map(|share| rounding(share, 1, 199)), [None, Some(3)]);
-        assert_eq!([1, 2].map(|share| rounding(share, 3, 200)), [None, Some(2)]);
-        assert_eq!([1, 2].map(|share| rounding(share, 3, 201)), [Some(0), None]);
-        assert_eq!([1, 2].map(|share| rounding(share, 3, 199)), [None, Some(3)]);
+        assert_eq!([0, 1].map(|share| rounding(share, 1, 200)), [Some(2), None]);
+        assert_eq!([0, 1].map(|share| rounding(share, 1, 201)), [Some(1), None]);
+        assert_eq!([0, 1].map(|share| rounding(share, 1, 199)), [None, Some(4)]);
+        assert_eq!([1, 2].map(|share| rounding(share, 3, 200)), [None, Some(3)]);
+        assert_eq!([1, 2].map(|share| rounding(share, 3, 201)), [Some(1), None]);
+        assert_eq!([1, 2].map(|share| rounding(share, 3, 199)), [None, Some(4)]);
         // Whole percents.
         let all = [99, 100, 101].map(|share| rounding(share, 5, 5));
         assert_eq!(all, [None, Some(0), None]);
         assert_eq!(rounding(50, 3, 6), Some(0));
-        assert_eq!(rounding(0, 528, 131_072), Some(0));
+        assert_eq!(rounding(0, 528, 131_072), Some(1));
         assert_eq!(rounding(0, 656, 131_072), None);
     }
 

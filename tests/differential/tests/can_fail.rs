@@ -167,7 +167,7 @@ fn the_ways_to_round_count() {
     for (place, way) in ROUNDINGS.iter().enumerate() {
         let mut comparison = all_met();
         comparison.shares[place] = 0;
-        let stray = format!("no listing had a share {way}");
+        let stray = format!("no share was rounded: {way}");
         assert_eq!(comparison.strays(), [stray]);
     }
     // 50 of example A; none of a refused table, and none under 16.
@@ -178,7 +178,7 @@ fn the_ways_to_round_count() {
         let call = Call::Listing { room };
         assert!(comparison.call(rng, "example A", bytes, &call).is_ok());
     }
-    assert_eq!(comparison.shares, [1, 0, 0, 0]);
+    assert_eq!(comparison.shares, [1, 0, 0, 0, 0]);
 }
 
 /// "So 1 state of 8 prints 12 and 3 of 8 print 38": every other number is a

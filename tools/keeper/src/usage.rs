@@ -308,8 +308,8 @@ what caught stands on standard error then, with the number of the refusal.",
         short: "the listing of a table",
         words: "\
 Reads a run table and writes its listing: the recovery line, the lines of single holders, the kept checkpoints and \
-messages, and the share of the checkpoints that is kept: of 100, the nearest whole number, and on an exact half the even \
-one. The listing of a refused table is `refused` and the number; the exit status is then 1.
+messages, and the share of the checkpoints that is kept, in percent: the nearest whole number, and on an exact half the \
+even one. The listing of a refused table is `refused` and the number; the exit status is then 1.
 
 In JSON it is an object with the keys `line` (the recovery line, an array of numbers), `hold` (an array of such lines, by \
 process), `checkpoints` (an array of objects with `process` and `number`), `messages` (an array of positions) and \

@@ -60,7 +60,7 @@ pub fn corpus() -> Vec<Case> {
             });
         }
     }
-    assert!(cases.len() >= 132, "{} tables", cases.len());
+    assert!(cases.len() >= 180, "{} tables", cases.len());
     cases
 }
 

@@ -374,7 +374,7 @@ fn listing(scope: Scope) -> Result<String, Failure> {
                 return Err(format!("the share of {kept} of {total} is {percent}\n{}", show::table(&bytes)));
             };
             shares[way] += 1;
-            if way == 1 || way == 2 {
+            if share::HALVES.contains(&way) {
                 halves.insert((kept, total));
             }
             if !next_order(&mut table.messages) {

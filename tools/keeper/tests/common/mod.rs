@@ -117,7 +117,7 @@ pub fn corpus() -> Vec<Case> {
         }
     }
     cases.sort_by(|one, other| one.name.cmp(&other.name));
-    assert!(cases.len() >= 132, "{} tables", cases.len());
+    assert!(cases.len() >= 180, "{} tables", cases.len());
     cases
 }
 
