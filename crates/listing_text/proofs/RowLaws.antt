@@ -1,19 +1,19 @@
 -- The rows of a listing, as the code reads them off a scratch and a sheet.
 --     checkpoint-read        the row that comes next
 --     line-in, line-part     a line inside the scratch
---     sum-append             a sum, with a number more
 --     Summed, summed-..      the loop over the counts
 -- Assumes nothing.
-use mathlib.Core.List.{List, [], _∷_, _++_}
+use mathlib.Core.List.{List}
 use mathlib.Core.Path.{_≡_, refl, ap, ap₂, _∙_}
 use Prim.Native.Nat.{ℕ, _+_, _*_, _-_, _≤_, _<_}
 use native.Mathlib.Nat.{le-antisymm}
+use native.Mathlib.Numerals.{add-one}
 use native.Mathlib.Omega.{arith}
 use lib.ListN.{take, drop}
 use Rattle.listing_text.specs.Listing.{checkpointRow}
 use Rattle.listing_text.specs.Rows.{checkpointAt, lineAt}
 use Rattle.sheet_entries.proofs.ScratchLaws.{cell-below}
-use Rattle.run_table.proofs.ListLaws.{tabulate-getD, tabulate-more}
+use Rattle.run_table.proofs.ListLaws.{sum-more, tabulate-getD}
 use Rattle.run_table.specs.Lists.{sum, tabulate}
 use Rattle.run_table.specs.Numbers.{u16At}
 use Rattle.run_table.specs.Table.{Table, countOf, processCount}
@@ -35,11 +35,6 @@ line-part scratch n k =
     rw size
 
 -- ---- the loop over the counts
-pub sum-append : (xs : List ℕ) (n : ℕ) → sum (xs ++ (n ∷ [])) ≡ sum xs + n
-unfolding sum
-sum-append [] n = omega arith
-sum-append (x ∷ xs) n = omega (arith, sum-append xs n)
-
 pub record Summed (t : Table) (total p : ℕ) : Type 0 where
   pub within : p ≤ processCount t
   pub small : total ≤ 65536 * p
@@ -55,7 +50,7 @@ module _ (t : Table) where
     summed-more l count is fits = record {
       within = omega arith;
       small = omega (arith, h .small);
-      number = omega (arith, h .number, ap sum (tabulate-more p (countOf t)), sum-append (tabulate p (countOf t)) (countOf t p));
+      number = omega (arith, h .number, ap (λ (n : ℕ). sum (tabulate n (countOf t))) (add-one p), sum-more p (countOf t));
     }
 
     pub summed-all : processCount t ≤ p → total ≡ sum (t .counts)

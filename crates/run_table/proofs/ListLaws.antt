@@ -4,13 +4,15 @@
 --     tabulate-ext, tabulate-getD              two such lists are equal by their entries; every list is one
 --     tabulate-append, tabulate-more           one after another; one entry more
 --     set-tabulate                             one entry set
+--     sum-more, sum-same                       the sum of such a list: one entry more; entries that are all the same
 --     any-last                                 `any`, of a list with one entry more
 --     any-none, any-some, none-of              `any`, by the entries of the list
 --     anyBelow-more, anyBelow-found, anyBelow-none, none-below    `anyBelow`, as a loop finds it
 --     found-below                              an index that passes, where some index does
 --     any-tabulate, anyBelow-ext, anyBelow-or  one test in the other's terms
 --     rows-more, rows-ext                      one list more; equal lists
---     rows-grow, rows-room, rows-most          fewer lists are no longer; room for one more; lists of so many entries at most
+--     rows-grow, rows-room                     fewer lists are no longer; room for one more
+--     rows-sum, rows-most                      lists of so many entries at most
 --     rows-length, rows-at                     lists of one length
 --     map-append, map-rows                     a function applied to each entry
 --     select-rows                              the numbers that pass, as lists of one or none
@@ -27,7 +29,7 @@ use native.Mathlib.Numerals.{add-one}
 use native.Mathlib.Omega.{arith}
 use lib.ListN.{length, getD, set, length-append, List·getD-append}
 use lib.Seq.{getD-append-add}
-use Rattle.run_table.specs.Lists.{any, anyBelow, rows, select, tabulate}
+use Rattle.run_table.specs.Lists.{any, anyBelow, rows, select, sum, tabulate}
 
 pub and-left : (a b : Bool) → (a && b) ≡ true → a ≡ true
 and-left true b e = refl
@@ -197,6 +199,17 @@ module _ {A : Type 0} (test : A → Bool) (n : ℕ) (f : ℕ → A) where
   pub any-tabulate : any test (tabulate n f) ≡ anyBelow n (λ k. test (f k))
   any-tabulate = by-cases (anyBelow n (λ k. test (f k))) refl
 
+-- ---- sums
+pub sum-more : (n : ℕ) (f : ℕ → ℕ) → sum (tabulate (suc n) f) ≡ sum (tabulate n f) + f n
+unfolding sum tabulate
+sum-more zero f = omega arith
+sum-more (suc n) f = omega (arith, sum-more n (λ k. f (suc k)))
+
+pub sum-same : (w n : ℕ) → sum (tabulate n (λ k. w)) ≡ w * n
+unfolding sum tabulate
+sum-same w zero = omega arith
+sum-same w (suc n) = omega (arith, sum-same w n, mul-suc w n)
+
 -- ---- lists one after another
 module _ {A : Type 0} where
   pub rows-more : (f : ℕ → List A) (n : ℕ) → rows f (n + 1) ≡ rows f n ++ f n
@@ -227,12 +240,16 @@ module _ {A : Type 0} where
   pub rows-room : (f : ℕ → List A) (k n : ℕ) → k < n → length (rows f k) + length (f k) ≤ length (rows f n)
   rows-room f k n l = omega (arith, rows-grow f (k + 1) n (omega arith), ap length (rows-more f k), length-append (rows f k) (f k))
 
-  -- lists of w entries at most
-  pub rows-most : (f : ℕ → List A) (w n : ℕ) → ((k : ℕ) → k < n → length (f k) ≤ w) → length (rows f n) ≤ w * n
+  -- lists of so many entries at most, each of its own number; of w
+  pub rows-sum : (f : ℕ → List A) (most : ℕ → ℕ) (n : ℕ) → ((k : ℕ) → k < n → length (f k) ≤ most k)
+      → length (rows f n) ≤ sum (tabulate n most)
   unfolding rows
-  rows-most f w zero each = omega arith
-  rows-most f w (suc n) each =
-      omega (arith, length-append (rows f n) (f n), rows-most f w n (λ k l. each k (omega arith)), each n (omega arith), mul-suc w n)
+  rows-sum f most zero each = omega arith
+  rows-sum f most (suc n) each =
+      omega (arith, length-append (rows f n) (f n), rows-sum f most n (λ k l. each k (omega arith)), each n (omega arith), sum-more n most)
+
+  pub rows-most : (f : ℕ → List A) (w n : ℕ) → ((k : ℕ) → k < n → length (f k) ≤ w) → length (rows f n) ≤ w * n
+  rows-most f w n each = omega (arith, rows-sum f (λ k. w) n each, sum-same w n)
 
   -- lists of w entries each
   module _ (f : ℕ → List A) (w : ℕ) (each : (k : ℕ) → length (f k) ≡ w) where

@@ -1,6 +1,7 @@
 -- The sheet of an accepted table is short: at most N checkpoints of each process, since there are N lines.
 --     select-few              at most n numbers are among n given ones
 --     checkpoints-few         K is at most N × N
+--     checkpoints-within      no more checkpoints are kept than there are
 -- Assumes nothing.
 use mathlib.Core.Bool.{Bool, true, false, cond, _||_}
 use mathlib.Core.List.{List, [], _∷_, map}
@@ -14,8 +15,8 @@ use lib.Dec.{eqb}
 use lib.ListN.{length, length-append, length-map}
 use Rattle.consistency.specs.Lines.{asLine}
 use Rattle.futures.specs.Sheet.{Checkpoint, holderLine, keepsCheckpoint, keptCheckpoints}
-use Rattle.run_table.proofs.ListLaws.{rows-most, select-ext, select-gap}
-use Rattle.run_table.specs.Lists.{anyBelow, select}
+use Rattle.run_table.proofs.ListLaws.{rows-sum, select-ext, select-gap, select-small, sum-same, tabulate-getD}
+use Rattle.run_table.specs.Lists.{anyBelow, select, sum, tabulate}
 use Rattle.run_table.specs.Table.{Table, countOf, processCount}
 
 -- a number where it passes
@@ -66,8 +67,18 @@ module _ (t : Table) where
   abbrev checkpointAt : ℕ → ℕ → Checkpoint
   checkpointAt i c = record { process = i; number = c }
 
-  pub checkpoints-few : length (keptCheckpoints t) ≤ processCount t * processCount t
+  -- so many of each process at most
+  checkpoints-most : (most : ℕ → ℕ) → ((i : ℕ) → length (select (keepsCheckpoint t i) (countOf t i)) ≤ most i)
+      → length (keptCheckpoints t) ≤ sum (tabulate (processCount t) most)
   unfolding keptCheckpoints
-  checkpoints-few =
-      rows-most (λ i. map (checkpointAt i) (select (keepsCheckpoint t i) (countOf t i))) (processCount t) (processCount t)
-      (λ i l. omega (arith, length-map (select (keepsCheckpoint t i) (countOf t i)) (checkpointAt i), kept-at-few i))
+  checkpoints-most most few =
+      rows-sum (λ i. map (checkpointAt i) (select (keepsCheckpoint t i) (countOf t i))) most (processCount t)
+      (λ i l. omega (arith, length-map (select (keepsCheckpoint t i) (countOf t i)) (checkpointAt i), few i))
+
+  pub checkpoints-few : length (keptCheckpoints t) ≤ processCount t * processCount t
+  checkpoints-few = omega (arith, checkpoints-most (λ i. processCount t) kept-at-few, sum-same (processCount t) (processCount t))
+
+  pub checkpoints-within : length (keptCheckpoints t) ≤ sum (t .counts)
+  unfolding processCount countOf
+  checkpoints-within =
+      omega (arith, checkpoints-most (countOf t) (λ i. select-small (keepsCheckpoint t i) (countOf t i)), ap sum (tabulate-getD (t .counts) 0))
