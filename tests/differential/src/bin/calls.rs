@@ -124,8 +124,8 @@ fn truncations(comparison: &mut Comparison, seed: u64) -> Result<(), Box<Differe
     Ok(())
 }
 
-/// Each number of a table at the least value that is refused, which damage by
-/// chance may miss.
+/// Each count and each number of a message at the least value that is refused,
+/// and a count of 0, which damage by chance may miss.
 fn bounds(comparison: &mut Comparison, seed: u64) -> Result<(), Box<Difference>> {
     let rng = &mut Rng::new(seed);
     let whole = gen::arbitrary(rng, 3, 6, 4);
