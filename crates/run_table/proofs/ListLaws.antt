@@ -5,6 +5,7 @@
 --     tabulate-append, tabulate-more           one after another; one entry more
 --     set-tabulate                             one entry set
 --     sum-more, sum-same                       the sum of such a list: one entry more; entries that are all the same
+--     sum-lower                                a list that is nowhere higher than another, and somewhere lower
 --     any-last                                 `any`, of a list with one entry more
 --     any-none, any-some, none-of              `any`, by the entries of the list
 --     anyBelow-more, anyBelow-found, anyBelow-none, none-below    `anyBelow`, as a loop finds it
@@ -209,6 +210,25 @@ pub sum-same : (w n : ℕ) → sum (tabulate n (λ k. w)) ≡ w * n
 unfolding sum tabulate
 sum-same w zero = omega arith
 sum-same w (suc n) = omega (arith, sum-same w n, mul-suc w n)
+
+-- a list that is nowhere higher than another, and somewhere lower
+sum-no-higher : (a b : List ℕ) → length a ≡ length b → ((k : ℕ) → k < length b → getD a k 0 ≤ getD b k 0) → sum a ≤ sum b
+unfolding sum
+sum-no-higher [] b e each = omega arith
+sum-no-higher (x ∷ a) [] e each = absurd (omega (arith, e))
+sum-no-higher (x ∷ a) (y ∷ b) e each =
+    omega (arith, each 0 (omega arith), sum-no-higher a b (omega (arith, e)) (λ k l. each (suc k) (omega arith)))
+
+pub sum-lower : (a b : List ℕ) → length a ≡ length b → ((k : ℕ) → k < length b → getD a k 0 ≤ getD b k 0) → (k : ℕ) → k < length b
+    → getD a k 0 < getD b k 0 → sum a < sum b
+unfolding sum
+sum-lower [] [] e each k l lower = absurd (not-suc-le-zero l)
+sum-lower [] (y ∷ b) e each k l lower = absurd (omega (arith, e))
+sum-lower (x ∷ a) [] e each k l lower = absurd (not-suc-le-zero l)
+sum-lower (x ∷ a) (y ∷ b) e each zero l lower =
+    omega (arith, lower, sum-no-higher a b (omega (arith, e)) (λ k l. each (suc k) (omega arith)))
+sum-lower (x ∷ a) (y ∷ b) e each (suc k) l lower =
+    omega (arith, each 0 (omega arith), sum-lower a b (omega (arith, e)) (λ k l. each (suc k) (omega arith)) k (le-of-suc-le-suc l) lower)
 
 -- ---- lists one after another
 module _ {A : Type 0} where

@@ -1,0 +1,57 @@
+-- Laws of the checkpoint graph.
+--     message-in               a received message is one of the table's
+--     edge-from, edge-to       an edge of a well formed table goes from a checkpoint to a state: new states have no edge out
+--     leads-to                 so what a state leads to is a state
+--     leads-on                 what leads on from there
+--     leads-up                 a state leads to every later one of its process
+-- Assumes nothing.
+use mathlib.Core.Path.{_≡_, refl, ap, subst}
+use Prim.Native.Nat.{ℕ, zero, suc, _+_, _-_, _≤_, _<_}
+use native.Mathlib.Decide.{decLt}
+use native.Mathlib.Omega.{arith}
+use Rattle.checkpoint_graph.specs.Graph.{Edge, Leads, State, StateOf, edge, received, state, then, to-next}
+use Rattle.run_table.proofs.FormatLaws.{message-beyond}
+use Rattle.run_table.specs.Checks.{WellFormed}
+use Rattle.run_table.specs.Table.{Message, Table, countOf, messageCount, messageOf, processCount}
+
+pub message-in : (t : Table) (k : ℕ) → 0 < messageOf t k .received → k < messageCount t
+message-in t k d = go (decLt k (messageCount t))
+  where
+    go : Dec (k < messageCount t) → k < messageCount t
+    go (yes l) = l
+    go (no l) = absurd (omega (arith, d, ap (λ (m : Message). m .received) (message-beyond t k (omega arith))))
+
+-- ---- paths
+pub leads-on : {t : Table} {a b c : State} → Leads t a b → Leads t b c → Leads t a c
+leads-on l (edge e) = then l e
+leads-on l (then m e) = then (leads-on l m) e
+
+module _ (t : Table) (p : ℕ) (known : p < processCount t) where
+  up-by : (y d : ℕ) → y + suc d ≤ countOf t p → Leads t (state p y) (state p (suc (y + d)))
+  up-by y zero l =
+      let here : suc (y + zero) ≡ suc y = omega arith in
+      subst (λ (n : ℕ). Leads t (state p y) (state p n)) (omega (arith, here)) (edge (to-next p y known (omega arith)))
+  up-by y (suc d) l =
+      let place : suc (suc (y + d)) ≡ suc (y + suc d) = omega arith in
+      subst (λ (n : ℕ). Leads t (state p y) (state p n)) place (then (up-by y d (omega arith)) (to-next p (suc (y + d)) known (omega arith)))
+
+  pub leads-up : (y y′ : ℕ) → y < y′ → y′ ≤ countOf t p → Leads t (state p y) (state p y′)
+  leads-up y y′ l there =
+      let place : suc (y + (y′ - suc y)) ≡ y′ = omega arith in
+      subst (λ (n : ℕ). Leads t (state p y) (state p n)) place (up-by y (y′ - suc y) (omega arith))
+
+-- ---- states
+module _ (t : Table) (w : WellFormed t) where
+  pub edge-from : {a b : State} → Edge t a b → a .number < countOf t (a .process)
+  edge-from (to-next p y known there) = there
+  edge-from (received k d) = w .good-messages k (message-in t k d) .sent-below
+
+  pub edge-to : {a b : State} → Edge t a b → StateOf t b
+  edge-to (to-next p y known there) = record { known = known; there = there }
+  edge-to (received k d) =
+      let good = w .good-messages k (message-in t k d) in
+      record { known = good .receiver-known; there = omega (arith, good .received-below) }
+
+  pub leads-to : {a b : State} → Leads t a b → StateOf t b
+  leads-to (edge e) = edge-to e
+  leads-to (then l e) = edge-to e
