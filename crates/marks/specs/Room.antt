@@ -1,0 +1,15 @@
+-- The lent buffer of the marks (docs/MANUAL.md, "The line by marking"): one bit a state, new states included. Assumes
+-- nothing.
+use mathlib.Core.List.{List, _++_}
+use Prim.Native.Nat.{ℕ, _+_, _/_}
+use lib.ListN.{drop, replicate}
+use Rattle.run_table.specs.Lists.{sum}
+use Rattle.run_table.specs.Table.{Table, processCount}
+
+-- The bytes that the marks of a run take: (sum of counts + N) / 8, rounded up.
+unfoldable pub marksSize : Table → ℕ
+marksSize t = (sum (t .counts) + processCount t + 7) / 8
+
+-- A buffer whose first bytes are 0; those beyond keep their values.
+unfoldable pub cleared : ℕ → List ℕ → List ℕ
+cleared size buffer = replicate size 0 ++ drop size buffer
