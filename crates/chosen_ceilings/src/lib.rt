@@ -33,7 +33,7 @@ pub fn above_counts(table: &[u8], ceilings: &[u16]) -> bool
 }
 
 // Ceilings as an array, as a line is held.
-fn ceiling_array(ceilings: &[u16]) -> [u16; 32]
+pub fn ceiling_array(ceilings: &[u16]) -> [u16; 32]
     requires { ⌜ length (now ceilings) ≤ mostProcesses ⌝ }
     ensures { λ r. ⌜ r ≡ arrayOf (now (ceilings .entry)) ⌝ }
 {

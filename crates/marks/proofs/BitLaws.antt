@@ -5,7 +5,7 @@
 --     onwards-all                      behind a set bit of a row all are set
 --     Rowing, row-none, row-more, row-ends, row-stops    the invariant of the loop that sets a row of bits
 --     cleared-length .. cleared-bit, filled-cleared, cleared-again    a buffer whose first bytes are cleared
---     unset, unset-fewer, unset-falls  how many bits are not set; none cleared, and one set
+--     unset-fewer, unset-falls         how many bits are not set; none cleared, and one set
 -- Assumes nothing.
 use mathlib.Core.Bool.{Bool, true, false, cond, not, _||_, false≢true, or-true}
 use mathlib.Core.List.{List, _++_}
@@ -20,7 +20,7 @@ use lib.Dec.{eqb, lit<}
 use lib.Pow.{shl-exact}
 use lib.ListN.{drop, getD, length, length-append, length-drop, length-replicate, length-set, replicate, set, getD-replicate, List·getD-append}
 use lib.Seq.{ext-getD, getD-append-add, getD-drop, getD-set-other, getD-set-same}
-use Rattle.marks.specs.Bits.{Onwards, SetFrom, bitAt, withBit}
+use Rattle.marks.specs.Bits.{Onwards, SetFrom, bitAt, unset, withBit}
 use Rattle.marks.specs.Room.{cleared}
 use Rattle.process_set.proofs.SetLaws.{mask-is-member, member-one, no-member-from}
 use Rattle.process_set.specs.Sets.{member}
@@ -226,13 +226,9 @@ cleared-again size before after e same =
     (ext-getD 0 (drop size after) (drop size before) (length-drop size after ∙ ap (λ (n : ℕ). n - size) e ∙ sym (length-drop size before))
     (λ i l. getD-drop size after i 0 ∙ same (size + i) (omega arith) ∙ sym (getD-drop size before i 0)))
 
--- ---- how many of the bits below n are not set
+-- ---- how many bits are not set
 abbrev one : Bool → ℕ
 one set = cond set 0 1
-
-unfoldable pub unset : List ℕ → ℕ → ℕ
-unset buffer zero = 0
-unset buffer (suc n) = unset buffer n + one (bitAt buffer n)
 
 module _ (before after : List ℕ) where
   -- what is set stays set

@@ -1,9 +1,9 @@
 -- Of the code: marks as bits. State y of process p has the bit first p + y, where first p is the number of states of the
 -- processes before p; bit b of a buffer is bit b % 8 of its byte b / 8. Assumes nothing.
-use mathlib.Core.Bool.{Bool, true}
+use mathlib.Core.Bool.{Bool, cond, true}
 use mathlib.Core.List.{List}
 use mathlib.Core.Path.{_≡_}
-use Prim.Native.Nat.{ℕ, suc, _+_, _*_, _/_, _%_, _^_, _≤_, _<_}
+use Prim.Native.Nat.{ℕ, zero, suc, _+_, _*_, _/_, _%_, _^_, _≤_, _<_}
 use lib.Bits.{bitOr}
 use lib.ListN.{getD, length, set}
 use Rattle.process_set.specs.Sets.{member}
@@ -20,6 +20,11 @@ mostBits = 131104
 -- Bit b of a buffer is set.
 unfoldable pub bitAt : List ℕ → ℕ → Bool
 bitAt buffer b = member (getD buffer (b / 8) 0) (b % 8)
+
+-- How many of the first n bits are not set.
+unfoldable pub unset : List ℕ → ℕ → ℕ
+unset buffer zero = 0
+unset buffer (suc n) = unset buffer n + cond (bitAt buffer n) 0 1
 
 -- A buffer with bit b set.
 unfoldable pub withBit : List ℕ → ℕ → List ℕ

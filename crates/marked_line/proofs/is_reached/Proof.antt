@@ -1,0 +1,23 @@
+-- `is_reached` meets its contract: the state is at the root, or its bit decides.
+-- Assumes nothing.
+use borrow.Author.Needs.{needs}
+use native.Mathlib.Omega.{arith}
+use Rattle.marked_line.proofs.PassLaws.{at-root, by-bit}
+use Rattle.marked_line.proofs.is_reached.Statement.{statement}
+use Rattle.marked_line.proofs.is_reached.Tie as tie
+
+-- ---- the places: the entry, from where the first bit was looked up
+abbrev entry : tie.After-state-bit → tie.Start
+entry c = c .before .before .before .before .before .before
+
+-- ---- the needs, in the code's course
+pub is-reached-spec : {M : Type 1} → statement M
+is-reached-spec =
+    tie.close
+    (tie.spec
+    (λ c. omega arith)
+    (λ c. omega arith)
+    (λ c. at-root _ (c .if1 .taken))
+    (λ c κs. search needs)
+    (λ c κs. omega (arith, c .state-bit .ensures, entry c .pre .inside))
+    (λ c. by-bit _ _ _ _ (c .before .before .if1 .left) (c .before .state-bit .ensures) (c .is-marked .ensures)))

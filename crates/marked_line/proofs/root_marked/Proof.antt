@@ -1,0 +1,63 @@
+-- `root_marked` meets its contract: it asks for the mark of one root after another.
+-- Assumes nothing.
+use native.Mathlib.Omega.{arith}
+use mathlib.Core.Path.{refl, sym, _∙_}
+use Prim.Native.Nat.{_-_}
+use Rattle.marked_line.proofs.RootLaws.{Asking, asking-found, asking-more, asking-none, root-in}
+use Rattle.marked_line.proofs.RowLaws.{first-there}
+use Rattle.run_table.proofs.ReadLaws.{processes-few}
+use Rattle.run_table.specs.Lists.{anyBelow}
+use Rattle.marked_line.proofs.root_marked.Statement.{statement}
+use Rattle.marked_line.proofs.root_marked.Tie as tie
+
+abbrev Inv-loop : tie.InvT-loop
+Inv-loop table first roots marks n p₀ p = Asking table first roots marks n p
+
+abbrev μ-loop : tie.MeasureT-loop
+μ-loop table first roots marks n p₀ p = n - p
+
+-- ---- the places: the entry, from where N was read; a turn of the loop, from where a root's mark was asked for
+abbrev entry : tie.After-process-count Inv-loop μ-loop → tie.Start Inv-loop μ-loop
+entry c = c .before .before .before .before .before
+
+abbrev turn : tie.After-state-bit Inv-loop μ-loop → tie.In-loop Inv-loop μ-loop
+turn c = c .before .before
+
+-- ---- the needs, in the code's course
+pub root-marked-spec : {M : Type 1} → statement M
+unfolding anyBelow
+root-marked-spec =
+    tie.close
+    (tie.spec
+    Inv-loop
+    μ-loop
+    (λ c κs. c .before .before .before .before .pre .accepted)
+    (λ c.
+    let lent = entry c .pre in
+    record {
+      lent = lent;
+      n-is = c .process-count .ensures;
+      few = omega (arith, c .process-count .ensures, processes-few _ (lent .accepted));
+      within = omega arith;
+      none = refl;
+    })
+    (λ c. omega arith)
+    (λ c.
+    let inv = c .before .before .loop .inv in
+    omega (arith, inv .few, inv .lent .for-each))
+    (λ c κs.
+    let inv = c .before .before .loop .inv in
+    first-there (inv .lent) _ (omega (arith, inv .few)))
+    (λ c κs.
+    let here = turn c in
+    let inv = here .before .loop .inv in
+    root-in (inv .lent) (omega (arith, inv .n-is)) (c .state-bit .ensures))
+    (λ c.
+    let here = c .before .before in
+    asking-found (turn here .before .loop .inv) (turn here .loop-test .taken) (here .state-bit .ensures) (sym (c .before .is-marked .ensures) ∙ c .if1 .taken))
+    (λ c. omega arith)
+    (λ c. omega arith)
+    (λ c.
+    let here = c .before .before in
+    asking-more (turn here .before .loop .inv) (turn here .loop-test .taken) (here .state-bit .ensures) (sym (c .before .is-marked .ensures) ∙ c .if1 .left))
+    (λ c. asking-none (c .before .loop .inv) (c .loop-test .left)))
