@@ -12,10 +12,12 @@ use Rattle.consistency.specs.Lowering.{lineUnder}
 use Rattle.futures.specs.Futures.{CheckpointNeeded, MessageNeeded}
 use Rattle.futures.specs.Sheet.{holderLines, sheet}
 use Rattle.futures.specs.Steps.{afterCheckpoint, afterRollback, afterSend}
-use Rattle.keeper.specs.Answers.{Answer, answer}
+use Rattle.keeper.specs.Answers.{Answer, Yields, answer}
+use Rattle.marking.specs.Procedure.{EndsWith}
+use Rattle.marks.specs.Room.{cleared, marksSize}
 use Rattle.process_set.specs.Sets.{member}
 use Rattle.refusals.specs.CallChecks.{checkpointCallChecks, keepSheetChecks, lineOfSetChecks, lineUnderChecks}
-use Rattle.refusals.specs.CallChecks.{sendCallChecks}
+use Rattle.refusals.specs.CallChecks.{markedLineChecks, sendCallChecks}
 use Rattle.run_table.specs.Checks.{Accepted, Check, firstCaught, tableChecks}
 use Rattle.run_table.specs.Format.{decode, encode}
 use Rattle.run_table.specs.Lists.{tabulate}
@@ -47,6 +49,26 @@ unfoldable pub HoldsLatest : List ℕ → List ℕ → List ℕ → Type 0
 HoldsLatest table ceiling buffer =
     Latest (decode table .messages) (asLine ceiling)
     (asLine (tabulate (processCount (decode table)) (λ p. u16At buffer (2 * p))))
+
+-- ---- the line by marking
+-- What the call yields: its checks, 16, and the roots with which the marking procedure ends from these ceilings, where no
+-- check before 16 catches. The checks are by the length of the mark buffer.
+pub record YieldsByMarking (table ceilings : List ℕ) (bytes room number : ℕ) (buffer buffer′ : List ℕ)
+    (written written′ : ℕ) : Type 0 where
+  pub roots : List ℕ
+  pub by-marking : firstCaught (markedLineChecks table ceilings bytes) ≡ 0 → EndsWith (decode table) ceilings roots
+  pub yields : Yields (answer (markedLineChecks table ceilings bytes) (u16s roots) room) number buffer buffer′
+      written written′
+
+-- The mark buffer afterwards, by the number returned: on success the bytes of the marks are 0, and those beyond are as
+-- they were; under a refusal it is unchanged.
+unfoldable pub marksAfter : ℕ → List ℕ → List ℕ → List ℕ
+marksAfter zero table marks = cleared (marksSize (decode table)) marks
+marksAfter (suc n) table marks = marks
+
+-- The same answer by the line that the other calls find: that of the line under ceilings, with 19 among the checks.
+unfoldable pub markedLineAnswer : List ℕ → List ℕ → ℕ → ℕ → Answer
+markedLineAnswer table ceilings bytes room = lineAnswer (markedLineChecks table ceilings bytes) table ceilings room
 
 -- ---- the steps
 -- The table after a send: its checks, 16.

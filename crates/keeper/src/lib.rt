@@ -8,8 +8,10 @@ pub mod sizes;
 
 use chosen_ceilings::put_line_under;
 use lines::recovery_line;
+use marked_line::put_marked_line;
 use refusals::ceilings_refusal;
 use refusals::checkpoint_refusal;
+use refusals::marking_refusal;
 use refusals::send_refusal;
 use refusals::set_refusal;
 use refusals::sheet_refusal;
@@ -34,9 +36,9 @@ ghost use lib.ListN.{length};
 ghost use Rattle.consistency.specs.Ceilings.{ceilingOf};
 ghost use Rattle.futures.specs.Steps.{checkpoint, rollback, send, step};
 ghost use Rattle.keeper.specs.Answers.{Yields};
-ghost use Rattle.keeper.specs.Calls.{HoldsLatest, HoldsSheet, HoldsTable, scratchAfter};
+ghost use Rattle.keeper.specs.Calls.{HoldsLatest, HoldsSheet, HoldsTable, YieldsByMarking, scratchAfter};
 ghost use Rattle.keeper.specs.Calls.{checkpointAnswer, keepSheetAnswer, lineOfSetAnswer, lineUnderAnswer};
-ghost use Rattle.keeper.specs.Calls.{recoveryLineAnswer, rollbackAnswer, sendAnswer};
+ghost use Rattle.keeper.specs.Calls.{markedLineAnswer, marksAfter, recoveryLineAnswer, rollbackAnswer, sendAnswer};
 ghost use Rattle.process_set.specs.Sets.{member};
 ghost use Rattle.run_table.specs.Checks.{tableRefusal};
 ghost use Rattle.run_table.specs.Format.{decode};
@@ -120,6 +122,39 @@ pub extern "C" fn keeper_line_under(
         return 16;
     }
     put_line_under(table, ceilings, answer);
+    *written = size;
+    0
+}
+
+// The line under ceilings, by the marking procedure on the checkpoint graph: N numbers by process. Its marks take one
+// bit a state of the mark buffer.
+#[no_mangle]
+pub extern "C" fn keeper_marked_line(
+    table: &[u8],
+    ceilings: &[u16],
+    marks: &mut [u8],
+    answer: &mut [u8],
+    written: &mut usize,
+) -> u32
+    ensures outcome { λ r. ⌜ YieldsByMarking (now (table .entry)) (now (ceilings .entry)) (length (now (marks .entry)))
+        (length (now (answer .entry))) r
+        (now (answer .entry)) (now (answer .exit)) (now (written .entry)) (now (written .exit)) ⌝ }
+    ensures marks { λ r. ⌜ now (marks .exit) ≡ marksAfter r (now (table .entry)) (now (marks .entry)) ⌝ }
+    ensures same { λ r. ⌜ Yields (markedLineAnswer (now (table .entry)) (now (ceilings .entry))
+        (length (now (marks .entry))) (length (now (answer .entry)))) r
+        (now (answer .entry)) (now (answer .exit)) (now (written .entry)) (now (written .exit)) ⌝ }
+    ensures latest { λ (r : ℕ). ⌜ (r ≡ 0 → HoldsLatest (now (table .entry)) (now (ceilings .entry))
+        (now (answer .exit))) ⌝ }
+{
+    let refusal = marking_refusal(table, ceilings, marks.len());
+    if refusal != 0 {
+        return refusal;
+    }
+    let size = line_size(table);
+    if answer.len() < size {
+        return 16;
+    }
+    put_marked_line(table, ceilings, marks, answer);
     *written = size;
     0
 }

@@ -7,6 +7,7 @@
 --     quiet-by                    then the check of any number is quiet
 --     first-of, second-of, neither    a check of two tests
 --     read-le, read-lt, le-read, lt-read    a test of a number, by what was read
+--     short-marks, long-marks, quiet-marking, quiet-ceilings, marks-long    19, by the length of the mark buffer
 --     short-scratch, long-scratch, scratch-long    15, by the scratch's length
 -- Assumes nothing.
 use mathlib.Core.Bool.{Bool, true, false, _||_}
@@ -16,8 +17,9 @@ use Prim.Native.Nat.{ℕ, zero, suc, _*_, _≤_, _<_}
 use native.Mathlib.Omega.{arith}
 use borrow.Author.Tests.{le-leb, le-ltb, lt-leb, lt-ltb, ltb-false}
 use lib.Dec.{leb}
-use Rattle.refusals.specs.CallChecks.{keepSheetChecks, onTable}
-use Rattle.run_table.proofs.CheckLaws.{append-passed, append-stopped, areRefusals, caught-first, caughtBy, passed, quiet-front, quiet-none, quiet-number}
+use Rattle.marks.specs.Room.{marksSize}
+use Rattle.refusals.specs.CallChecks.{keepSheetChecks, lineUnderChecks, markedLineChecks, onTable}
+use Rattle.run_table.proofs.CheckLaws.{append-alike, append-passed, areRefusals, caught-first, caughtBy, passed, quiet-front, quiet-none, quiet-number}
 use Rattle.run_table.proofs.CheckLaws.{stopped, table-refusals}
 use Rattle.run_table.specs.Checks.{Check, firstCaught, tableChecks, tableRefusal}
 use Rattle.run_table.specs.Format.{decode}
@@ -38,14 +40,7 @@ module _ (table : List ℕ) (own : List Check) where
 
 pub own-same : (table : List ℕ) (own own′ : List Check) → firstCaught own ≡ firstCaught own′
     → firstCaught (onTable table own) ≡ firstCaught (onTable table own′)
-own-same table own own′ e = go (firstCaught front) refl
-  where
-    front : List Check
-    front = tableChecks table
-
-    go : (n : ℕ) → firstCaught front ≡ n → firstCaught (front ++ own) ≡ firstCaught (front ++ own′)
-    go zero q = append-passed front own (table-refusals table) q ∙ e ∙ sym (append-passed front own′ (table-refusals table) q)
-    go (suc n) q = append-stopped front own n q ∙ sym (append-stopped front own′ n q)
+own-same table own own′ e = append-alike (tableChecks table) own own′ e
 
 -- None of these checks catches; each has the number of a refusal.
 pub record Quiet (checks : List Check) : Type 0 where
@@ -89,6 +84,39 @@ module _ {n m i : ℕ} (read : n ≡ m) where
 
   pub lt-read : n < i → leb i m ≡ false
   lt-read h = lt-leb i m (omega arith)
+
+-- ---- the mark buffer of the line by marking
+module _ (table ceilings : List ℕ) (q : QuietCall table (lineUnderChecks table ceilings)) where
+  abbrev marks : ℕ
+  marks = marksSize (decode table)
+
+  past-ceilings : {n : ℕ} (last : List Check) → firstCaught last ≡ n → n ≡ firstCaught (lineUnderChecks table ceilings ++ last)
+  past-ceilings last e = sym (append-passed (lineUnderChecks table ceilings) last (q .quiet .refusals) (q .quiet .quiet) ∙ e)
+
+  pub short-marks : (bytes : ℕ) → bytes < marks → _≡_ {A = ℕ} 19 (firstCaught (markedLineChecks table ceilings bytes))
+  unfolding markedLineChecks
+  short-marks bytes short = past-ceilings _ (stopped _ _ (lt-ltb bytes marks short))
+
+  pub long-marks : (bytes : ℕ) → marks ≤ bytes → _≡_ {A = ℕ} 0 (firstCaught (markedLineChecks table ceilings bytes))
+  unfolding markedLineChecks
+  long-marks bytes long = past-ceilings _ (passed _ _ 0 (le-ltb bytes marks long) quiet-none)
+
+-- where no check of the call catches, none of the line under ceilings does, and the buffer is long enough
+module _ (table ceilings : List ℕ) (bytes : ℕ) {r : ℕ} (e : r ≡ firstCaught (markedLineChecks table ceilings bytes)) (none : r ≡ 0) where
+  pub quiet-marking : QuietCall table (markedLineChecks table ceilings bytes)
+  unfolding markedLineChecks lineUnderChecks tableChecks areRefusals
+  quiet-marking = record {
+    accepted = table-accepted table _ (quiet-front (lineUnderChecks table ceilings) _ (sym e ∙ none));
+    quiet = record { refusals = refl; quiet = sym e ∙ none };
+  }
+
+  pub quiet-ceilings : QuietCall table (lineUnderChecks table ceilings)
+  unfolding markedLineChecks lineUnderChecks areRefusals
+  quiet-ceilings = quiet-call table _ refl refl (quiet-front (lineUnderChecks table ceilings) _ (sym e ∙ none))
+
+  pub marks-long : marksSize (decode table) ≤ bytes
+  unfolding markedLineChecks lineUnderChecks tableChecks caughtBy
+  marks-long = ltb-false bytes (marksSize (decode table)) (quiet-by quiet-marking 19)
 
 -- ---- the scratch of a keep sheet
 module _ (table : List ℕ) where

@@ -7,6 +7,7 @@ use lib.Dec.{eqb, leb, ltb}
 use lib.ListN.{length}
 use Rattle.consistency.specs.Ceilings.{aboveCounts}
 use Rattle.futures.specs.Steps.{checkpointChecks, sendChecks}
+use Rattle.marks.specs.Room.{marksSize}
 use Rattle.process_set.specs.Sets.{highBit}
 use Rattle.run_table.specs.Checks.{Check, tableChecks}
 use Rattle.run_table.specs.Format.{decode}
@@ -28,6 +29,13 @@ lineUnderChecks table ceilings =
     onTable table (record { caught = not (eqb (length ceilings) (processCount (decode table))); number = 17 }
     ∷ record { caught = aboveCounts (decode table) ceilings; number = 18 }
     ∷ [])
+
+-- The line under ceilings by marking, by the length of the mark buffer: those of the line under ceilings; 19, that it is
+-- shorter than the bytes of the marks.
+unfoldable pub markedLineChecks : List ℕ → List ℕ → ℕ → List Check
+markedLineChecks table ceilings bytes =
+    lineUnderChecks table ceilings
+    ++ (record { caught = ltb bytes (marksSize (decode table)); number = 19 } ∷ [])
 
 -- A send: the table's; 10 and 11; 14, that M is 4,096 already.
 unfoldable pub sendCallChecks : List ℕ → ℕ → ℕ → List Check

@@ -1,6 +1,7 @@
 // The refusals of the calls: the number of the first check before 16 that catches, or 0. The table's
 // checks come first, so what stands behind them judges an accepted table.
 use chosen_ceilings::above_counts;
+use marks::marks_size;
 use process_set::has_high_bit;
 use run_table::checks::check;
 use run_table::format::MOST_CHECKPOINTS;
@@ -11,7 +12,7 @@ use steps::checkpoint::bad_position;
 use steps::checkpoint::not_rising;
 ghost use mathlib.Core.Path.{_≡_};
 ghost use Rattle.refusals.specs.CallChecks.{checkpointCallChecks, keepSheetChecks, lineOfSetChecks};
-ghost use Rattle.refusals.specs.CallChecks.{lineUnderChecks, sendCallChecks};
+ghost use Rattle.refusals.specs.CallChecks.{lineUnderChecks, markedLineChecks, sendCallChecks};
 ghost use Rattle.run_table.specs.Checks.{firstCaught};
 
 // The line of a set: the table's checks, 12.
@@ -41,6 +42,20 @@ pub fn ceilings_refusal(table: &[u8], ceilings: &[u16]) -> u32
     }
     if above_counts(table, ceilings) {
         return 18;
+    }
+    0
+}
+
+// The line under ceilings by marking, given the length of the mark buffer: the table's checks, 17, 18, 19.
+pub fn marking_refusal(table: &[u8], ceilings: &[u16], bytes: usize) -> u32
+    ensures { λ r. ⌜ r ≡ firstCaught (markedLineChecks (now (table .entry)) (now (ceilings .entry)) bytes) ⌝ }
+{
+    let refusal = ceilings_refusal(table, ceilings);
+    if refusal != 0 {
+        return refusal;
+    }
+    if bytes < marks_size(table) {
+        return 19;
     }
     0
 }

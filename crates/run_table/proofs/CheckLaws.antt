@@ -1,7 +1,7 @@
 -- Laws of the checks.
 --     passed, stopped, quiet-none     the first check of a list that catches
 --     quiet-cons, caughtBy, quiet-number    none of a list catches, it is quiet: its first check, and the check of any number
---     append-stopped, append-passed, caught-first, quiet-front    further checks behind a list
+--     append-stopped, append-passed, append-alike, caught-first, quiet-front    further checks behind a list
 --     not-short, processes-checked, messages-checked, length-checked    checks 1 to 4, by the sizes that the code read
 --     refused-short .. refused-parts  the refusal, as the code finds it; checks 5 to 9 on the parts are the document's, on the decoded table
 -- Assumes nothing.
@@ -55,6 +55,12 @@ append-stopped (c ∷ rest) ys n e = go (c .caught) e (append-stopped rest ys n)
         → cond b (c .number) (firstCaught (rest ++ ys)) ≡ suc n
     go true e later = e
     go false e later = later e
+
+-- two lists that refuse alike, behind the same checks
+pub append-alike : (xs ys ys′ : List Check) → firstCaught ys ≡ firstCaught ys′ → firstCaught (xs ++ ys) ≡ firstCaught (xs ++ ys′)
+unfolding firstCaught
+append-alike [] ys ys′ e = e
+append-alike (c ∷ rest) ys ys′ e = ap (cond (c .caught) (c .number)) (append-alike rest ys ys′ e)
 
 -- the number of a check that catches stays, whatever checks stand behind; where a list catches nothing, neither does its first part
 pub caught-first : (xs ys : List Check) (r : ℕ) → r ≡ firstCaught xs → (r ≡ 0 → ⊥) → r ≡ firstCaught (xs ++ ys)

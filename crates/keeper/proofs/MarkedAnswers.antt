@@ -1,0 +1,96 @@
+-- The answers of the line by marking.
+--     Marked                 all that the call promises
+--     marked-refused, marked-short, marked-answered    where a check before 16 catches, where 16 does, and where none does
+--     marked-under           where the mark buffer is long enough, the answer is that of the line under ceilings, byte for byte, and refused alike
+-- Assumes nothing.
+use mathlib.Core.List.{List, [], _∷_, _++_, append-assoc}
+use mathlib.Core.Path.{_≡_, refl, sym, ap, _∙_, subst}
+use Prim.Native.Nat.{ℕ, zero, suc, _≤_, _<_}
+use native.Mathlib.Omega.{arith}
+use borrow.Author.Tests.{le-ltb}
+use lib.Dec.{ltb}
+use lib.ListN.{length}
+use Rattle.consistency.proofs.CeilingLaws.{under-length}
+use Rattle.consistency.specs.Ceilings.{Ceiling}
+use Rattle.consistency.specs.Lowering.{lineUnder}
+use Rattle.keeper.proofs.AnswerLaws.{answered, refused, sixteen, too-short}
+use Rattle.keeper.proofs.LineAnswers.{line-answered, line-refused, line-short}
+use Rattle.keeper.specs.Answers.{Yields, answer, unless}
+use Rattle.keeper.specs.Calls.{HoldsLatest, YieldsByMarking, lineAnswer, lineUnderAnswer, markedLineAnswer, marksAfter}
+use Rattle.marked_line.specs.Marking.{PutByMarking}
+use Rattle.marking.proofs.SameLine.{same-line}
+use Rattle.marking.specs.Procedure.{EndsWith}
+use Rattle.marking.specs.SameLine.{SameLine}
+use Rattle.marks.specs.Room.{cleared, marksSize}
+use Rattle.refusals.proofs.RefusalLaws.{QuietCall}
+use Rattle.refusals.specs.CallChecks.{lineUnderChecks, markedLineChecks}
+use Rattle.run_table.proofs.AcceptLaws.{facts}
+use Rattle.run_table.proofs.CheckLaws.{append-alike, passed}
+use Rattle.run_table.specs.Checks.{Check, firstCaught}
+use Rattle.run_table.specs.Format.{decode}
+use Rattle.run_table.specs.Numbers.{putAt, u16s}
+use Rattle.run_table.specs.Table.{processCount}
+
+-- All that the call promises: what it yields, the mark buffer afterwards, the same by the line under ceilings, and that this is the latest one.
+abbrev pub Marked : List ℕ → List ℕ → ℕ → ℕ → List ℕ → List ℕ → List ℕ → List ℕ → ℕ → ℕ → Type 0
+Marked table ceilings room number marks marks′ buffer buffer′ written written′ =
+    YieldsByMarking table ceilings (length marks) room number buffer buffer′ written written′
+    × ((marks′ ≡ marksAfter number table marks)
+    × (Yields (markedLineAnswer table ceilings (length marks) room) number buffer buffer′ written written′
+    × (number ≡ 0 → HoldsLatest table ceilings buffer′)))
+
+-- under a refusal the marks are as they were
+unchanged : (r : ℕ) (table marks : List ℕ) → (r ≡ 0 → ⊥) → marks ≡ marksAfter r table marks
+unfolding marksAfter
+unchanged zero table marks nonzero = absurd (nonzero refl)
+unchanged (suc n) table marks nonzero = refl
+
+pub marked-refused : (table ceilings : List ℕ) (room : ℕ) (marks : List ℕ) {r : ℕ} {buffer : List ℕ} {written : ℕ}
+    → r ≡ firstCaught (markedLineChecks table ceilings (length marks)) → (r ≡ 0 → ⊥)
+    → Marked table ceilings room r marks marks buffer buffer written written
+unfolding markedLineAnswer
+marked-refused table ceilings room marks e nonzero =
+    (record { roots = []; by-marking = λ none. absurd (nonzero (e ∙ none)); yields = refused _ _ room e nonzero },
+    (unchanged _ table marks nonzero, line-refused table _ ceilings room e nonzero))
+
+-- none of them catches, and the size of a line was found
+module _ {table ceilings : List ℕ} (marks : List ℕ) (q : QuietCall table (markedLineChecks table ceilings (length marks))) (c : Ceiling (decode table) ceilings)
+    {size : ℕ} (sized : (line : List ℕ) → length line ≡ processCount (decode table) → size ≡ length (u16s line)) where
+  agrees : SameLine (decode table) ceilings
+  agrees = same-line (decode table) (facts table (q .accepted) .well-formed) ceilings c
+
+  root-count : {roots : List ℕ} → EndsWith (decode table) ceilings roots → length roots ≡ processCount (decode table)
+  root-count ends = ap length (agrees .same _ ends) ∙ under-length (decode table) ceilings c
+
+  pub marked-short : {room : ℕ} {buffer : List ℕ} {written : ℕ} → room < size → Marked table ceilings room 16 marks marks buffer buffer written written
+  unfolding markedLineAnswer
+  marked-short short =
+      let ends = agrees .ends in
+      (record { roots = ends .0; by-marking = λ _. ends .1; yields = too-short _ _ _ (q .quiet) (sized (ends .0) (root-count (ends .1))) short },
+      (unchanged 16 table marks sixteen, line-short q c sized short))
+
+  pub marked-answered : {room : ℕ} {marks′ buffer buffer′ : List ℕ} {written : ℕ} → size ≤ room
+      → marks′ ≡ cleared (marksSize (decode table)) marks → PutByMarking (decode table) ceilings buffer buffer′
+      → Marked table ceilings room 0 marks marks′ buffer buffer′ written size
+  unfolding markedLineAnswer marksAfter
+  marked-answered {buffer = buffer} enough clear put =
+      (record {
+        roots = put .roots;
+        by-marking = λ _. put .by-marking;
+        yields = answered _ _ _ (q .quiet) (sized (put .roots) (root-count (put .by-marking))) enough (put .put);
+      },
+      (clear,
+      line-answered q c sized enough (put .put ∙ ap (λ (l : List ℕ). putAt buffer 0 (u16s l)) (agrees .same _ (put .by-marking)))))
+
+-- 19 is the one check more, so where it catches nothing both calls answer alike, also where the table or the ceilings are refused, or the
+-- answer's buffer is too short.
+pub marked-under : (table ceilings : List ℕ) (bytes room : ℕ) → marksSize (decode table) ≤ bytes
+    → markedLineAnswer table ceilings bytes room ≡ lineUnderAnswer table ceilings room
+unfolding markedLineAnswer lineUnderAnswer lineAnswer answer markedLineChecks
+marked-under table ceilings bytes room long =
+    ap (λ (n : ℕ). unless n (u16s (lineUnder (decode table .messages) ceilings)))
+    (ap firstCaught (append-assoc (lineUnderChecks table ceilings) _ last)
+    ∙ append-alike (lineUnderChecks table ceilings) _ last (passed _ last _ (le-ltb bytes (marksSize (decode table)) long) refl))
+  where
+    last : List Check
+    last = record { caught = ltb room (length (u16s (lineUnder (decode table .messages) ceilings))); number = 16 } ∷ []
