@@ -1,5 +1,5 @@
--- The checkpoint graph of a run (docs/MANUAL.md, "The line by marking"): its states, its edges, and which state leads to
--- which. It is told of the table alone. Assumes nothing.
+-- The checkpoint graph of a run (docs/MANUAL.md, "The line by marking"): its states, its edges, and which state leads
+-- to which. It is told of the table alone. Assumes nothing.
 use Prim.Native.Nat.{ℕ, suc, _≤_, _<_}
 use Rattle.run_table.specs.Table.{Table, countOf, messageOf, processCount}
 
@@ -18,12 +18,13 @@ pub record StateOf (t : Table) (s : State) : Type 0 where
   pub known : s .process < processCount t
   pub there : s .number ≤ countOf t (s .process)
 
--- An edge goes from each state to the next of its process, new states included; and for each received message, (j, y) to
--- (i, r) with r not 0, from state y of j to state r of i.
+-- An edge goes from each state to the next of its process, new states included; and for each received message, (j, y)
+-- to (i, r) with r not 0, from state y of j to state r of i.
 pub data Edge (t : Table) : State → State → Type 0 where
   to-next : (p y : ℕ) → p < processCount t → y < countOf t p → Edge t (state p y) (state p (suc y))
   received : (k : ℕ) → 0 < messageOf t k .received
-      → Edge t (state (messageOf t k .sender) (messageOf t k .sent)) (state (messageOf t k .receiver) (messageOf t k .received))
+      → Edge t (state (messageOf t k .sender) (messageOf t k .sent)) (state (messageOf t k .receiver)
+      (messageOf t k .received))
 
 -- One state leads to another: there is a path of one edge or more.
 pub data Leads (t : Table) : State → State → Type 0 where

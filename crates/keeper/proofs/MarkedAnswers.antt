@@ -3,10 +3,9 @@
 --     marked-refused, marked-short, marked-answered    where a check before 16 catches, where 16 does, and where none does
 --     marked-under           where the mark buffer is long enough, the answer is that of the line under ceilings, byte for byte, and refused alike
 -- Assumes nothing.
-use mathlib.Core.List.{List, [], _∷_, _++_, append-assoc}
-use mathlib.Core.Path.{_≡_, refl, sym, ap, _∙_, subst}
+use mathlib.Core.List.{List, [], _∷_, append-assoc}
+use mathlib.Core.Path.{_≡_, refl, ap, _∙_}
 use Prim.Native.Nat.{ℕ, zero, suc, _≤_, _<_}
-use native.Mathlib.Omega.{arith}
 use borrow.Author.Tests.{le-ltb}
 use lib.Dec.{ltb}
 use lib.ListN.{length}
@@ -49,12 +48,14 @@ pub marked-refused : (table ceilings : List ℕ) (room : ℕ) (marks : List ℕ)
     → r ≡ firstCaught (markedLineChecks table ceilings (length marks)) → (r ≡ 0 → ⊥)
     → Marked table ceilings room r marks marks buffer buffer written written
 unfolding markedLineAnswer
-marked-refused table ceilings room marks e nonzero =
-    (record { roots = []; by-marking = λ none. absurd (nonzero (e ∙ none)); yields = refused _ _ room e nonzero },
-    (unchanged _ table marks nonzero, line-refused table _ ceilings room e nonzero))
+marked-refused table ceilings room marks e nonzero = (
+  record { roots = []; by-marking = λ none. absurd (nonzero (e ∙ none)); yields = refused _ _ room e nonzero },
+  (unchanged _ table marks nonzero, line-refused table _ ceilings room e nonzero),
+)
 
 -- none of them catches, and the size of a line was found
-module _ {table ceilings : List ℕ} (marks : List ℕ) (q : QuietCall table (markedLineChecks table ceilings (length marks))) (c : Ceiling (decode table) ceilings)
+module _ {table ceilings : List ℕ} (marks : List ℕ) (q : QuietCall table (markedLineChecks table ceilings (length marks))) (c : Ceiling
+    (decode table) ceilings)
     {size : ℕ} (sized : (line : List ℕ) → length line ≡ processCount (decode table) → size ≡ length (u16s line)) where
   agrees : SameLine (decode table) ceilings
   agrees = same-line (decode table) (facts table (q .accepted) .well-formed) ceilings c
@@ -62,25 +63,30 @@ module _ {table ceilings : List ℕ} (marks : List ℕ) (q : QuietCall table (ma
   root-count : {roots : List ℕ} → EndsWith (decode table) ceilings roots → length roots ≡ processCount (decode table)
   root-count ends = ap length (agrees .same _ ends) ∙ under-length (decode table) ceilings c
 
-  pub marked-short : {room : ℕ} {buffer : List ℕ} {written : ℕ} → room < size → Marked table ceilings room 16 marks marks buffer buffer written written
+  pub marked-short : {room : ℕ} {buffer : List ℕ} {written : ℕ} → room < size
+      → Marked table ceilings room 16 marks marks buffer buffer written written
   unfolding markedLineAnswer
   marked-short short =
-      let ends = agrees .ends in
-      (record { roots = ends .0; by-marking = λ _. ends .1; yields = too-short _ _ _ (q .quiet) (sized (ends .0) (root-count (ends .1))) short },
-      (unchanged 16 table marks sixteen, line-short q c sized short))
+      let ends = agrees .ends in (
+        record { roots = ends .0; by-marking = λ _. ends .1; yields = too-short _ _ _ (q .quiet) (sized (ends .0) (root-count (ends .1))) short },
+        (unchanged 16 table marks sixteen, line-short q c sized short),
+      )
 
   pub marked-answered : {room : ℕ} {marks′ buffer buffer′ : List ℕ} {written : ℕ} → size ≤ room
       → marks′ ≡ cleared (marksSize (decode table)) marks → PutByMarking (decode table) ceilings buffer buffer′
       → Marked table ceilings room 0 marks marks′ buffer buffer′ written size
   unfolding markedLineAnswer marksAfter
-  marked-answered {buffer = buffer} enough clear put =
-      (record {
-        roots = put .roots;
-        by-marking = λ _. put .by-marking;
-        yields = answered _ _ _ (q .quiet) (sized (put .roots) (root-count (put .by-marking))) enough (put .put);
-      },
-      (clear,
-      line-answered q c sized enough (put .put ∙ ap (λ (l : List ℕ). putAt buffer 0 (u16s l)) (agrees .same _ (put .by-marking)))))
+  marked-answered {buffer = buffer} enough clear put = (
+    record {
+      roots = put .roots;
+      by-marking = λ _. put .by-marking;
+      yields = answered _ _ _ (q .quiet) (sized (put .roots) (root-count (put .by-marking))) enough (put .put);
+    },
+    (
+      clear,
+      line-answered q c sized enough (put .put ∙ ap (λ (l : List ℕ). putAt buffer 0 (u16s l)) (agrees .same _ (put .by-marking))),
+    ),
+  )
 
 -- 19 is the one check more, so where it catches nothing both calls answer alike, also where the table or the ceilings are refused, or the
 -- answer's buffer is too short.

@@ -51,8 +51,8 @@ HoldsLatest table ceiling buffer =
     (asLine (tabulate (processCount (decode table)) (λ p. u16At buffer (2 * p))))
 
 -- ---- the line by marking
--- What the call yields: its checks, 16, and the roots with which the marking procedure ends from these ceilings, where no
--- check before 16 catches. The checks are by the length of the mark buffer.
+-- What the call yields: its checks, 16, and the roots with which the marking procedure ends from these ceilings, where
+-- no check before 16 catches. The checks are by the length of the mark buffer.
 pub record YieldsByMarking (table ceilings : List ℕ) (bytes room number : ℕ) (buffer buffer′ : List ℕ)
     (written written′ : ℕ) : Type 0 where
   pub roots : List ℕ

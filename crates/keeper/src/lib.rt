@@ -38,7 +38,8 @@ ghost use Rattle.futures.specs.Steps.{checkpoint, rollback, send, step};
 ghost use Rattle.keeper.specs.Answers.{Yields};
 ghost use Rattle.keeper.specs.Calls.{HoldsLatest, HoldsSheet, HoldsTable, YieldsByMarking, scratchAfter};
 ghost use Rattle.keeper.specs.Calls.{checkpointAnswer, keepSheetAnswer, lineOfSetAnswer, lineUnderAnswer};
-ghost use Rattle.keeper.specs.Calls.{markedLineAnswer, marksAfter, recoveryLineAnswer, rollbackAnswer, sendAnswer};
+ghost use Rattle.keeper.specs.Calls.{markedLineAnswer, marksAfter, recoveryLineAnswer, rollbackAnswer};
+ghost use Rattle.keeper.specs.Calls.{sendAnswer};
 ghost use Rattle.process_set.specs.Sets.{member};
 ghost use Rattle.run_table.specs.Checks.{tableRefusal};
 ghost use Rattle.run_table.specs.Format.{decode};
@@ -136,7 +137,8 @@ pub extern "C" fn keeper_marked_line(
     answer: &mut [u8],
     written: &mut usize,
 ) -> u32
-    ensures outcome { λ r. ⌜ YieldsByMarking (now (table .entry)) (now (ceilings .entry)) (length (now (marks .entry)))
+    ensures outcome { λ r. ⌜ YieldsByMarking (now (table .entry)) (now (ceilings .entry)) (length (now
+        (marks .entry)))
         (length (now (answer .entry))) r
         (now (answer .entry)) (now (answer .exit)) (now (written .entry)) (now (written .exit)) ⌝ }
     ensures marks { λ r. ⌜ now (marks .exit) ≡ marksAfter r (now (table .entry)) (now (marks .entry)) ⌝ }

@@ -6,12 +6,12 @@
 --     Descending, descends, lands                  the invariant of the loop that looks for an unmarked state
 --     Giving, giving-none, giving-more, giving-all the invariant of the loop over the roots
 -- Assumes nothing.
-use mathlib.Core.Bool.{Bool, true, false, false≢true, true≢false}
+use mathlib.Core.Bool.{Bool, true, false, false≢true}
 use mathlib.Core.List.{List}
-use mathlib.Core.Logic.{_⊎_, inl, inr}
+use mathlib.Core.Logic.{inr}
 use mathlib.Core.Path.{_≡_, refl, sym, ap, _∙_, subst, subst⁻¹}
-use Prim.Native.Nat.{ℕ, zero, suc, _+_, _-_, _*_, _/_, _≤_, _<_}
-use native.Mathlib.Decide.{decLe, decLt, ℕ-discrete}
+use Prim.Native.Nat.{ℕ, suc, _+_, _-_, _*_, _/_, _≤_, _<_}
+use native.Mathlib.Decide.{decLt, ℕ-discrete}
 use native.Mathlib.Nat.{le-refl}
 use native.Mathlib.Omega.{arith}
 use borrow.Author.Tests.{le-ltb, lt-ltb, ltb-true}
@@ -20,8 +20,8 @@ use lib.ListN.{getD, length, length-set, replicate, set, getD-replicate, List·g
 use lib.Seq.{getD-set-other, getD-set-same}
 use Rattle.checkpoint_graph.proofs.GraphLaws.{leads-up, message-in}
 use Rattle.checkpoint_graph.specs.Graph.{received, state}
-use Rattle.marked_line.proofs.RowLaws.{bit-in, first-few, first-read, kept-both, kept-none, lent-kept, process-few, row-below, row-end}
-use Rattle.marked_line.proofs.RowLaws.{row-here, row-kept, row-other, row-room}
+use Rattle.marked_line.proofs.MarkRowLaws.{bit-in, first-few, first-read, kept-both, kept-none, lent-kept, process-few, row-below, row-end}
+use Rattle.marked_line.proofs.MarkRowLaws.{row-here, row-kept, row-other, row-room}
 use Rattle.marked_line.specs.Marking.{GaveWay, Kept, LatestUnset, Lent, OnlyBehind, Ready, Unmarked, ZeroUnmarked, markedIn}
 use Rattle.marking.proofs.ReachLaws.{reach-root}
 use Rattle.marking.specs.Procedure.{Reachable}
@@ -141,7 +141,8 @@ module _ {table first roots start buffer : List ℕ} {n p : ℕ} (w : Behind tab
 
           by-place : (q y : ℕ) → q < p + 1 → y ≤ countOf t q → Dec (q ≡ p) → markedIn t after q y ≡ ltb (getD roots q 0) y
           by-place q y l there (yes same) =
-              subst⁻¹ (λ (q : ℕ). y ≤ countOf t q → markedIn t after q y ≡ ltb (getD roots q 0) y) same (λ inside. by-number y inside (decLt (getD roots p 0) y))
+              subst⁻¹ (λ (q : ℕ). y ≤ countOf t q → markedIn t after q y ≡ ltb (getD roots q 0) y) same (λ inside. by-number y inside (decLt
+              (getD roots p 0) y))
               there
           by-place q y l there (no other) = row-other t p behind-known r row q y other there ∙ w .done q y (omega arith) there
 

@@ -5,26 +5,24 @@
 --     running-since, running-more, running-falls, running-ends    a round, with which the roots fall; the end
 --     end-fits, end-cleared, end-length            the marks are cleared again, and no byte beyond them was changed
 -- Assumes nothing.
-use mathlib.Core.Bool.{Bool, true, false, false≢true, true≢false}
+use mathlib.Core.Bool.{true, false, false≢true}
 use mathlib.Core.List.{List}
-use mathlib.Core.Logic.{_⊎_, inl, inr, ⊎-elim}
+use mathlib.Core.Logic.{inl, inr, ⊎-elim}
 use mathlib.Core.Path.{_≡_, refl, sym, ap, _∙_, subst, subst⁻¹}
-use Prim.Native.Nat.{ℕ, zero, suc, _+_, _-_, _*_, _/_, _≤_, _<_}
+use Prim.Native.Nat.{ℕ, suc, _+_, _≤_, _<_}
 use native.Mathlib.Decide.{decLe, decLt, ℕ-discrete}
-use native.Mathlib.Nat.{le-trans}
 use native.Mathlib.Omega.{arith}
-use lib.ListN.{getD, length, length-take, take, List·getD-eq-default}
-use lib.Seq.{ext-getD, getD-take, length-take-le}
-use Rattle.checkpoint_graph.specs.Graph.{State, state}
+use lib.ListN.{getD, length, take}
+use lib.Seq.{getD-take, length-take-le}
+use Rattle.checkpoint_graph.specs.Graph.{Leads, State, state}
 use Rattle.consistency.specs.Ceilings.{Ceiling}
-use Rattle.consistency.specs.Lines.{asLine}
-use Rattle.marked_line.proofs.PassLaws.{marks-are, marks-bit, marks-in}
+use Rattle.marked_line.proofs.MarkPassLaws.{marks-are, marks-bit}
 use Rattle.marked_line.proofs.RootLaws.{behind-reachable, behind-ready, rootMarked}
-use Rattle.marked_line.proofs.RowLaws.{kept-both, kept-none, lent-kept}
-use Rattle.marked_line.specs.Marking.{Closed, GaveWay, Given, Kept, LatestUnset, Lent, OnlyBehind, Reached, Ready}
+use Rattle.marked_line.proofs.MarkRowLaws.{kept-both, kept-none, lent-kept}
+use Rattle.marked_line.specs.Marking.{Closed, GaveWay, Given, Kept, Lent, OnlyBehind, Reached, Ready}
 use Rattle.marked_line.specs.Marking.{RoundMade, Running, Standing, Unmarked, ZeroUnmarked, markedIn, marksIn, stageOf}
 use Rattle.marking.proofs.RoundLaws.{zero-unmarked}
-use Rattle.marking.specs.Procedure.{After, EndsWith, LatestUnmarked, Marks, MarksReachable, NoneMarked, Reachable, Round, Stage, Starts, root}
+use Rattle.marking.specs.Procedure.{After, EndsWith, LatestUnmarked, Marks, MarksReachable, NoneMarked, Reachable, Starts, root}
 use Rattle.marks.proofs.BitLaws.{cleared-again, cleared-beyond, cleared-bit, cleared-length}
 use Rattle.marks.proofs.LayoutLaws.{state-inside}
 use Rattle.marks.specs.Bits.{bitAt, firstBit}
@@ -36,7 +34,7 @@ use Rattle.run_table.proofs.ReadLaws.{processes-few}
 use Rattle.run_table.specs.Arrays.{arrayOf}
 use Rattle.run_table.specs.Checks.{tableRefusal}
 use Rattle.run_table.specs.Format.{decode}
-use Rattle.run_table.specs.Lists.{anyBelow, sum, tabulate}
+use Rattle.run_table.specs.Lists.{anyBelow, sum}
 use Rattle.run_table.specs.Table.{Table, countOf, processCount}
 
 pub cleared-unmarked : (t : Table) (buffer : List ℕ) → marksSize t ≤ length buffer → Unmarked t (cleared (marksSize t) buffer)
@@ -55,14 +53,14 @@ module _ (t : Table) (roots : List ℕ) where
   to-first {s} r = record {
     from = r .from;
     known = r .known;
-    leads = subst⁻¹ (λ (y : ℕ). Rattle.checkpoint_graph.specs.Graph.Leads t (state (r .from) y) s) (root-of t roots (r .from) (r .known)) (r .leads);
+    leads = subst⁻¹ (λ (y : ℕ). Leads t (state (r .from) y) s) (root-of t roots (r .from) (r .known)) (r .leads);
   }
 
   to-array : {s : State} → Reachable t (take (processCount t) roots) s → Reachable t roots s
   to-array {s} r = record {
     from = r .from;
     known = r .known;
-    leads = subst (λ (y : ℕ). Rattle.checkpoint_graph.specs.Graph.Leads t (state (r .from) y) s) (root-of t roots (r .from) (r .known)) (r .leads);
+    leads = subst (λ (y : ℕ). Leads t (state (r .from) y) s) (root-of t roots (r .from) (r .known)) (r .leads);
   }
 
   marking-first : {before after : Marks} → MarksReachable t roots before after → MarksReachable t (take (processCount t) roots) before after
@@ -140,7 +138,8 @@ module _ {table ceilings first roots start : List ℕ} (g : Given table ceilings
           by-mark : (s : State) → marksIn t behind s ≡ true → Reachable t (take (processCount t) roots) s
           by-mark s e =
               let is = marks-are t behind s e in
-              to-first t roots (behind-reachable t (facts table (g .accepted) .well-formed) roots behind only (s .process) (s .number) (is .known) (is .there) (is .set))
+              to-first t roots (behind-reachable t (facts table (g .accepted) .well-formed) roots behind only (s .process) (s .number) (is .known) (is .there)
+              (is .set))
 
           from-none : MarksReachable t (take (processCount t) roots) (λ _. false) (marksIn t marked)
           from-none = record {
@@ -154,19 +153,19 @@ module _ {table ceilings first roots start : List ℕ} (g : Given table ceilings
 
 -- ---- roots that gave way
 module _ {table first roots buffer next : List ℕ} (w : Standing table first roots buffer) (gave : GaveWay (decode table) roots buffer next) where
-  abbrev tb : Table
-  tb = decode table
+  abbrev t′ : Table
+  t′ = decode table
 
   -- a marked root gives way to a lower one, and an unmarked one stays
-  gives-lower : (p : ℕ) → p < processCount tb → rootMarked tb roots buffer p ≡ true → getD next p 0 < getD roots p 0
+  gives-lower : (p : ℕ) → p < processCount t′ → rootMarked t′ roots buffer p ≡ true → getD next p 0 < getD roots p 0
   unfolding markedIn
   gives-lower p known e = go (ℕ-discrete (getD next p 0) (getD roots p 0))
     where
       go : Dec (getD next p 0 ≡ getD roots p 0) → getD next p 0 < getD roots p 0
-      go (yes same) = absurd (false≢true (sym (gave .each p known .not-set) ∙ ap (λ (y : ℕ). bitAt buffer (firstBit (tb .counts) p + y)) same ∙ e))
+      go (yes same) = absurd (false≢true (sym (gave .each p known .not-set) ∙ ap (λ (y : ℕ). bitAt buffer (firstBit (t′ .counts) p + y)) same ∙ e))
       go (no other) = omega (arith, gave .each p known .no-later)
 
-  stays-there : (p : ℕ) → p < processCount tb → rootMarked tb roots buffer p ≡ false → getD next p 0 ≡ getD roots p 0
+  stays-there : (p : ℕ) → p < processCount t′ → rootMarked t′ roots buffer p ≡ false → getD next p 0 ≡ getD roots p 0
   unfolding markedIn
   stays-there p known e = go (decLt (getD next p 0) (getD roots p 0))
     where
@@ -174,15 +173,15 @@ module _ {table first roots buffer next : List ℕ} (w : Standing table first ro
       go (yes l) = absurd (false≢true (sym e ∙ gave .each p known .set-behind (getD roots p 0) l (omega arith)))
       go (no l) = omega (arith, gave .each p known .no-later)
 
-  next-there : (p : ℕ) → p < processCount tb → getD next p 0 ≤ countOf tb p
+  next-there : (p : ℕ) → p < processCount t′ → getD next p 0 ≤ countOf t′ p
   next-there p known = omega (arith, gave .each p known .no-later, w .lent .roots-there p known)
 
   -- the states behind the new roots are marked
-  behind-next : (p y : ℕ) → p < processCount tb → getD next p 0 < y → y ≤ countOf tb p → markedIn tb buffer p y ≡ true
+  behind-next : (p y : ℕ) → p < processCount t′ → getD next p 0 < y → y ≤ countOf t′ p → markedIn t′ buffer p y ≡ true
   unfolding markedIn
   behind-next p y known l there = go (decLe y (getD roots p 0))
     where
-      go : Dec (y ≤ getD roots p 0) → bitAt buffer (firstBit (tb .counts) p + y) ≡ true
+      go : Dec (y ≤ getD roots p 0) → bitAt buffer (firstBit (t′ .counts) p + y) ≡ true
       go (yes l′) = gave .each p known .set-behind y l l′
       go (no l′) = w .ready .behind-roots p y known (omega arith) there
 
@@ -195,75 +194,75 @@ module _ {table first roots buffer next : List ℕ} (w : Standing table first ro
     room = w .lent .room;
   }
 
-  pub gave-ready : Ready tb next buffer
+  pub gave-ready : Ready t′ next buffer
   unfolding Closed
   gave-ready = record { behind-roots = behind-next; behind-marked = w .ready .behind-marked; follows = λ k d e. inl (w .closed k d e) }
 
-  latest : (p : ℕ) → p < processCount tb → LatestUnmarked tb (marksIn tb buffer) p (getD next p 0)
+  latest : (p : ℕ) → p < processCount t′ → LatestUnmarked t′ (marksIn t′ buffer) p (getD next p 0)
   unfolding markedIn
   latest p known = record {
     there = next-there p known;
-    unmarked = marks-bit tb buffer p (getD next p 0) known (next-there p known) ∙ gave .each p known .not-set;
-    later = λ y l inside. marks-bit tb buffer p y known inside ∙ behind-next p y known l inside;
+    unmarked = marks-bit t′ buffer p (getD next p 0) known (next-there p known) ∙ gave .each p known .not-set;
+    later = λ y l inside. marks-bit t′ buffer p y known inside ∙ behind-next p y known l inside;
   }
 
 -- ---- the rounds
 module _ {table ceilings first roots start buffer : List ℕ} (w : Running table ceilings first roots start buffer) where
-  abbrev tab : Table
-  tab = decode table
+  abbrev t″ : Table
+  t″ = decode table
 
   abbrev lent : Lent table first roots buffer
   lent = w .stands .lent
 
   -- a root's mark in the stage is its bit
-  root-mark : (p : ℕ) → p < processCount tab → marksIn tab buffer (root (take (processCount tab) roots) p) ≡ rootMarked tab roots buffer p
+  root-mark : (p : ℕ) → p < processCount t″ → marksIn t″ buffer (root (take (processCount t″) roots) p) ≡ rootMarked t″ roots buffer p
   root-mark p known =
-      ap (λ (y : ℕ). marksIn tab buffer (state p y)) (root-of tab roots p known)
-      ∙ marks-bit tab buffer p (getD roots p 0) known (lent .roots-there p known)
+      ap (λ (y : ℕ). marksIn t″ buffer (state p y)) (root-of t″ roots p known)
+      ∙ marks-bit t″ buffer p (getD roots p 0) known (lent .roots-there p known)
 
-  pub running-ends : false ≡ anyBelow (processCount tab) (rootMarked tab roots buffer) → EndsWith tab ceilings (take (processCount tab) roots)
+  pub running-ends : false ≡ anyBelow (processCount t″) (rootMarked t″ roots buffer) → EndsWith t″ ceilings (take (processCount t″) roots)
   unfolding NoneMarked stageOf
   running-ends none = record {
     rounds = w .rounds;
-    last = stageOf tab roots buffer;
+    last = stageOf t″ roots buffer;
     after = w .after;
-    none-marked = λ p known. root-mark p known ∙ none-below (rootMarked tab roots buffer) (processCount tab) (sym none) p known;
+    none-marked = λ p known. root-mark p known ∙ none-below (rootMarked t″ roots buffer) (processCount t″) (sym none) p known;
     last-roots = refl;
   }
 
-  module _ (marked : true ≡ anyBelow (processCount tab) (rootMarked tab roots buffer)) {next after : List ℕ}
-      (made : RoundMade tab roots buffer next after) where
-    found : (p : ℕ) × (p < processCount tab) × (rootMarked tab roots buffer p ≡ true)
-    found = found-below (rootMarked tab roots buffer) (processCount tab) (sym marked)
+  module _ (marked : true ≡ anyBelow (processCount t″) (rootMarked t″ roots buffer)) {next after : List ℕ}
+      (made : RoundMade t″ roots buffer next after) where
+    found : (p : ℕ) × (p < processCount t″) × (rootMarked t″ roots buffer p ≡ true)
+    found = found-below (rootMarked t″ roots buffer) (processCount t″) (sym marked)
 
-    few-processes : processCount tab ≤ 32
+    few-processes : processCount t″ ≤ 32
     few-processes = processes-few table (lent .accepted)
 
     pub running-falls : sum next < sum roots
     running-falls =
-        sum-lower next roots (made .gave .for-each ∙ sym (lent .for-each)) (λ p _. by-place p (decLt p (processCount tab))) (found .0)
+        sum-lower next roots (made .gave .for-each ∙ sym (lent .for-each)) (λ p _. by-place p (decLt p (processCount t″))) (found .0)
         (omega (arith, lent .for-each, found .1, few-processes)) (gives-lower (w .stands) (made .gave) (found .0) (found .1) (found .2))
       where
-        by-place : (p : ℕ) → Dec (p < processCount tab) → getD next p 0 ≤ getD roots p 0
+        by-place : (p : ℕ) → Dec (p < processCount t″) → getD next p 0 ≤ getD roots p 0
         by-place p (yes known) = made .gave .each p known .no-later
         by-place p (no beyond) = omega (arith, made .gave .none-beyond p (omega arith))
 
-    first-length : (l : List ℕ) → length l ≡ 32 → length (take (processCount tab) l) ≡ processCount tab
-    first-length l e = length-take-le (processCount tab) l (omega (arith, few-processes))
+    first-length : (l : List ℕ) → length l ≡ 32 → length (take (processCount t″) l) ≡ processCount t″
+    first-length l e = length-take-le (processCount t″) l (omega (arith, few-processes))
 
-    next-after : After tab ceilings (suc (w .rounds)) (stageOf tab next after)
+    next-after : After t″ ceilings (suc (w .rounds)) (stageOf t″ next after)
     unfolding After stageOf
     next-after = (
-      stageOf tab roots buffer,
+      stageOf t″ roots buffer,
       w .after,
       record {
         some-marked = (found .0, found .1, root-mark (found .0) (found .1) ∙ found .2);
         for-each = first-length next (made .gave .for-each) ∙ sym (first-length roots (lent .for-each));
         gives-way = λ p known e.
-            subst⁻¹ (LatestUnmarked tab (marksIn tab buffer) p) (root-of tab next p known) (latest (w .stands) (made .gave) p known);
+            subst⁻¹ (LatestUnmarked t″ (marksIn t″ buffer) p) (root-of t″ next p known) (latest (w .stands) (made .gave) p known);
         stays = λ p known e.
-            root-of tab next p known ∙ stays-there (w .stands) (made .gave) p known (sym (root-mark p known) ∙ e) ∙ sym (root-of tab roots p known);
-        marking = marking-first tab next (made .reached .marking);
+            root-of t″ next p known ∙ stays-there (w .stands) (made .gave) p known (sym (root-mark p known) ∙ e) ∙ sym (root-of t″ roots p known);
+        marking = marking-first t″ next (made .reached .marking);
       },
     )
 
@@ -287,7 +286,8 @@ pub running-since : {table ceilings first roots start buffer : List ℕ} → Run
 running-since w = record { ceiling = w .ceiling; stands = w .stands; kept = kept-none; rounds = w .rounds; after = w .after }
 
 -- ---- the end: the marks are cleared again, and no byte beyond them was changed
-module _ {t : Table} {start buffer : List ℕ} (k : Kept t start buffer) (fits : marksSize t ≤ length start) {size : ℕ} (size-is : size ≡ marksSize t) where
+module _ {t : Table} {start buffer : List ℕ} (k : Kept t start buffer) (fits : marksSize t ≤ length start) {size : ℕ}
+    (size-is : size ≡ marksSize t) where
   pub end-fits : size ≤ length buffer
   end-fits = omega (arith, k .same-length)
 

@@ -1,5 +1,5 @@
--- Of the code: the marks of a run in a lent buffer, and what the functions that set them leave. The laws join this to the
--- procedure. Assumes nothing.
+-- Of the code: the marks of a run in a lent buffer, and what the functions that set them leave. The laws join this to
+-- the procedure. Assumes nothing.
 use mathlib.Core.Bool.{Bool, false, true, _&&_}
 use mathlib.Core.List.{List}
 use mathlib.Core.Logic.{_⊎_}
@@ -87,8 +87,8 @@ RestsAt t roots buffer k =
     ⊎ (markedIn t buffer (messageOf t k .sender) (messageOf t k .sent) ≡ true)
     → markedIn t buffer (messageOf t k .receiver) (messageOf t k .received) ≡ true
 
--- A pass over the messages: it says whether it marked anything. Then fewer states are unmarked; if it did not, no message
--- leads to anything new.
+-- A pass over the messages: it says whether it marked anything. Then fewer states are unmarked; if it did not, no
+-- message leads to anything new.
 pub record Passed (t : Table) (roots before after : List ℕ) (marked : Bool) : Type 0 where
   pub grown : Grown t roots before after
   pub ready : Ready t roots after

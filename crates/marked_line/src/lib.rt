@@ -62,7 +62,8 @@ fn is_reached(first: &[usize], roots: &[u16], marks: &[u8], p: usize, y: u16) ->
 fn pass(table: &[u8], first: &[usize], roots: &[u16], marks: &mut [u8]) -> bool
     requires { ⌜ Lent (now table) (now first) (now roots) (now marks) ⌝ }
     requires { ⌜ Ready (decode (now table)) (now roots) (now marks) ⌝ }
-    ensures { λ r. ⌜ Passed (decode (now (table .entry))) (now (roots .entry)) (now (marks .entry)) (now (marks .exit)) r ⌝ }
+    ensures { λ r. ⌜ Passed (decode (now (table .entry))) (now (roots .entry)) (now (marks .entry)) (now
+        (marks .exit)) r ⌝ }
 {
     let m = parts::message_count(table);
     let sends = parts::sends(table);
@@ -96,7 +97,8 @@ fn pass(table: &[u8], first: &[usize], roots: &[u16], marks: &mut [u8]) -> bool
 fn mark_reachable(table: &[u8], first: &[usize], roots: &[u16], marks: &mut [u8])
     requires { ⌜ Lent (now table) (now first) (now roots) (now marks) ⌝ }
     requires { ⌜ Ready (decode (now table)) (now roots) (now marks) ⌝ }
-    ensures { λ _. ⌜ Reached (decode (now (table .entry))) (now (roots .entry)) (now (marks .entry)) (now (marks .exit)) ⌝ }
+    ensures { λ _. ⌜ Reached (decode (now (table .entry))) (now (roots .entry)) (now (marks .entry)) (now
+        (marks .exit)) ⌝ }
 {
     loop {
         if !pass(table, first, roots, marks) {
@@ -199,7 +201,8 @@ fn marked_line(table: &[u8], ceilings: &[u16], marks: &mut [u8]) -> [u16; 32]
     requires { ⌜ marksSize (decode (now table)) ≤ length (now marks) ⌝ }
     ensures { λ r. ⌜ EndsWith (decode (now (table .entry))) (now (ceilings .entry))
         (take (processCount (decode (now (table .entry)))) r) ⌝ }
-    ensures { λ _. ⌜ now (marks .exit) ≡ cleared (marksSize (decode (now (table .entry)))) (now (marks .entry)) ⌝ }
+    ensures { λ _. ⌜ now (marks .exit) ≡ cleared (marksSize (decode (now (table .entry)))) (now
+        (marks .entry)) ⌝ }
 {
     let first = first_bits(table);
     let roots = last_roots(table, ceilings, &first, marks);
@@ -215,7 +218,8 @@ pub fn put_marked_line(table: &[u8], ceilings: &[u16], marks: &mut [u8], answer:
     requires { ⌜ 2 * processCount (decode (now table)) ≤ length (now answer) ⌝ }
     ensures { λ _. ⌜ PutByMarking (decode (now (table .entry))) (now (ceilings .entry)) (now (answer .entry))
         (now (answer .exit)) ⌝ }
-    ensures { λ _. ⌜ now (marks .exit) ≡ cleared (marksSize (decode (now (table .entry)))) (now (marks .entry)) ⌝ }
+    ensures { λ _. ⌜ now (marks .exit) ≡ cleared (marksSize (decode (now (table .entry)))) (now
+        (marks .entry)) ⌝ }
 {
     let line = marked_line(table, ceilings, marks);
     put_line(table, line, answer);

@@ -10,8 +10,8 @@ use mathlib.Core.Bool.{Bool, true, false, _&&_, _||_, false≢true}
 use mathlib.Core.List.{List}
 use mathlib.Core.Logic.{_⊎_, inl, inr}
 use mathlib.Core.Path.{_≡_, refl, sym, ap, _∙_, subst, subst⁻¹}
-use Prim.Native.Nat.{ℕ, zero, suc, _+_, _≤_, _<_, min}
-use native.Mathlib.Decide.{decLe, decLt, ℕ-discrete}
+use Prim.Native.Nat.{ℕ, zero, suc, _≤_, _<_, min}
+use native.Mathlib.Decide.{decLe, ℕ-discrete}
 use native.Mathlib.Nat.{le-refl}
 use native.Mathlib.Omega.{arith}
 use borrow.Author.Tests.{le-leb, leb-true, lt-ltb, ltb-true}
@@ -21,7 +21,7 @@ use lib.Seq.{getD-set-other, getD-set-same}
 use Rattle.checkpoint_graph.proofs.GraphLaws.{leads-on, leads-to, leads-up, message-in}
 use Rattle.checkpoint_graph.specs.Graph.{Edge, Leads, State, edge, received, state, then, to-next}
 use Rattle.consistency.proofs.LoweringLaws.{sum-falls}
-use Rattle.marking.specs.Procedure.{Marks, MarksReachable, Reachable, root}
+use Rattle.marking.specs.Procedure.{Marks, MarksReachable, Reachable}
 use Rattle.run_table.proofs.ListLaws.{and-left, and-right, found-below, getD-tabulate, length-tabulate, none-below}
 use Rattle.run_table.specs.Checks.{GoodMessage, WellFormed}
 use Rattle.run_table.specs.Lists.{anyBelow, sum, tabulate}
@@ -32,7 +32,8 @@ module _ {t : Table} {roots : List ℕ} where
   reach-edge r e = record { from = r .from; known = r .known; leads = then (r .leads) e }
 
   -- what a root leads to, or a state behind it
-  pub reach-root : {b : State} (p y : ℕ) → p < processCount t → getD roots p 0 ≤ y → y ≤ countOf t p → Edge t (state p y) b → Reachable t roots b
+  pub reach-root : {b : State} (p y : ℕ) → p < processCount t → getD roots p 0 ≤ y → y ≤ countOf t p → Edge t (state p y) b
+      → Reachable t roots b
   reach-root {b} p y known above there e = go (ℕ-discrete (getD roots p 0) y)
     where
       go : Dec (getD roots p 0 ≡ y) → Reachable t roots b
@@ -41,7 +42,8 @@ module _ {t : Table} {roots : List ℕ} where
           record { from = p; known = known; leads = then (leads-up t p known (getD roots p 0) y (omega arith) there) e }
 
   -- the later states of a process
-  pub reach-up : (p y y′ : ℕ) → p < processCount t → Reachable t roots (state p y) → y ≤ y′ → y′ ≤ countOf t p → Reachable t roots (state p y′)
+  pub reach-up : (p y y′ : ℕ) → p < processCount t → Reachable t roots (state p y) → y ≤ y′ → y′ ≤ countOf t p
+      → Reachable t roots (state p y′)
   reach-up p y y′ known r l there = go (ℕ-discrete y y′)
     where
       go : Dec (y ≡ y′) → Reachable t roots (state p y′)
@@ -132,7 +134,8 @@ module _ (t : Table) (w : WellFormed t) (roots : List ℕ) where
             (omega (arith, here, below, h .behind-roots (m .receiver) (good .receiver-known)))
         by-place-behind p l (no other) = omega (arith, elsewhere p other, h .behind-roots p l)
 
-        by-place : (p y : ℕ) → p < processCount t → getD after p 0 ≤ y → y ≤ countOf t p → Dec (p ≡ m .receiver) → Reachable t roots (state p y)
+        by-place : (p y : ℕ) → p < processCount t → getD after p 0 ≤ y → y ≤ countOf t p → Dec (p ≡ m .receiver)
+            → Reachable t roots (state p y)
         by-place p y l above there (yes same) =
             subst⁻¹ (λ (q : ℕ). y ≤ countOf t q → m .received ≤ y → Reachable t roots (state q y)) same
             (λ inside high. reach-up (m .receiver) (m .received) y (good .receiver-known) receipt-reachable high inside) there

@@ -7,9 +7,9 @@
 --     latest-unmarked, round-made    a process has a latest unmarked state, so where a root is marked a round can be made
 --     end-consistent            where no root is marked they are a consistent line
 -- Assumes nothing.
-use mathlib.Core.Bool.{Bool, true, false, cond, false≢true, true≢false}
-use mathlib.Core.List.{List, [], _∷_}
-use mathlib.Core.Logic.{_⊎_, inl, inr, ⊎-elim}
+use mathlib.Core.Bool.{Bool, true, false, cond, false≢true}
+use mathlib.Core.List.{List}
+use mathlib.Core.Logic.{⊎-elim}
 use mathlib.Core.Path.{_≡_, refl, sym, ap, _∙_, subst, subst⁻¹}
 use Prim.Native.Nat.{ℕ, zero, suc, _+_, _≤_, _<_}
 use native.Mathlib.Decide.{decLe, decLt, ℕ-discrete}
@@ -20,13 +20,13 @@ use Rattle.checkpoint_graph.proofs.GraphLaws.{leads-up, message-in}
 use Rattle.checkpoint_graph.specs.Graph.{Edge, Leads, State, edge, received, state, then, to-next}
 use Rattle.consistency.proofs.LineLaws.{orphan-free, zero-consistent}
 use Rattle.consistency.specs.Ceilings.{Ceiling}
-use Rattle.consistency.specs.Lines.{AtOrBelow, Consistent, Line, Orphan, asLine}
+use Rattle.consistency.specs.Lines.{AtOrBelow, Consistent, Line, asLine}
 use Rattle.marking.proofs.ReachLaws.{marking-made, reach-root, reach-up}
-use Rattle.marking.specs.Procedure.{After, LatestUnmarked, Marks, MarksReachable, NoneMarked, Reachable, Round, Stage, root}
-use Rattle.run_table.proofs.ListLaws.{found-below, getD-tabulate, length-tabulate, none-below, sum-lower}
+use Rattle.marking.specs.Procedure.{After, LatestUnmarked, NoneMarked, Reachable, Round, Stage, root}
+use Rattle.run_table.proofs.ListLaws.{getD-tabulate, length-tabulate, sum-lower}
 use Rattle.run_table.specs.Checks.{WellFormed}
-use Rattle.run_table.specs.Lists.{anyBelow, sum, tabulate}
-use Rattle.run_table.specs.Table.{Message, Table, countOf, messageOf, processCount}
+use Rattle.run_table.specs.Lists.{sum, tabulate}
+use Rattle.run_table.specs.Table.{Table, countOf, messageOf, processCount}
 
 -- ---- a consistent line
 module _ (t : Table) (l : Line) (c : Consistent (t .messages) l) where

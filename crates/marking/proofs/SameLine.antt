@@ -7,15 +7,14 @@
 use mathlib.Core.Bool.{Bool, true, false}
 use mathlib.Core.List.{List}
 use mathlib.Core.Logic.{_⊎_, inl, inr, ⊎-elim}
-use mathlib.Core.Path.{_≡_, refl, sym, ap, _∙_, subst}
-use Prim.Native.Nat.{ℕ, zero, suc, _+_, _-_, _≤_, _<_}
+use mathlib.Core.Path.{_≡_, refl, sym, _∙_, subst}
+use Prim.Native.Nat.{ℕ, zero, suc, _+_, _≤_, _<_}
 use native.Mathlib.Decide.{decLt}
-use native.Mathlib.Nat.{le-refl}
 use native.Mathlib.Omega.{arith}
-use lib.ListN.{getD, length, List·getD-eq-default}
+use lib.ListN.{length, List·getD-eq-default}
 use Rattle.consistency.proofs.LoweringLaws.{line-is}
 use Rattle.consistency.specs.Ceilings.{Ceiling}
-use Rattle.consistency.specs.Lines.{AtOrBelow, Latest, asLine}
+use Rattle.consistency.specs.Lines.{Latest, asLine}
 use Rattle.consistency.specs.Lowering.{lineUnder}
 use Rattle.marking.proofs.ReachLaws.{marking-made}
 use Rattle.marking.proofs.RoundLaws.{end-consistent, round-falls, round-made, stage-above, stage-below, stage-for-each, stage-sum}

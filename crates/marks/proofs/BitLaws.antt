@@ -11,10 +11,10 @@ use mathlib.Core.Bool.{Bool, true, false, cond, not, _||_, false≢true, or-true
 use mathlib.Core.List.{List, _++_}
 use mathlib.Core.Path.{_≡_, refl, sym, ap, ap₂, _∙_, subst, subst⁻¹}
 use Prim.Native.Nat.{ℕ, zero, suc, _+_, _*_, _-_, _/_, _%_, _^_, _≤_, _<_, max}
-use native.Mathlib.Decide.{decLe, decLt, ℕ-discrete}
+use native.Mathlib.Decide.{decLt, ℕ-discrete}
 use native.Mathlib.Nat.{le-refl, mod-lt, one-mul}
 use native.Mathlib.Omega.{arith}
-use borrow.Author.Tests.{eq-eqb, eqb-true, ne-eqb}
+use borrow.Author.Tests.{eq-eqb, ne-eqb}
 use lib.Bits.{bitAnd, bitOr, or-shr, or-step}
 use lib.Dec.{eqb, lit<}
 use lib.Pow.{shl-exact}
@@ -218,7 +218,8 @@ filled-cleared {size} {before} {after} f fits =
     by-place i l (no m) = f .rest i (omega arith) ∙ sym (cleared-beyond size before fits i (omega arith))
 
 -- a buffer that differs in the first bytes alone
-pub cleared-again : (size : ℕ) (before after : List ℕ) → length after ≡ length before → ((i : ℕ) → size ≤ i → getD after i 0 ≡ getD before i 0)
+pub cleared-again : (size : ℕ) (before after : List ℕ) → length after ≡ length before → ((i : ℕ) → size ≤ i
+    → getD after i 0 ≡ getD before i 0)
     → cleared size after ≡ cleared size before
 unfolding cleared
 cleared-again size before after e same =

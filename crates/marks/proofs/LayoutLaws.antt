@@ -133,7 +133,8 @@ module _ {table first : List ℕ} {bits p : ℕ} (f : Firsts table first bits p)
   firsts-all l = filled-list (f .filled) (λ i m inside. absurd (omega arith))
 
 -- an entry of the array; behind the last process stands the number of all bits
-pub first-at : (t : Table) {first : List ℕ} → first ≡ tabulate 33 (firstBit (t .counts)) → (p : ℕ) → p ≤ 32 → getD first p 0 ≡ firstBit (t .counts) p
+pub first-at : (t : Table) {first : List ℕ} → first ≡ tabulate 33 (firstBit (t .counts)) → (p : ℕ) → p ≤ 32
+    → getD first p 0 ≡ firstBit (t .counts) p
 first-at t are p l = ap (λ (l : List ℕ). getD l p 0) are ∙ getD-tabulate 33 (firstBit (t .counts)) p 0 (omega arith)
 
 pub first-last : (t : Table) → firstBit (t .counts) (processCount t) ≡ sum (t .counts) + processCount t

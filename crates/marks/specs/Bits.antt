@@ -1,5 +1,5 @@
--- Of the code: marks as bits. State y of process p has the bit first p + y, where first p is the number of states of the
--- processes before p; bit b of a buffer is bit b % 8 of its byte b / 8. Assumes nothing.
+-- Of the code: marks as bits. State y of process p has the bit first p + y, where first p is the number of states of
+-- the processes before p; bit b of a buffer is bit b % 8 of its byte b / 8. Assumes nothing.
 use mathlib.Core.Bool.{Bool, cond, true}
 use mathlib.Core.List.{List}
 use mathlib.Core.Path.{_≡_}

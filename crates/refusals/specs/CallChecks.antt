@@ -30,8 +30,8 @@ lineUnderChecks table ceilings =
     ∷ record { caught = aboveCounts (decode table) ceilings; number = 18 }
     ∷ [])
 
--- The line under ceilings by marking, by the length of the mark buffer: those of the line under ceilings; 19, that it is
--- shorter than the bytes of the marks.
+-- The line under ceilings by marking, by the length of the mark buffer: those of the line under ceilings; 19, that it
+-- is shorter than the bytes of the marks.
 unfoldable pub markedLineChecks : List ℕ → List ℕ → ℕ → List Check
 markedLineChecks table ceilings bytes =
     lineUnderChecks table ceilings

@@ -50,10 +50,13 @@ keeper-marked-line-spec =
     -- asked by `put_marked_line`
     (λ c κs.
     let size = c .before .before .before in
-    let here = judged size in
-    (quiet here .accepted,
-    (ceiling here,
-    (marks-long _ _ _ (here .before .marking-refusal .ensures) (here .if1 .left), line-room _ (size .line-size .ensures) (c .before .before .if2 .left)))))
+    let here = judged size in (
+      quiet here .accepted,
+      (
+        ceiling here,
+        (marks-long _ _ _ (here .before .marking-refusal .ensures) (here .if1 .left), line-room _ (size .line-size .ensures) (c .before .before .if2 .left)),
+      ),
+    ))
     (λ c. search needs)
     (λ c. search needs)
     -- the answer

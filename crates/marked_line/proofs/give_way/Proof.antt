@@ -3,7 +3,7 @@
 use native.Mathlib.Omega.{arith}
 use Prim.Native.Nat.{_-_}
 use Rattle.marked_line.proofs.RootLaws.{Giving, giving-all, giving-more, giving-none, start-few, start-in, start-unset}
-use Rattle.marked_line.proofs.RowLaws.{first-there}
+use Rattle.marked_line.proofs.MarkRowLaws.{first-there}
 use Rattle.run_table.proofs.ReadLaws.{processes-few}
 use Rattle.marked_line.proofs.give_way.Statement.{statement}
 use Rattle.marked_line.proofs.give_way.Tie as tie

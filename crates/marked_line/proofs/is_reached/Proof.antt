@@ -2,7 +2,7 @@
 -- Assumes nothing.
 use borrow.Author.Needs.{needs}
 use native.Mathlib.Omega.{arith}
-use Rattle.marked_line.proofs.PassLaws.{at-root, by-bit}
+use Rattle.marked_line.proofs.MarkPassLaws.{at-root, by-bit}
 use Rattle.marked_line.proofs.is_reached.Statement.{statement}
 use Rattle.marked_line.proofs.is_reached.Tie as tie
 

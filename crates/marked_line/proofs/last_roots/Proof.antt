@@ -3,7 +3,7 @@
 use borrow.Author.Needs.{needs}
 use mathlib.Core.Path.{sym, _∙_}
 use denote.Ref.{now}
-use Rattle.marked_line.proofs.RowLaws.{kept-both}
+use Rattle.marked_line.proofs.MarkRowLaws.{kept-both}
 use Rattle.marked_line.proofs.StageLaws.{given-few, given-roots, running-ends, running-falls, running-more, running-since}
 use Rattle.marked_line.specs.Marking.{Kept, Running}
 use Rattle.run_table.specs.Format.{decode}

@@ -3,7 +3,7 @@
 use native.Mathlib.Omega.{arith}
 use Prim.Native.Nat.{_-_}
 use Rattle.marked_line.proofs.RootLaws.{Behind, behind-begins, behind-ends, behind-known, behind-more, behind-onwards, behind-room, root-small}
-use Rattle.marked_line.proofs.RowLaws.{first-there}
+use Rattle.marked_line.proofs.MarkRowLaws.{first-there}
 use Rattle.run_table.proofs.ReadLaws.{processes-few}
 use Rattle.marked_line.proofs.mark_behind.Statement.{statement}
 use Rattle.marked_line.proofs.mark_behind.Tie as tie
@@ -60,7 +60,8 @@ mark-behind-spec =
     let marked = c .before .before in
     let found = marked .before .before in
     let here = turn found in
-    behind-more (here .before .loop .inv) (here .loop-test .taken) (found .before .state-bit .ensures) (found .state-bit2 .ensures) (marked .mark-from .ensures))
+    behind-more (here .before .loop .inv) (here .loop-test .taken) (found .before .state-bit .ensures) (found .state-bit2 .ensures)
+    (marked .mark-from .ensures))
     -- the end
     (λ c. c .before .loop .inv .kept .same-length)
     (λ c. (c .before .loop .inv .kept, behind-ends (c .before .loop .inv) (c .loop-test .left))))

@@ -1,8 +1,7 @@
 -- `mark_reachable` meets its contract: passes mark reachable states alone, and the last one, which marks none, says that no other is left.
 -- Assumes nothing.
 use borrow.Author.Tests.{not-false, not-true}
-use native.Mathlib.Omega.{arith}
-use Rattle.marked_line.proofs.PassLaws.{Growing, grown-none, passes-end, passes-more}
+use Rattle.marked_line.proofs.MarkPassLaws.{Growing, grown-none, passes-end, passes-more}
 use Rattle.marks.specs.Bits.{firstBit, unset}
 use Rattle.run_table.specs.Format.{decode}
 use Rattle.run_table.specs.Table.{processCount}

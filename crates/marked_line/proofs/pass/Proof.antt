@@ -4,12 +4,11 @@
 use borrow.Author.Needs.{needs}
 use borrow.Author.Tests.{not-false, not-true}
 use native.Mathlib.Omega.{arith}
-use mathlib.Core.Path.{_≡_, sym, _∙_}
-use Prim.Native.Nat.{ℕ}
+use mathlib.Core.Path.{sym, _∙_}
 use denote.Ref.{now}
-use Rattle.marked_line.proofs.PassLaws.{AtReceipt, AtSend, Passing, end-in, pass-begins, pass-ends, pass-marks, receipt-in, receiver-few}
-use Rattle.marked_line.proofs.PassLaws.{row-ready, send-there, skips-marked, skips-undelivered, skips-unreached}
-use Rattle.marked_line.proofs.RowLaws.{first-there}
+use Rattle.marked_line.proofs.MarkPassLaws.{AtReceipt, AtSend, Passing, end-in, pass-begins, pass-ends, pass-marks, receipt-in, receiver-few}
+use Rattle.marked_line.proofs.MarkPassLaws.{row-ready, send-there, skips-marked, skips-undelivered, skips-unreached}
+use Rattle.marked_line.proofs.MarkRowLaws.{first-there}
 use Rattle.run_table.proofs.ReadLaws.{messages-read}
 use Rattle.marked_line.proofs.pass.Statement.{statement}
 use Rattle.marked_line.proofs.pass.Tie as tie

@@ -4,7 +4,7 @@ use native.Mathlib.Omega.{arith}
 use mathlib.Core.Path.{refl, sym, _∙_}
 use Prim.Native.Nat.{_-_}
 use Rattle.marked_line.proofs.RootLaws.{Asking, asking-found, asking-more, asking-none, root-in}
-use Rattle.marked_line.proofs.RowLaws.{first-there}
+use Rattle.marked_line.proofs.MarkRowLaws.{first-there}
 use Rattle.run_table.proofs.ReadLaws.{processes-few}
 use Rattle.run_table.specs.Lists.{anyBelow}
 use Rattle.marked_line.proofs.root_marked.Statement.{statement}
@@ -54,7 +54,8 @@ root-marked-spec =
     root-in (inv .lent) (omega (arith, inv .n-is)) (c .state-bit .ensures))
     (λ c.
     let here = c .before .before in
-    asking-found (turn here .before .loop .inv) (turn here .loop-test .taken) (here .state-bit .ensures) (sym (c .before .is-marked .ensures) ∙ c .if1 .taken))
+    asking-found (turn here .before .loop .inv) (turn here .loop-test .taken) (here .state-bit .ensures) (sym (c .before .is-marked .ensures)
+    ∙ c .if1 .taken))
     (λ c. omega arith)
     (λ c. omega arith)
     (λ c.

@@ -6,12 +6,12 @@
 --     reached-all                        where no message leads to anything new, all that is reachable is marked
 --     at-root, by-bit                    whether a state is at its root or marked
 -- Assumes nothing.
-use mathlib.Core.Bool.{Bool, true, false, _&&_, _||_, false≢true, true≢false}
+use mathlib.Core.Bool.{Bool, true, false, _||_, false≢true, true≢false}
 use mathlib.Core.List.{List}
 use mathlib.Core.Logic.{_⊎_, inl, inr, ⊎-elim}
 use mathlib.Core.Path.{_≡_, refl, sym, ap, ap₂, _∙_, subst, subst⁻¹}
 use Prim.Native.Nat.{ℕ, suc, _+_, _-_, _*_, _/_, _≤_, _<_}
-use native.Mathlib.Decide.{decLe, decLt, ℕ-discrete}
+use native.Mathlib.Decide.{decLe, ℕ-discrete}
 use native.Mathlib.Nat.{le-refl}
 use native.Mathlib.Omega.{arith}
 use borrow.Author.Tests.{eq-eqb, eqb-true, le-leb, leb-true, lt-ltb, ltb-true, ne-eqb}
@@ -19,14 +19,14 @@ use lib.Dec.{eqb, leb, ltb}
 use lib.ListN.{getD, length}
 use Rattle.checkpoint_graph.proofs.GraphLaws.{leads-to, message-in}
 use Rattle.checkpoint_graph.specs.Graph.{Edge, Leads, State, edge, received, state, then, to-next}
-use Rattle.marked_line.proofs.RowLaws.{bit-in, first-read, first-there, kept-both, kept-none, lent-kept, process-few, row-below, row-end}
-use Rattle.marked_line.proofs.RowLaws.{row-here, row-kept, row-onwards, row-other, row-room, row-stay}
-use Rattle.marked_line.specs.Marking.{BitThere, Closed, Grown, Kept, Lent, Passed, Reached, Ready, RestsAt, markedIn, marksIn}
+use Rattle.marked_line.proofs.MarkRowLaws.{bit-in, first-read, first-there, kept-both, kept-none, lent-kept, process-few, row-below, row-end}
+use Rattle.marked_line.proofs.MarkRowLaws.{row-here, row-kept, row-onwards, row-other, row-room, row-stay}
+use Rattle.marked_line.specs.Marking.{BitThere, Closed, Grown, Lent, Passed, Reached, Ready, RestsAt, markedIn, marksIn}
 use Rattle.marking.proofs.ReachLaws.{reach-edge, reach-root, reach-up}
-use Rattle.marking.specs.Procedure.{MarksReachable, Reachable, root}
+use Rattle.marking.specs.Procedure.{Reachable, root}
 use Rattle.marks.proofs.BitLaws.{unset-falls, unset-fewer}
-use Rattle.marks.proofs.LayoutLaws.{first-apart, first-more}
-use Rattle.marks.specs.Bits.{Onwards, SetFrom, bitAt, firstBit, mostBits, unset}
+use Rattle.marks.proofs.LayoutLaws.{first-apart}
+use Rattle.marks.specs.Bits.{Onwards, SetFrom, bitAt, firstBit, unset}
 use Rattle.run_table.proofs.AcceptLaws.{facts}
 use Rattle.run_table.proofs.ListLaws.{and-left, and-right, or-false-left, or-false-right}
 use Rattle.run_table.proofs.ReadLaws.{ReadMessages, good, received-is, receiver-is, sender-is, sent-is}
@@ -64,14 +64,16 @@ module _ (t : Table) (wf : WellFormed t) (roots : List ℕ) (i : ℕ) (known : i
     no-others = λ p y l there e. by-place p y l there e (ℕ-discrete p i);
   }
     where
-      by-number : (y : ℕ) → y ≤ countOf t i → markedIn t after i y ≡ true → Dec (r ≤ y) → (markedIn t before i y ≡ true) ⊎ Reachable t roots (state i y)
+      by-number : (y : ℕ) → y ≤ countOf t i → markedIn t after i y ≡ true → Dec (r ≤ y)
+          → (markedIn t before i y ≡ true) ⊎ Reachable t roots (state i y)
       by-number y there e (yes l) = inr (reach-up i r y known reachable l there)
       by-number y there e (no l) = inl (sym (row-below t i known r row y (omega arith)) ∙ e)
 
       by-place : (p y : ℕ) → p < processCount t → y ≤ countOf t p → markedIn t after p y ≡ true → Dec (p ≡ i)
           → (markedIn t before p y ≡ true) ⊎ Reachable t roots (state p y)
       by-place p y l there e (yes same) =
-          subst⁻¹ (λ (q : ℕ). y ≤ countOf t q → markedIn t after q y ≡ true → (markedIn t before q y ≡ true) ⊎ Reachable t roots (state q y)) same
+          subst⁻¹ (λ (q : ℕ). y ≤ countOf t q → markedIn t after q y ≡ true
+          → (markedIn t before q y ≡ true) ⊎ Reachable t roots (state q y)) same
           (λ inside marked. by-number y inside marked (decLe r y)) there e
       by-place p y l there e (no other) = inl (sym (row-other t i known r row p y other there) ∙ e)
 
@@ -103,7 +105,8 @@ module _ (t : Table) (wf : WellFormed t) (roots : List ℕ) (i : ℕ) (known : i
       by-number y below e (yes l) = row-here t i known r row (suc y) (omega arith) below
       by-number y below e (no l) = stays i (suc y) (ready .behind-marked i y known below (sym (row-below t i known r row y (omega arith)) ∙ e))
 
-      by-place : (p y : ℕ) → p < processCount t → y < countOf t p → markedIn t after p y ≡ true → Dec (p ≡ i) → markedIn t after p (suc y) ≡ true
+      by-place : (p y : ℕ) → p < processCount t → y < countOf t p → markedIn t after p y ≡ true → Dec (p ≡ i)
+          → markedIn t after p (suc y) ≡ true
       by-place p y l below e (yes same) =
           subst⁻¹ (λ (q : ℕ). y < countOf t q → markedIn t after q y ≡ true → markedIn t after q (suc y) ≡ true) same
           (λ inside marked. by-number y inside marked (decLe r y)) below e
@@ -182,7 +185,7 @@ module _ {table first roots start buffer : List ℕ} {marked : Bool} {m : ℕ} {
     skips-undelivered r-read z = skips (λ d _. absurd (omega (arith, received-is (w .read) there r-read)))
 
 -- ---- its receipt
--- The pass is at message k - 1, and the two numbers of its receipt were read.
+-- The pass is at message k - 1, and the two numbers of its receipt were read. A prime marks the names above, of this message again.
 pub record AtReceipt (table first roots start buffer : List ℕ) (marked : Bool) (m : ℕ) (sends receipts : List ℕ) (k i r : ℕ) : Type 0 where
   pub passing : Passing table first roots start buffer marked m sends receipts k
   pub more : 0 < k
@@ -191,44 +194,44 @@ pub record AtReceipt (table first roots start buffer : List ℕ) (marked : Bool)
 
 module _ {table first roots start buffer : List ℕ} {marked : Bool} {m : ℕ} {sends receipts : List ℕ} {k i r : ℕ}
     (x : AtReceipt table first roots start buffer marked m sends receipts k i r) where
-  abbrev tab : Table
-  tab = decode table
+  abbrev t′ : Table
+  t′ = decode table
 
-  abbrev it : Message
-  it = messageOf tab (k - 1)
+  abbrev here′ : Message
+  here′ = messageOf t′ (k - 1)
 
-  abbrev pass-there : k - 1 < m
-  pass-there = there (x .passing) (x .more)
+  abbrev there′ : k - 1 < m
+  there′ = there (x .passing) (x .more)
 
-  good-it : GoodMessage tab it
-  good-it = good-here (x .passing) (x .more)
+  good-here′ : GoodMessage t′ here′
+  good-here′ = good-here (x .passing) (x .more)
 
-  r-is : r ≡ it .received
-  r-is = received-is (x .passing .read) pass-there (x .received-read)
+  r-is : r ≡ here′ .received
+  r-is = received-is (x .passing .read) there′ (x .received-read)
 
-  i-is : i ≡ it .receiver
-  i-is = receiver-is (x .passing .read) pass-there (x .receiver-read)
+  i-is : i ≡ here′ .receiver
+  i-is = receiver-is (x .passing .read) there′ (x .receiver-read)
 
-  pub receiver-known : i < processCount tab
-  receiver-known = omega (arith, i-is, good-it .receiver-known)
+  pub receiver-known : i < processCount t′
+  receiver-known = omega (arith, i-is, good-here′ .receiver-known)
 
   pub receiver-few : i < 32
   receiver-few = process-few (x .passing .lent) i receiver-known
 
-  received-there : r ≤ countOf tab i
-  received-there = omega (arith, r-is, ap (countOf tab) i-is, good-it .received-below)
+  received-there : r ≤ countOf t′ i
+  received-there = omega (arith, r-is, ap (countOf t′) i-is, good-here′ .received-below)
 
   -- the bit of its receipt
   module _ {b : ℕ} (b-is : b ≡ getD first i 0 + r) where
     pub receipt-in : b / 8 < length buffer
     receipt-in = subst⁻¹ (λ (x : ℕ). x / 8 < length buffer) b-is (bit-in (x .passing .lent) i receiver-known r received-there)
 
-    bit-is : b ≡ firstBit (tab .counts) i + r
+    bit-is : b ≡ firstBit (t′ .counts) i + r
     bit-is = b-is ∙ ap (λ (x : ℕ). x + r) (first-read (x .passing .lent) i (omega (arith, receiver-few)))
 
-    receipt-mark : markedIn tab buffer (it .receiver) (it .received) ≡ bitAt buffer b
+    receipt-mark : markedIn t′ buffer (here′ .receiver) (here′ .received) ≡ bitAt buffer b
     unfolding markedIn
-    receipt-mark = ap₂ (λ (p y : ℕ). bitAt buffer (firstBit (tab .counts) p + y)) (sym i-is) (sym r-is) ∙ ap (bitAt buffer) (sym bit-is)
+    receipt-mark = ap₂ (λ (p y : ℕ). bitAt buffer (firstBit (t′ .counts) p + y)) (sym i-is) (sym r-is) ∙ ap (bitAt buffer) (sym bit-is)
 
     pub skips-marked : bitAt buffer b ≡ true → Passing table first roots start buffer marked m sends receipts (k - 1)
     unfolding RestsAt
@@ -246,139 +249,139 @@ pub record AtSend (table first roots start buffer : List ℕ) (marked : Bool) (m
 
 module _ {table first roots start buffer : List ℕ} {marked : Bool} {m : ℕ} {sends receipts : List ℕ} {k i r b j y : ℕ}
     (x : AtSend table first roots start buffer marked m sends receipts k i r b j y) where
-  abbrev tb : Table
-  tb = decode table
+  abbrev t″ : Table
+  t″ = decode table
 
-  abbrev msg : Message
-  msg = messageOf tb (k - 1)
+  abbrev here″ : Message
+  here″ = messageOf t″ (k - 1)
 
-  abbrev w′ : Passing table first roots start buffer marked m sends receipts k
-  w′ = x .receipt .passing
+  abbrev passing″ : Passing table first roots start buffer marked m sends receipts k
+  passing″ = x .receipt .passing
 
-  good-msg : GoodMessage tb msg
-  good-msg = good-it (x .receipt)
+  good-here″ : GoodMessage t″ here″
+  good-here″ = good-here′ (x .receipt)
 
-  j-is : j ≡ msg .sender
-  j-is = sender-is (w′ .read) (pass-there (x .receipt)) (x .sender-read)
+  j-is : j ≡ here″ .sender
+  j-is = sender-is (passing″ .read) (there′ (x .receipt)) (x .sender-read)
 
-  y-is : y ≡ msg .sent
-  y-is = sent-is (w′ .read) (pass-there (x .receipt)) (x .sent-read)
+  y-is : y ≡ here″ .sent
+  y-is = sent-is (passing″ .read) (there′ (x .receipt)) (x .sent-read)
 
-  sender-known : j < processCount tb
-  sender-known = omega (arith, j-is, good-msg .sender-known)
+  sender-known : j < processCount t″
+  sender-known = omega (arith, j-is, good-here″ .sender-known)
 
-  sent-there : y < countOf tb j
-  sent-there = omega (arith, y-is, ap (countOf tb) j-is, good-msg .sent-below)
+  sent-there : y < countOf t″ j
+  sent-there = omega (arith, y-is, ap (countOf t″) j-is, good-here″ .sent-below)
 
   pub send-there : BitThere first roots buffer j y
   send-there =
-      let few = process-few (w′ .lent) j sender-known in
+      let few = process-few (passing″ .lent) j sender-known in
       record {
         few = few;
-        in-first = first-there (w′ .lent) j (omega (arith, few)) .0;
-        in-roots = omega (arith, few, w′ .lent .for-each);
-        small = first-there (w′ .lent) j (omega (arith, few)) .1;
-        inside = bit-in (w′ .lent) j sender-known y (omega (arith, sent-there));
+        in-first = first-there (passing″ .lent) j (omega (arith, few)) .0;
+        in-roots = omega (arith, few, passing″ .lent .for-each);
+        small = first-there (passing″ .lent) j (omega (arith, few)) .1;
+        inside = bit-in (passing″ .lent) j sender-known y (omega (arith, sent-there));
       }
 
   abbrev reached : Bool
   reached = eqb y (getD roots j 0) || bitAt buffer (getD first j 0 + y)
 
   -- the mark of its send
-  sent-mark : bitAt buffer (getD first j 0 + y) ≡ markedIn tb buffer j y
+  sent-mark : bitAt buffer (getD first j 0 + y) ≡ markedIn t″ buffer j y
   unfolding markedIn
-  sent-mark = ap (λ (x : ℕ). bitAt buffer (x + y)) (first-read (w′ .lent) j (omega (arith, process-few (w′ .lent) j sender-known)))
+  sent-mark = ap (λ (x : ℕ). bitAt buffer (x + y)) (first-read (passing″ .lent) j (omega (arith, process-few (passing″ .lent) j sender-known)))
 
   pub skips-unreached : reached ≡ false → Passing table first roots start buffer marked m sends receipts (k - 1)
   unfolding RestsAt
-  skips-unreached e = skips w′ (x .receipt .more) (λ _. ⊎-elim from-root is-marked)
+  skips-unreached e = skips passing″ (x .receipt .more) (λ _. ⊎-elim from-root is-marked)
     where
       not-root : eqb y (getD roots j 0) ≡ false
       not-root = or-false-left (eqb y (getD roots j 0)) (bitAt buffer (getD first j 0 + y)) e
 
-      not-marked : markedIn tb buffer j y ≡ false
+      not-marked : markedIn t″ buffer j y ≡ false
       not-marked = sym sent-mark ∙ or-false-right (eqb y (getD roots j 0)) (bitAt buffer (getD first j 0 + y)) e
 
-      from-root : msg .sent ≡ getD roots (msg .sender) 0 → markedIn tb buffer (msg .receiver) (msg .received) ≡ true
+      from-root : here″ .sent ≡ getD roots (here″ .sender) 0 → markedIn t″ buffer (here″ .receiver) (here″ .received) ≡ true
       from-root h = absurd (false≢true (sym not-root ∙ eq-eqb y (getD roots j 0) (y-is ∙ h ∙ ap (λ (p : ℕ). getD roots p 0) (sym j-is))))
 
-      is-marked : markedIn tb buffer (msg .sender) (msg .sent) ≡ true → markedIn tb buffer (msg .receiver) (msg .received) ≡ true
-      is-marked h = absurd (false≢true (sym not-marked ∙ ap₂ (markedIn tb buffer) j-is y-is ∙ h))
+      is-marked : markedIn t″ buffer (here″ .sender) (here″ .sent) ≡ true → markedIn t″ buffer (here″ .receiver) (here″ .received) ≡ true
+      is-marked h = absurd (false≢true (sym not-marked ∙ ap₂ (markedIn t″ buffer) j-is y-is ∙ h))
 
   -- ---- it leads to a new state
   module _ (from-there : reached ≡ true) where
-    received-here : 0 < msg .received
+    received-here : 0 < here″ .received
     received-here = omega (arith, r-is (x .receipt), x .delivered)
 
-    message-reachable : Reachable tb roots (state (msg .receiver) (msg .received))
+    message-reachable : Reachable t″ roots (state (here″ .receiver) (here″ .received))
     message-reachable = by-root (eqb y (getD roots j 0)) refl from-there
       where
         by-root : (a : Bool) → eqb y (getD roots j 0) ≡ a → (a || bitAt buffer (getD first j 0 + y)) ≡ true
-            → Reachable tb roots (state (msg .receiver) (msg .received))
+            → Reachable t″ roots (state (here″ .receiver) (here″ .received))
         by-root true e _ =
-            let at : msg .sent ≡ getD roots (msg .sender) 0 = sym y-is ∙ eqb-true y (getD roots j 0) e ∙ ap (λ (p : ℕ). getD roots p 0) j-is in
-            reach-root (msg .sender) (msg .sent) (good-msg .sender-known) (omega (arith, at)) (omega (arith, good-msg .sent-below))
+            let at : here″ .sent ≡ getD roots (here″ .sender) 0 = sym y-is ∙ eqb-true y (getD roots j 0) e ∙ ap (λ (p : ℕ). getD roots p 0) j-is in
+            reach-root (here″ .sender) (here″ .sent) (good-here″ .sender-known) (omega (arith, at)) (omega (arith, good-here″ .sent-below))
             (received (k - 1) received-here)
         by-root false _ e =
             ⊎-elim
-            (λ (h : markedIn tb buffer (msg .receiver) (msg .received) ≡ true).
+            (λ (h : markedIn t″ buffer (here″ .receiver) (here″ .received) ≡ true).
             absurd (false≢true (sym (receipt-mark (x .receipt) (x .bit-read) ∙ x .unmarked) ∙ h)))
-            (λ (h : Reachable tb roots (state (msg .receiver) (msg .received))). h)
-            (w′ .ready .follows (k - 1) received-here (sym (ap₂ (markedIn tb buffer) j-is y-is) ∙ sym sent-mark ∙ e))
+            (λ (h : Reachable t″ roots (state (here″ .receiver) (here″ .received))). h)
+            (passing″ .ready .follows (k - 1) received-here (sym (ap₂ (markedIn t″ buffer) j-is y-is) ∙ sym sent-mark ∙ e))
 
-    receipt-reachable : Reachable tb roots (state i r)
+    receipt-reachable : Reachable t″ roots (state i r)
     receipt-reachable =
-        subst⁻¹ (λ (p : ℕ). Reachable tb roots (state p r)) (i-is (x .receipt))
-        (subst⁻¹ (λ (n : ℕ). Reachable tb roots (state (msg .receiver) n)) (r-is (x .receipt)) message-reachable)
+        subst⁻¹ (λ (p : ℕ). Reachable t″ roots (state p r)) (i-is (x .receipt))
+        (subst⁻¹ (λ (n : ℕ). Reachable t″ roots (state (here″ .receiver) n)) (r-is (x .receipt)) message-reachable)
 
     module _ {e : ℕ} (e-is : e ≡ getD first (i + 1) 0 + 0) where
-      abbrev known : i < processCount tb
+      abbrev known : i < processCount t″
       known = receiver-known (x .receipt)
 
-      end-is : e ≡ firstBit (tb .counts) (suc i)
-      end-is = omega (arith, e-is, row-end (w′ .lent) i known)
+      end-is : e ≡ firstBit (t″ .counts) (suc i)
+      end-is = omega (arith, e-is, row-end (passing″ .lent) i known)
 
       pub end-in : e ≤ 8 * length buffer
-      end-in = omega (arith, e-is, row-room (w′ .lent) i known)
+      end-in = omega (arith, e-is, row-room (passing″ .lent) i known)
 
       pub row-ready : Onwards b e buffer
       row-ready =
           subst⁻¹ (λ (x : ℕ). Onwards x e buffer) (bit-is (x .receipt) (x .bit-read))
-          (subst⁻¹ (λ (x : ℕ). Onwards (firstBit (tb .counts) i + r) x buffer) end-is (row-onwards tb i known r (w′ .ready)))
+          (subst⁻¹ (λ (x : ℕ). Onwards (firstBit (t″ .counts) i + r) x buffer) end-is (row-onwards t″ i known r (passing″ .ready)))
 
       -- its receipt is marked, and the states behind it
       pub pass-marks : {after : List ℕ} → SetFrom b e buffer after → Passing table first roots start after true m sends receipts (k - 1)
       unfolding markedIn countOf
       pass-marks {after} raw = record {
-        read = w′ .read;
-        lent = lent-kept (w′ .lent) (grows .kept);
-        within = omega (arith, w′ .within);
-        grown = grown-both (w′ .grown) grows;
-        ready = row-makes-ready tb wf roots i known r row (w′ .ready) grows;
+        read = passing″ .read;
+        lent = lent-kept (passing″ .lent) (grows .kept);
+        within = omega (arith, passing″ .within);
+        grown = grown-both (passing″ .grown) grows;
+        ready = row-makes-ready t″ wf roots i known r row (passing″ .ready) grows;
         at-rest = λ f. absurd (true≢false f);
-        falls = λ _. omega (arith, step, unset-fewer start buffer (bits tb) (λ x _. w′ .grown .stay x));
+        falls = λ _. omega (arith, step, unset-fewer start buffer (bits t″) (λ x _. passing″ .grown .stay x));
       }
         where
-          wf : WellFormed tb
-          wf = facts table (w′ .lent .accepted) .well-formed
+          wf : WellFormed t″
+          wf = facts table (passing″ .lent .accepted) .well-formed
 
-          row : SetFrom (firstBit (tb .counts) i + r) (firstBit (tb .counts) (suc i)) buffer after
+          row : SetFrom (firstBit (t″ .counts) i + r) (firstBit (t″ .counts) (suc i)) buffer after
           row =
-              subst (λ (x : ℕ). SetFrom x (firstBit (tb .counts) (suc i)) buffer after) (bit-is (x .receipt) (x .bit-read))
+              subst (λ (x : ℕ). SetFrom x (firstBit (t″ .counts) (suc i)) buffer after) (bit-is (x .receipt) (x .bit-read))
               (subst (λ (x : ℕ). SetFrom b x buffer after) end-is raw)
 
-          grows : Grown tb roots buffer after
-          grows = row-grows tb wf roots i known r row receipt-reachable
+          grows : Grown t″ roots buffer after
+          grows = row-grows t″ wf roots i known r row receipt-reachable
 
           now-set : bitAt after b ≡ true
-          now-set = ap (bitAt after) (bit-is (x .receipt) (x .bit-read)) ∙ row-here tb i known r row r (le-refl r) (received-there (x .receipt))
+          now-set = ap (bitAt after) (bit-is (x .receipt) (x .bit-read)) ∙ row-here t″ i known r row r (le-refl r) (received-there (x .receipt))
 
-          in-bits : b < bits tb
+          in-bits : b < bits t″
           in-bits =
-              omega (arith, bit-is (x .receipt) (x .bit-read), first-apart (tb .counts) i (processCount tb) known, received-there (x .receipt))
+              omega (arith, bit-is (x .receipt) (x .bit-read), first-apart (t″ .counts) i (processCount t″) known, received-there (x .receipt))
 
-          step : unset after (bits tb) < unset buffer (bits tb)
-          step = unset-falls buffer after (bits tb) (λ x _. row-stay tb i known r row x) b in-bits (x .unmarked) now-set
+          step : unset after (bits t″) < unset buffer (bits t″)
+          step = unset-falls buffer after (bits t″) (λ x _. row-stay t″ i known r row x) b in-bits (x .unmarked) now-set
 
 -- ---- the marks that a buffer holds
 module _ (t : Table) (buffer : List ℕ) where
