@@ -58,6 +58,12 @@ differs docs/refusals.txt '/^17 /{h;d;};/^18 /G' 'keeper_line_under: 18 '
 differs docs/refusals.txt '/^18 /s/above/not below/' CEILING_TOO_HIGH
 differs docs/refusals.txt '/^keeper_line_under /s/17 18/18 17/' keeper_line_under
 differs docs/refusals.txt '/^keeper_line_under /s/18 //' keeper_line_under
+differs docs/refusals.txt '/^19 /{h;d;};/^16 /G' 'keeper_marked_line: 16 '
+differs docs/refusals.txt '/^19 /{h;d;};/^15 /G' MARKS_TOO_SHORT
+differs docs/refusals.txt '/^19 /s/, rounded up//' MARKS_TOO_SHORT
+differs docs/refusals.txt '/^keeper_marked_line /s/18 19/19 18/' keeper_marked_line
+differs docs/refusals.txt '/^keeper_marked_line /s/19 //' keeper_marked_line
+differs docs/refusals.txt '/^keeper_marked_line /d' keeper_marked_line
 
 # The headers.
 differs include/keeper.h 's/NUMBER_TOO_HIGH = 8/NUMBER_TOO_HIGH = 9/;t;s/NUMBER_TOO_HIGH = 9/NUMBER_TOO_HIGH = 8/' KEEPER_SEND_NUMBER_TOO_HIGH
@@ -74,6 +80,10 @@ differs include/keeper.h "s/Checks: the table's, 12, 16/Checks: the table's, 16/
 differs include/keeper.h "s/Checks: the table's, 17, 18, 16/Checks: the table's, 12, 17, 18, 16/" keeper_line_under
 differs include/keeper.h '/KEEPER_WRONG_CEILING_COUNT = /{h;d;};/KEEPER_CEILING_TOO_HIGH = /G' KEEPER_WRONG_CEILING_COUNT
 differs include/keeper.h 's/case KEEPER_CEILING_TOO_HIGH: /case KEEPER_WRONG_CEILING_COUNT: /' 'keeper_refusal_words.*KEEPER_WRONG_CEILING_COUNT'
+differs include/keeper.h "s/Checks: the table's, 17, 18, 19, 16/Checks: the table's, 17, 18, 16/" keeper_marked_line
+differs include/keeper.h '/KEEPER_MARKS_TOO_SHORT = /{N;h;d;};/KEEPER_SCRATCH_TOO_SHORT = /G' KEEPER_MARKS_TOO_SHORT
+differs include/keeper.h 's/(sum of counts + N) \/ 8$/(sum of counts) \/ 8/' KEEPER_MARKS_TOO_SHORT
+differs include/keeper.h 's/return "the mark buffer is shorter/return "the mark buffer is smaller/' 'keeper_refusal_words.*KEEPER_MARKS_TOO_SHORT'
 differs include/keeper.h "s/Checks: the table's, 15, 16/Checks: the table's, 16, 15/" keeper_keep_sheet
 differs include/keeper.h "s/ Checks: the table's\\. / /" keeper_check_table
 differs include/run_table.h 's/RUN_TABLE_TOO_SHORT = 1/RUN_TABLE_TOO_SHORT = 2/' RUN_TABLE_TOO_SHORT
@@ -101,6 +111,9 @@ differs man/keeper.3 '/^\.It 4 Dv/{N;h;d;};/^\.It 5 Dv/{N;G;}' KEEPER_WRONG_LENG
 differs man/keeper.3 "s/^Checks: the table's, 10, 13, 14/Checks: the table's, 10, 14/" keeper_save
 differs man/keeper.3 '/^\.It 17 Dv/{N;h;d;};/^\.It 16 Dv/{N;G;}' KEEPER_WRONG_CEILING_COUNT
 differs man/keeper.3 "s/^Checks: the table's, 17, 18, 16/Checks: the table's, 18, 17, 16/" keeper_line_under
+differs man/keeper.3 '/^\.It 19 Dv/{N;h;d;};/^\.It 15 Dv/{N;G;}' KEEPER_MARKS_TOO_SHORT
+differs man/keeper.3 's/^The mark buffer is shorter than (sum of counts + N)/The mark buffer is shorter than (sum of counts)/' KEEPER_MARKS_TOO_SHORT
+differs man/keeper.3 "s/^Checks: the table's, 17, 18, 19, 16/Checks: the table's, 17, 18, 16, 19/" keeper_marked_line
 differs man/run_table_check.3 '/^\.It 3$/{N;d;}' RUN_TABLE_TOO_MANY_MESSAGES
 differs man/run_table_check.3 's/^\.Dv RUN_TABLE_WRONG_LENGTH/.Dv RUN_TABLE_LENGTH/' RUN_TABLE_WRONG_LENGTH
 differs man/run_table_check.3 '/^\.It 8$/{N;h;d;};/^\.It 9$/{N;G;}' RUN_TABLE_SEND_NUMBER_TOO_HIGH
@@ -116,6 +129,10 @@ differs docs/MANUAL.md '/^| 14 |/d' '14 (call)'
 differs docs/MANUAL.md '/^| 12 |/{h;d;};/^| 13 |/G' '12 (call)'
 differs docs/MANUAL.md '/^| 17 |/{h;d;};/^| 16 |/G' '17 (call)'
 differs docs/MANUAL.md '/^| `uint32_t keeper_line_under(/d' keeper_line_under
+differs docs/MANUAL.md '/^| 19 |/{h;d;};/^| 16 |/G' '19 (call)'
+differs docs/MANUAL.md '/^| 19 |/s/, rounded up//' '19 (call)'
+differs docs/MANUAL.md '/^| `uint32_t keeper_marked_line(/d' keeper_marked_line
+differs docs/MANUAL.md '/^| `uint32_t keeper_marked_line(/s/18, 19, 16/18, 16/' keeper_marked_line
 differs docs/MANUAL.md '/^| `uint32_t keeper_send(/s/10, 11, 14/10, 14/' keeper_send
 differs docs/MANUAL.md '/^| `uint32_t keeper_listing(/s/| 16 |/| |/' keeper_listing
 
@@ -130,6 +147,9 @@ differs bindings/rust/src/refusal.rs '/^    WrongLength = /{h;d;};/^    CountOut
 changed bindings/rust/src/lib.rs "s/^\\/\\/\\/ Checks: the table's, 12, 16/\\/\\/\\/ Checks: the table's, 16/"
 differs bindings/rust/src/refusal.rs '/^    WrongCeilingCount = /{h;d;};/^    AnswerTooShort = /G' WrongCeilingCount
 changed bindings/rust/src/lib.rs "s/^\\/\\/\\/ Checks: the table's, 17, 18, 16/\\/\\/\\/ Checks: the table's, 18, 16/"
+differs bindings/rust/src/refusal.rs '/^    MarksTooShort = /{h;d;};/^    ScratchTooShort = /G' MarksTooShort
+differs bindings/rust/src/refusal.rs 's/MarksTooShort = 19, call/MarksTooShort = 19, table/' MarksTooShort
+changed bindings/rust/src/lib.rs "s/^\\/\\/\\/ Checks: the table's, 17, 18, 19, 16/\\/\\/\\/ Checks: the table's, 19, 17, 18, 16/"
 changed bindings/rust/src/listing_text.rs '/^\/\/\/ Checks: 16/d'
 
 # The second implementation, and the definition that is proved.

@@ -103,6 +103,7 @@ refusals! {
     BadList = 13, call, "a save's list has a position of M or above, or not above the one before it, \
                          or of a message not waiting for that process";
     TableFull = 14, call, "a send meets M = 4,096, or a save meets a count of 4,096";
+    MarksTooShort = 19, call, "the mark buffer is shorter than (sum of counts + N) / 8 bytes, rounded up";
     ScratchTooShort = 15, call, "the scratch is shorter than N × N numbers";
     AnswerTooShort = 16, call, "the answer buffer is shorter than the answer";
 }
