@@ -4,12 +4,12 @@
 
    What holds of every call:
 
-   Lent memory. Each table, list, scratch and answer buffer is a pointer and a length. The lengths of
-   tables and answer buffers count bytes, those of lists and scratches 16-bit numbers. Where a length is
-   0 its pointer may be NULL; where it is not, the pointer must point to that much. `written` is never
-   NULL. No two things lent to one call may overlap, `*written` included. Tables and answer buffers may
-   stand at any address; lists, scratches and `written` at one that suits their type. A call touches
-   nothing but what it is lent, and only reads tables and lists.
+   Lent memory. Each table, list, scratch, mark buffer and answer buffer is a pointer and a length. The
+   lengths of tables, mark buffers and answer buffers count bytes, those of lists and scratches 16-bit
+   numbers. Where a length is 0 its pointer may be NULL; where it is not, the pointer must point to that
+   much. `written` is never NULL. No two things lent to one call may overlap, `*written` included. Tables,
+   mark buffers and answer buffers may stand at any address; lists, scratches and `written` at one that
+   suits their type. A call touches nothing but what it is lent, and only reads tables and lists.
 
    The number. A call returns KEEPER_OK, or the number of the first of its checks that catches. It makes
    them in the checking order, in which enum keeper_refusal lists them, and each covers the whole table,
@@ -20,8 +20,8 @@
    what lies beyond the answer in the buffer is unchanged. The numbers of an answer have 16 bits, low
    byte first.
 
-   Refusal. Nothing lent is changed, neither `*written` nor the answer buffer, in any byte. There is one
-   exception, which stands at keeper_keep_sheet.
+   Refusal. Nothing lent is changed, neither `*written` nor the answer buffer nor the marks, in any byte.
+   There is one exception, which stands at keeper_keep_sheet.
 
    What a call returns and writes, that it touches nothing else and that it always returns: all this is
    proved, for any contents and lengths, given that what is lent is there, does not overlap and is left
@@ -73,6 +73,8 @@ enum keeper_refusal {
                                               the one before it, or of a message not waiting for that
                                               process */
     KEEPER_TABLE_FULL = 14,                /* a send meets M = 4,096, or a save meets a count of 4,096 */
+    KEEPER_MARKS_TOO_SHORT = 19,           /* the mark buffer is shorter than (sum of counts + N) / 8
+                                              bytes, rounded up */
     KEEPER_SCRATCH_TOO_SHORT = 15,         /* the scratch is shorter than N * N numbers */
     KEEPER_ANSWER_TOO_SHORT = 16           /* the answer buffer is shorter than the answer */
 };
@@ -91,6 +93,8 @@ static inline const char *keeper_refusal_words(uint32_t refusal)
         return "a save's list has a position of M or above, or not above the one before it, "
                "or of a message not waiting for that process";
     case KEEPER_TABLE_FULL: return "a send meets M = 4,096, or a save meets a count of 4,096";
+    case KEEPER_MARKS_TOO_SHORT:
+        return "the mark buffer is shorter than (sum of counts + N) / 8 bytes, rounded up";
     case KEEPER_SCRATCH_TOO_SHORT: return "the scratch is shorter than N * N numbers";
     case KEEPER_ANSWER_TOO_SHORT: return "the answer buffer is shorter than the answer";
     default: return run_table_refusal_words(refusal); /* the table's checks, 0, and what is not known */
@@ -102,16 +106,19 @@ static inline const char *keeper_refusal_words(uint32_t refusal)
 #define KEEPER_MOST_MESSAGES 4096
 #define KEEPER_MOST_CHECKPOINTS 4096
 
-/* Room that is enough for every table, so that check 15 or 16 never catches. */
+/* Room that is enough for every table, so that check 15, 16 or 19 never catches. */
 #define KEEPER_LARGEST_TABLE 32836  /* bytes: the answer of a step */
 #define KEEPER_LARGEST_LINE 64      /* bytes: a line */
+#define KEEPER_MARKS_ROOM 16388     /* bytes: the marks of keeper_marked_line */
 #define KEEPER_SCRATCH_NUMBERS 1024 /* 16-bit numbers: the scratch of a keep sheet */
 #define KEEPER_SHEET_ROOM 12292     /* bytes: a keep sheet, of at most 1,024 checkpoints and 4,096 messages */
 
-/* Exact sizes, for n processes, m messages, k kept checkpoints and q kept messages: in bytes, but
-   KEEPER_SCRATCH_SIZE in 16-bit numbers. They are constants where their arguments are. */
+/* Exact sizes, for n processes, m messages, the sum of the n counts, k kept checkpoints and q kept
+   messages: in bytes, but KEEPER_SCRATCH_SIZE in 16-bit numbers. They are constants where their arguments
+   are. */
 #define KEEPER_TABLE_SIZE(n, m) (4 + 2 * (size_t)(n) + 8 * (size_t)(m))
 #define KEEPER_LINE_SIZE(n) (2 * (size_t)(n))
+#define KEEPER_MARKS_SIZE(sum, n) (((size_t)(sum) + (size_t)(n) + 7) / 8)
 #define KEEPER_SCRATCH_SIZE(n) ((size_t)(n) * (size_t)(n))
 #define KEEPER_SHEET_SIZE(k, q) (4 + 4 * (size_t)(k) + 2 * (size_t)(q))
 
@@ -175,6 +182,31 @@ uint32_t keeper_line_of_set(const uint8_t *table, size_t length, uint32_t set, u
    keeper_line_of_set, byte for byte. Checks: the table's, 17, 18, 16. The answer is N numbers by process, 2N bytes. Stack: 192. */
 uint32_t keeper_line_under(const uint8_t *table, size_t length, const uint16_t *ceilings,
                            size_t ceilings_length, uint8_t *answer, size_t room, size_t *written);
+
+/* The line under a list of ceilings by the published marking method: the rollback propagation algorithm,
+   Figure 3 of Wang and Fuchs, "Optimal Message Log Reclamation for Uncoordinated Checkpointing". Its
+   checkpoint graph has the checkpoints of all processes, and at the end of each process its virtual
+   checkpoint, whose number is the count. An edge leads from each of them to the next of its process, and
+   for each received message one from checkpoint y of its sender to checkpoint r of its receiver, y being
+   its send number and r its receipt number; a waiting message has none.
+
+   The root set has one of them for each process, at first the one at the ceiling. Nothing is marked at
+   first. All that is strictly reachable from the root set, by one edge or more, is marked. While one of the
+   roots is marked, each marked root gives way to the latest of its process that is not marked, and all that
+   is strictly reachable from the new root set is marked too; marks stay. The root set is then the line.
+
+   It is proved that this ends, and with the line of keeper_line_under, byte for byte, for every table and
+   all ceilings: two methods, one answer. What is said there of ceilings and of what may be discarded holds
+   here too.
+
+   The marks stand in the buffer lent: one bit for each checkpoint, the virtual ones included, which is
+   KEEPER_MARKS_SIZE(sum of the counts, N) bytes. The buffer may be longer. What stands in it before makes no
+   difference. Under KEEPER_OK these first bytes are 0, and those beyond them are unchanged. Under a refusal,
+   16 and 19 included, all are unchanged. Checks: the table's, 17, 18, 19, 16. The answer is N numbers by
+   process, 2N bytes. Stack: 000. */
+uint32_t keeper_marked_line(const uint8_t *table, size_t length, const uint16_t *ceilings,
+                            size_t ceilings_length, uint8_t *marks, size_t marks_length, uint8_t *answer,
+                            size_t room, size_t *written);
 
 /* Steps. The answer of each is an accepted table again. It is written to another buffer than the table
    is read from. */
