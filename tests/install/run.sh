@@ -61,6 +61,7 @@ keeper_keep_sheet keeper
 keeper_line_of_set keeper
 keeper_line_under keeper
 keeper_listing keeper
+keeper_marked_line keeper
 keeper_put_u16 keeper
 keeper_recovery_line keeper
 keeper_refusal_words keeper
