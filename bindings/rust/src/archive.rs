@@ -35,6 +35,17 @@ extern "C" {
         room: usize,
         written: *mut usize,
     ) -> u32;
+    pub fn keeper_marked_line(
+        table: *const u8,
+        length: usize,
+        ceilings: *const u16,
+        ceilings_length: usize,
+        marks: *mut u8,
+        marks_length: usize,
+        answer: *mut u8,
+        room: usize,
+        written: *mut usize,
+    ) -> u32;
     pub fn keeper_send(
         table: *const u8,
         length: usize,

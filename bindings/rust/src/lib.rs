@@ -101,8 +101,13 @@ pub const MOST_CHECKPOINTS: usize = 4_096;
 pub const LARGEST_TABLE: usize = 4 + 2 * MOST_PROCESSES + 8 * MOST_MESSAGES;
 
 /// The bytes of the largest line: enough for the answer of
-/// [`recovery_line`], [`line_of_set`] and [`line_under`].
+/// [`recovery_line`], [`line_of_set`], [`line_under`] and [`marked_line`].
 pub const LARGEST_LINE: usize = 2 * MOST_PROCESSES;
+
+/// The bytes of marks that are enough for [`marked_line`] on every table, one bit
+/// for each checkpoint and virtual checkpoint: 16,388. [`marks_size`] says how
+/// many one table needs.
+pub const MARKS_ROOM: usize = marks_bytes(MOST_PROCESSES * MOST_CHECKPOINTS, MOST_PROCESSES);
 
 /// The numbers of scratch that are enough for [`keep_sheet`] on every table:
 /// N × N for N = 32.
@@ -250,6 +255,96 @@ pub fn line_under(table: &[u8], ceilings: &[u16], answer: &mut [u8]) -> Result<u
         )
     };
     outcome(number, written)
+}
+
+/// The line under a list of ceilings by the published marking method, the
+/// rollback propagation algorithm (Figure 3 of Wang and Fuchs, *Optimal Message
+/// Log Reclamation for Uncoordinated Checkpointing*). It is proved to be the
+/// answer of [`line_under`], byte for byte, for every table and all ceilings.
+///
+/// The method works on the checkpoint graph: all checkpoints, the virtual ones
+/// included; an edge from each to the next of its process, and for each received
+/// message one from the checkpoint before its send to the checkpoint after its
+/// receipt. The root set starts at the ceilings, and all that is reachable from it
+/// by one edge or more is marked. While a root is marked, each marked root gives
+/// way to the latest unmarked checkpoint of its process, and what is reachable
+/// from the new roots is marked too. The last root set is the line.
+///
+/// `marks` is lent for the marks: [`marks_size`] bytes or more, with whatever
+/// stands in them; [`MARKS_ROOM`] are always enough. On success the first
+/// [`marks_size`] bytes are 0, and those beyond are unchanged. On a refusal all
+/// are unchanged. The answer has the form of [`recovery_line`]'s.
+///
+/// Checks: the table's, 17, 18, 19, 16.
+///
+/// ```
+/// # let example_a: Vec<u8> = [2u16, 5, 3, 3, 0, 0, 1, 0, 1, 1, 0, 2, 1, 2, 1, 2, 0, 1, 0, 2, 1, 2, 0, 0]
+/// #     .iter().flat_map(|number| number.to_le_bytes()).collect();
+/// use keeper::{marked_line, marks_size, Refusal};
+/// let mut line = [0; keeper::LARGEST_LINE];
+/// let mut marks = vec![0; marks_size(&example_a)?];
+/// // Process 1 from before its checkpoint 2; then process 0 from before its checkpoint 1.
+/// assert_eq!(marked_line(&example_a, &[3, 1], &mut marks, &mut line), Ok(4));
+/// assert_eq!(line[..4], [1, 0, 1, 0]);
+/// assert_eq!(marked_line(&example_a, &[0, 3], &mut marks, &mut line), Ok(4));
+/// assert_eq!(line[..4], [0, 0, 1, 0]);
+/// // A longer buffer, with other bytes in it: those of the marks are 0 afterwards.
+/// let mut marks = [0xff; 4];
+/// assert_eq!(marked_line(&example_a, &[3, 2], &mut marks, &mut line), Ok(4));
+/// assert_eq!((&line[..4], marks), (&[3, 0, 2, 0][..], [0, 0xff, 0xff, 0xff]));
+/// // A buffer with no room for the eight marks of example A.
+/// assert_eq!(marked_line(&example_a, &[3, 2], &mut [], &mut line), Err(Refusal::MarksTooShort));
+/// # Ok::<(), Refusal>(())
+/// ```
+pub fn marked_line(
+    table: &[u8],
+    ceilings: &[u16],
+    marks: &mut [u8],
+    answer: &mut [u8],
+) -> Result<usize, Refusal> {
+    let mut written = 0;
+    // SAFETY: see above `check_table`.
+    let number = unsafe {
+        archive::keeper_marked_line(
+            table.as_ptr(),
+            table.len(),
+            ceilings.as_ptr(),
+            ceilings.len(),
+            marks.as_mut_ptr(),
+            marks.len(),
+            answer.as_mut_ptr(),
+            answer.len(),
+            &mut written,
+        )
+    };
+    outcome(number, written)
+}
+
+/// The bytes of marks that [`marked_line`] needs for a table: one bit for each
+/// checkpoint and for the virtual checkpoint of each process, (sum of counts + N)
+/// / 8 bytes, rounded up; [`MARKS_ROOM`] at most. Refused as by [`check_table`].
+///
+/// ```
+/// # let example_a: Vec<u8> = [2u16, 5, 3, 3, 0, 0, 1, 0, 1, 1, 0, 2, 1, 2, 1, 2, 0, 1, 0, 2, 1, 2, 0, 0]
+/// #     .iter().flat_map(|number| number.to_le_bytes()).collect();
+/// use keeper::{marks_size, Refusal};
+/// assert_eq!(marks_size(&example_a), Ok(1)); // 3 + 3 + 2 bits
+/// assert_eq!(marks_size(&[1, 0, 0, 0, 8, 0]), Ok(2)); // 8 + 1 bits
+/// assert_eq!(marks_size(&example_a[..47]), Err(Refusal::WrongLength));
+/// ```
+pub fn marks_size(table: &[u8]) -> Result<usize, Refusal> {
+    check_table(table)?;
+    // An accepted table has N at its front and N counts behind N and M.
+    let number_at =
+        |place: usize| usize::from(u16::from_le_bytes([table[place], table[place + 1]]));
+    let n = number_at(0);
+    let sum = (0..n).map(|process| number_at(4 + 2 * process)).sum();
+    Ok(marks_bytes(sum, n))
+}
+
+/// The bytes of the marks of `n` processes whose counts have that sum.
+const fn marks_bytes(sum: usize, n: usize) -> usize {
+    (sum + n + 7) / 8
 }
 
 /// The table after a send: a message from the latest checkpoint of `from`,
@@ -409,6 +504,8 @@ mod tests {
     #[test]
     fn sizes() {
         assert_eq!(LARGEST_TABLE, 32_836);
+        assert_eq!(LARGEST_LINE, 64);
+        assert_eq!(MARKS_ROOM, 16_388);
         assert_eq!(SCRATCH_NUMBERS, 1_024);
         assert_eq!(SHEET_ROOM, 12_292);
     }

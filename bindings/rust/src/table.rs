@@ -232,6 +232,35 @@ impl Table {
         line(|answer| crate::line_under(&self.bytes, ceilings, answer))
     }
 
+    /// The line under a list of ceilings by the published marking method, as
+    /// [`marked_line`](crate::marked_line): the answer of [`Table::line_under`],
+    /// which is proved. Its marks stand in the buffer lent, of
+    /// [`Table::marks_size`] bytes or more; these bytes are 0 afterwards, and those
+    /// beyond as they were. Refused by 17 and 18, as `line_under`, and by 19 where
+    /// the buffer is shorter; on a refusal the marks are as they were.
+    ///
+    /// ```
+    /// # use keeper::{Refusal, Table};
+    /// # let example_a: Vec<u8> = [2u16, 5, 3, 3, 0, 0, 1, 0, 1, 1, 0, 2, 1, 2, 1, 2, 0, 1, 0, 2, 1, 2, 0, 0]
+    /// #     .iter().flat_map(|number| number.to_le_bytes()).collect();
+    /// let table = Table::from_bytes(&example_a[..])?;
+    /// let mut marks = vec![0; table.marks_size()];
+    /// assert_eq!(*table.marked_line(&[0, 3], &mut marks)?, [0, 1]);
+    /// assert_eq!(table.marked_line(&[2, 2], &mut marks)?, table.recovery_line());
+    /// assert_eq!(table.marked_line(&[4, 0], &mut marks), Err(Refusal::CeilingTooHigh));
+    /// assert_eq!(table.marked_line(&[2, 2], &mut []), Err(Refusal::MarksTooShort));
+    /// # Ok::<(), Refusal>(())
+    /// ```
+    pub fn marked_line(&self, ceilings: &[u16], marks: &mut [u8]) -> Result<Line, Refusal> {
+        line(|answer| crate::marked_line(&self.bytes, ceilings, marks, answer))
+    }
+
+    /// The bytes of marks that [`Table::marked_line`] needs, as
+    /// [`marks_size`](crate::marks_size).
+    pub fn marks_size(&self) -> usize {
+        crate::marks_size(&self.bytes).expect(NEVER_REFUSED)
+    }
+
     /// Sends a message from one process to another, and answers its position.
     /// Refused by 10, 11 and 14, as [`send`](crate::send).
     ///
