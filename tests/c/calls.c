@@ -70,11 +70,11 @@ static int holds(const struct lent *l, const void *contents, size_t count)
 }
 
 /* ---- one call */
-enum call { CHECK_TABLE, RECOVERY_LINE, LINE_OF_SET, LINE_UNDER, SEND, SAVE, FALL_BACK, KEEP_SHEET, LISTING };
+enum call { CHECK_TABLE, RECOVERY_LINE, LINE_OF_SET, LINE_UNDER, MARKED_LINE, SEND, SAVE, FALL_BACK, KEEP_SHEET, LISTING };
 
 static const char *const names[] = {
-    "keeper_check_table", "keeper_recovery_line", "keeper_line_of_set", "keeper_line_under", "keeper_send",
-    "keeper_save", "keeper_fall_back", "keeper_keep_sheet", "keeper_listing",
+    "keeper_check_table", "keeper_recovery_line", "keeper_line_of_set", "keeper_line_under", "keeper_marked_line",
+    "keeper_send", "keeper_save", "keeper_fall_back", "keeper_keep_sheet", "keeper_listing",
 };
 
 struct question {
@@ -87,20 +87,22 @@ struct question {
     const uint16_t *list; /* a save's, or one of ceilings */
     size_t list_length;
     size_t numbers;
+    size_t marks; /* the length of the mark buffer */
     size_t room;
 };
 
-/* What must come back: on KEEPER_OK the bytes; and the lines where the scratch holds them. */
+/* What must come back: on KEEPER_OK the bytes, and the marks zero; and the lines where the scratch holds them. */
 struct answer {
     uint32_t number;
     const uint8_t *bytes;
     size_t size;
     const uint16_t *lines;
     size_t line_numbers;
+    size_t marks_size;
 };
 
-static uint32_t call(const struct question *q, uint8_t *table, uint16_t *list, uint16_t *scratch, uint8_t *answer,
-                     size_t *written)
+static uint32_t call(const struct question *q, uint8_t *table, uint16_t *list, uint16_t *scratch, uint8_t *marks,
+                     uint8_t *answer, size_t *written)
 {
     switch (q->call) {
     case CHECK_TABLE:
@@ -111,6 +113,8 @@ static uint32_t call(const struct question *q, uint8_t *table, uint16_t *list, u
         return keeper_line_of_set(table, q->length, q->set, answer, q->room, written);
     case LINE_UNDER:
         return keeper_line_under(table, q->length, list, q->list_length, answer, q->room, written);
+    case MARKED_LINE:
+        return keeper_marked_line(table, q->length, list, q->list_length, marks, q->marks, answer, q->room, written);
     case SEND:
         return keeper_send(table, q->length, q->from, q->to, answer, q->room, written);
     case SAVE:
@@ -131,22 +135,37 @@ static uint8_t *pointer(const struct lent *l, int null)
     return null && l->size == 0 ? NULL : l->at;
 }
 
+/* A mark buffer, at each place of eight in turn: before the call the fill stands in it, or with 0xA5 other bytes at
+   each place; `marks_after` has the same, to be changed to what is to stand there after the call. */
+static uint8_t marks_after[KEEPER_MARKS_ROOM + 6000];
+
+static struct lent lend_marks(size_t size, uint8_t fill)
+{
+    size_t i;
+    for (i = 0; i < size; i++)
+        marks_after[i] = fill == 0xA5 ? (uint8_t)(37 * i + (i >> 8)) : fill;
+    return lend(marks_after, size, asked % 8, fill);
+}
+
 /* Asks once; empty memory is NULL or not, and `fill` is what stands in all that the call might write. */
 static void ask_once(const char *what, const struct question *q, const struct answer *a, uint8_t fill, int null)
 {
     struct lent table = lend(q->table, q->length, 1, fill);
     struct lent list = lend(q->list, 2 * q->list_length, 0, fill);
     struct lent scratch = lend(NULL, 2 * q->numbers, 0, fill);
+    struct lent marks = lend_marks(q->call == MARKED_LINE ? q->marks : 0, fill);
     struct lent answer = lend(NULL, q->room, 1, fill);
     struct lent written = lend(NULL, sizeof(size_t), 0, fill);
     int ok = a->number == KEEPER_OK && q->call != CHECK_TABLE;
     int lines = q->call == KEEP_SHEET && (a->number == KEEPER_OK || a->number == KEEPER_ANSWER_TOO_SHORT);
     char where[200];
     uint32_t number = call(q, pointer(&table, null), (uint16_t *)(void *)pointer(&list, null),
-                           (uint16_t *)(void *)pointer(&scratch, null), pointer(&answer, null),
+                           (uint16_t *)(void *)pointer(&scratch, null), pointer(&marks, null), pointer(&answer, null),
                            (size_t *)(void *)written.at);
     asked++;
     snprintf(where, sizeof where, "%s: %s, room %lu", names[q->call], what, (unsigned long)q->room);
+    if (ok && q->call == MARKED_LINE)
+        memset(marks_after, 0, a->marks_size);
     same(where, number, a->number);
     if (!holds(&table, q->table, q->length))
         failed(where, "the table was changed, or its guards");
@@ -154,6 +173,8 @@ static void ask_once(const char *what, const struct question *q, const struct an
         failed(where, "the list was changed, or its guards");
     if (!holds(&scratch, a->lines, lines ? 2 * a->line_numbers : 0))
         failed(where, "the scratch does not hold what it should, or its guards were changed");
+    if (!holds(&marks, marks_after, marks.size))
+        failed(where, "the mark buffer does not hold what it should, or its guards were changed");
     if (!holds(&answer, a->bytes, ok ? a->size : 0))
         failed(where, "the answer buffer does not hold what it should, or its guards were changed");
     if (!holds(&written, &a->size, ok ? sizeof(size_t) : 0))
@@ -161,6 +182,7 @@ static void ask_once(const char *what, const struct question *q, const struct an
     free(table.all);
     free(list.all);
     free(scratch.all);
+    free(marks.all);
     free(answer.all);
     free(written.all);
 }
@@ -169,17 +191,45 @@ static void ask(const char *what, const struct question *q, const struct answer 
 {
     ask_once(what, q, a, 0xA5, 0);
     ask_once(what, q, a, 0x5A, 1);
+    if (q->call == MARKED_LINE) {
+        ask_once(what, q, a, 0x00, 0);
+        ask_once(what, q, a, 0xFF, 1);
+    }
 }
 
 /* A refusal, which changes nothing; for a keep sheet under 16, `ask` with the lines. */
 static void refuses(const char *what, const struct question *q, uint32_t number)
 {
-    struct answer a = { number, NULL, 0, NULL, 0 };
+    struct answer a = { number, NULL, 0, NULL, 0, 0 };
     ask(what, q, &a);
 }
 
+/* Marks that are exact, one byte more and much more; and 19 with one byte less, half as many and none, whatever room
+   there is. 16 leaves them as they are. */
+static void answers_with_marks(const char *what, struct question q, const struct answer *a)
+{
+    struct answer sixteen = *a;
+    size_t few[3], i;
+    sixteen.number = KEEPER_ANSWER_TOO_SHORT;
+    few[0] = a->marks_size - 1;
+    few[1] = a->marks_size / 2;
+    few[2] = 0;
+    for (i = 0; i < 3; i++) {
+        q.marks = few[i];
+        for (q.room = 0; q.room <= a->size; q.room += a->size)
+            refuses(what, &q, KEEPER_MARKS_TOO_SHORT);
+    }
+    for (i = 0; i < 3; i++) {
+        q.marks = a->marks_size + (i == 0 ? 0 : i == 1 ? 1 : 5000);
+        q.room = a->size;
+        ask(what, &q, a);
+        q.room = a->size - 1;
+        ask(what, &q, &sixteen);
+    }
+}
+
 /* A question that succeeds: with room that is exact, one byte more and much more; and 16 with one byte
-   less and with none. A scratch is exact, one number more, one less and none. */
+   less and with none. A scratch is exact, one number more, one less and none, and so are marks. */
 static void answers(const char *what, struct question q, struct answer a)
 {
     struct answer sixteen = a;
@@ -197,6 +247,10 @@ static void answers(const char *what, struct question q, struct answer a)
         ask(what, &q, &a);
         q.numbers = a.line_numbers;
     }
+    if (q.call == MARKED_LINE) {
+        answers_with_marks(what, q, &a);
+        q.marks = a.marks_size;
+    }
     q.room = a.size;
     ask(what, &q, &a);
     q.room = a.size + 1;
@@ -213,7 +267,8 @@ static void answers(const char *what, struct question q, struct answer a)
 
 static struct question about(enum call call, const uint8_t *table, size_t length)
 {
-    struct question q = { call, table, length, 0, 0, 1, NULL, 0, KEEPER_SCRATCH_NUMBERS, KEEPER_LISTING_ROOM };
+    struct question q = { call, table, length, 0, 0, 1, NULL, 0, KEEPER_SCRATCH_NUMBERS, KEEPER_MARKS_ROOM,
+                          KEEPER_LISTING_ROOM };
     return q;
 }
 
@@ -223,8 +278,19 @@ static uint8_t a_bytes[A_SIZE];
 static void of_numbers(const char *what, struct question q, const uint16_t *numbers, size_t count)
 {
     uint8_t bytes[128];
-    struct answer a = { KEEPER_OK, bytes, 0, NULL, 0 };
+    struct answer a = { KEEPER_OK, bytes, 0, NULL, 0, 0 };
     a.size = put_numbers(bytes, numbers, count);
+    answers(what, q, a);
+}
+
+/* A line by marking, whose marks take so many bytes. */
+static void of_marks(const char *what, struct question q, const uint16_t *numbers, size_t count, size_t marks_size)
+{
+    uint8_t bytes[128];
+    struct answer a = { KEEPER_OK, bytes, 0, NULL, 0, 0 };
+    a.size = put_numbers(bytes, numbers, count);
+    a.marks_size = marks_size;
+    q.call = MARKED_LINE;
     answers(what, q, a);
 }
 
@@ -272,28 +338,34 @@ static void example_a_ceilings(void)
     uint16_t list[2];
     struct question q = about(LINE_UNDER, a_bytes, A_SIZE);
     size_t i, k, l;
+    int c;
     q.list = list;
     q.list_length = 2;
     for (list[0] = 0; list[0] < 4; list[0]++)
-        for (list[1] = 0; list[1] < 4; list[1]++)
+        for (list[1] = 0; list[1] < 4; list[1]++) {
             of_numbers("A, ceilings at most the counts", q, lines[list[0]][list[1]], 2);
-    /* Both come before 16, and 17 before 18. */
-    for (q.room = 0; q.room <= 4; q.room += 2) {
-        q.list_length = 2;
-        for (i = 0; i < sizeof above / sizeof above[0]; i++) {
-            q.list = above[i];
-            refuses("A, a ceiling above its count", &q, KEEPER_CEILING_TOO_HIGH);
+            of_marks("A, ceilings at most the counts", q, lines[list[0]][list[1]], 2, 1);
         }
-        q.list = many;
-        for (k = 0; k < sizeof fills / sizeof fills[0]; k++) {
-            for (l = 0; l < sizeof many / sizeof many[0]; l++)
-                many[l] = fills[k];
-            for (l = 0; l < sizeof lengths / sizeof lengths[0]; l++) {
-                q.list_length = lengths[l];
-                refuses("A, ceilings of another number", &q, KEEPER_WRONG_CEILING_COUNT);
+    /* Both come before 19 and 16, and 17 before 18. */
+    for (c = 0; c < 3; c++)
+        for (q.room = 0; q.room <= 4; q.room += 2) {
+            q.call = c == 0 ? LINE_UNDER : MARKED_LINE;
+            q.marks = c == 2 ? 0 : 1;
+            q.list_length = 2;
+            for (i = 0; i < sizeof above / sizeof above[0]; i++) {
+                q.list = above[i];
+                refuses("A, a ceiling above its count", &q, KEEPER_CEILING_TOO_HIGH);
+            }
+            q.list = many;
+            for (k = 0; k < sizeof fills / sizeof fills[0]; k++) {
+                for (l = 0; l < sizeof many / sizeof many[0]; l++)
+                    many[l] = fills[k];
+                for (l = 0; l < sizeof lengths / sizeof lengths[0]; l++) {
+                    q.list_length = lengths[l];
+                    refuses("A, ceilings of another number", &q, KEEPER_WRONG_CEILING_COUNT);
+                }
             }
         }
-    }
 }
 
 static void example_a_steps(void)
@@ -363,8 +435,8 @@ static void example_a_sheet(void)
     static const uint8_t sheet[] = { 3, 0, 2, 0, 0, 0, 1, 0, 1, 0, 1, 0, 1, 0, 2, 0, 0, 0, 4, 0 };
     static const char text[] = "line 1 1\nhold 0 1 1\nhold 1 3 2\ncheckpoint 0 1\ncheckpoint 1 1\ncheckpoint 1 2\n"
                                "message 0\nmessage 4\nshare 50\n";
-    struct answer a = { KEEPER_OK, sheet, sizeof sheet, lines, 4 };
-    struct answer t = { KEEPER_OK, (const uint8_t *)text, sizeof text - 1, NULL, 0 };
+    struct answer a = { KEEPER_OK, sheet, sizeof sheet, lines, 4, 0 };
+    struct answer t = { KEEPER_OK, (const uint8_t *)text, sizeof text - 1, NULL, 0, 0 };
     struct question check = about(CHECK_TABLE, a_bytes, A_SIZE);
     same("size of A's sheet", KEEPER_SHEET_SIZE(3, 2), sizeof sheet);
     answers("A", about(KEEP_SHEET, a_bytes, A_SIZE), a);
@@ -376,7 +448,7 @@ static void example_a_sheet(void)
 static void listing_of(const char *what, const uint16_t *numbers, size_t count, const char *text)
 {
     uint8_t table[128];
-    struct answer t = { KEEPER_OK, (const uint8_t *)text, strlen(text), NULL, 0 };
+    struct answer t = { KEEPER_OK, (const uint8_t *)text, strlen(text), NULL, 0, 0 };
     answers(what, about(LISTING, table, put_numbers(table, numbers, count)), t);
 }
 
@@ -472,6 +544,7 @@ static void refused_in_every_call(void)
             q.list = bad_list;
             q.list_length = 2;
             q.numbers = 0;
+            q.marks = 0;
             q.room = 0;
             refuses(r->what, &q, r->refusal);
         }
@@ -481,6 +554,7 @@ static void refused_in_every_call(void)
         t.size = strlen(text);
         t.lines = NULL;
         t.line_numbers = 0;
+        t.marks_size = 0;
         answers(r->what, about(LISTING, table, length), t);
     }
 }
@@ -515,22 +589,33 @@ static void ceilings_of_32(void)
     uint16_t list[33];
     struct question q = about(LINE_UNDER, large, KEEPER_LARGEST_TABLE);
     size_t p;
+    int c;
     q.list = list;
     q.list_length = 32;
     for (p = 0; p < 33; p++)
         list[p] = 0;
     of_numbers("32 ceilings of 0", q, list, 32);
+    of_marks("32 ceilings of 0", q, list, 32, 8);
     for (p = 0; p < 32; p++) {
         list[p] = 1;
         of_numbers("32 ceilings, some of them 1", q, list, 32);
-        list[p] = 2;
-        refuses("32 ceilings, one of them 2", &q, KEEPER_CEILING_TOO_HIGH);
-        list[p] = 1;
+        if (p % 31 == 0)
+            of_marks("32 ceilings, some of them 1", q, list, 32, 8);
+        for (c = 0; c < 2; c++) {
+            q.call = c == 0 ? LINE_UNDER : MARKED_LINE;
+            list[p] = 2;
+            refuses("32 ceilings, one of them 2", &q, KEEPER_CEILING_TOO_HIGH);
+            list[p] = 1;
+        }
+        q.call = LINE_UNDER;
     }
-    q.list_length = 31;
-    refuses("31 ceilings for 32", &q, KEEPER_WRONG_CEILING_COUNT);
-    q.list_length = 33;
-    refuses("33 ceilings for 32", &q, KEEPER_WRONG_CEILING_COUNT);
+    for (c = 0; c < 2; c++) {
+        q.call = c == 0 ? LINE_UNDER : MARKED_LINE;
+        q.list_length = 31;
+        refuses("31 ceilings for 32", &q, KEEPER_WRONG_CEILING_COUNT);
+        q.list_length = 33;
+        refuses("33 ceilings for 32", &q, KEEPER_WRONG_CEILING_COUNT);
+    }
 }
 
 static void largest(void)
@@ -539,7 +624,7 @@ static void largest(void)
     static uint8_t sheet[KEEPER_SHEET_ROOM];
     static char text[KEEPER_LISTING_ROOM];
     size_t size = put_large(large, 4096, 1, 0), p, i, n = 0;
-    struct answer a = { KEEPER_OK, other, 0, NULL, 0 };
+    struct answer a = { KEEPER_OK, other, 0, NULL, 0, 0 };
     struct question q = about(SEND, large, size);
     same("largest table", size, KEEPER_LARGEST_TABLE);
     /* 14 comes after 10 and 11 and before 16. */
@@ -658,11 +743,192 @@ static void full_ceilings(void)
     for (i = 0; i < sizeof lists / sizeof lists[0]; i++) {
         q.list = lists[i];
         of_numbers("count 4,096, ceilings", q, lines[i], 2);
+        of_marks("count 4,096, ceilings", q, lines[i], 2, 513);
     }
     for (i = 0; i < sizeof above / sizeof above[0]; i++) {
         q.list = above[i];
+        q.call = LINE_UNDER;
+        refuses("count 4,096, a ceiling above its count", &q, KEEPER_CEILING_TOO_HIGH);
+        q.call = MARKED_LINE;
         refuses("count 4,096, a ceiling above its count", &q, KEEPER_CEILING_TOO_HIGH);
     }
+}
+
+/* ---- the marks: how many bytes they take, and the rounds of the marking method */
+
+/* N processes without messages, one count more here and there: the line is the ceilings. */
+static void marks_of(size_t n, size_t sum, size_t bytes)
+{
+    uint16_t numbers[2 + 32], ceilings[32];
+    uint8_t table[KEEPER_TABLE_SIZE(32, 0)];
+    char what[60];
+    struct question q;
+    size_t p;
+    numbers[0] = (uint16_t)n;
+    numbers[1] = 0;
+    for (p = 0; p < n; p++) {
+        numbers[2 + p] = (uint16_t)(sum / n + (p < sum % n));
+        ceilings[p] = (uint16_t)(p % 3 == 0 ? numbers[2 + p] : p % 3 == 1 ? 0 : numbers[2 + p] - 1);
+    }
+    q = about(MARKED_LINE, table, put_numbers(table, numbers, 2 + n));
+    q.list = ceilings;
+    q.list_length = n;
+    snprintf(what, sizeof what, "marks of %lu and %lu", (unsigned long)n, (unsigned long)sum);
+    of_marks(what, q, ceilings, n, bytes);
+    same(what, KEEPER_MARKS_SIZE(sum, n), bytes);
+}
+
+/* Sums at and beside multiples of 8, with few and with many processes; sums of more than 16 bits; the largest. */
+static void sizes_of_marks(void)
+{
+    static const struct {
+        size_t n, sum, bytes;
+    } cases[] = {
+        { 1, 1, 1 }, { 1, 6, 1 }, { 1, 7, 1 }, { 1, 8, 2 }, { 1, 9, 2 }, { 1, 15, 2 }, { 1, 16, 3 }, { 1, 23, 3 }, { 1, 24, 4 },
+        { 1, 4095, 512 }, { 1, 4096, 513 }, { 2, 2, 1 }, { 2, 5, 1 }, { 2, 6, 1 }, { 2, 7, 2 }, { 2, 8, 2 }, { 2, 13, 2 },
+        { 2, 14, 2 }, { 2, 15, 3 }, { 3, 5, 1 }, { 3, 6, 2 }, { 7, 9, 2 }, { 7, 10, 3 }, { 8, 8, 2 }, { 8, 9, 3 }, { 9, 16, 4 },
+        { 31, 33, 8 }, { 31, 34, 9 }, { 32, 32, 8 }, { 32, 33, 9 }, { 32, 39, 9 }, { 32, 40, 9 }, { 32, 41, 10 },
+        { 16, 65535, 8194 }, { 16, 65536, 8194 }, { 17, 65537, 8195 }, { 32, 65504, 8192 }, { 32, 65505, 8193 },
+        { 32, 131064, 16387 }, { 32, 131065, 16388 }, { 32, 131071, 16388 }, { 32, 131072, 16388 },
+    };
+    size_t i;
+    for (i = 0; i < sizeof cases / sizeof cases[0]; i++)
+        marks_of(cases[i].n, cases[i].sum, cases[i].bytes);
+}
+
+/* A domino of two processes of 40 checkpoints: messages (0,k) to (1,k) and (1,k-1) to (0,k) for each k from 1. Under
+   40 40 and 40 39 no root is marked. Under all other ceilings the roots give way in turn down to 0 0: from 39 39 on one
+   root by one checkpoint in each round, 79 rounds with the last, in which none does. */
+static void domino(void)
+{
+    enum { COUNT = 40, MESSAGES = 2 * (COUNT - 1) };
+    static const uint16_t lists[][2] = { { 40, 40 }, { 40, 39 }, { 40, 38 }, { 39, 40 }, { 39, 39 }, { 39, 38 }, { 38, 39 },
+                                         { 1, 40 }, { 40, 0 }, { 1, 1 }, { 1, 0 }, { 0, 1 }, { 0, 40 }, { 0, 0 } };
+    static const uint16_t lines[][2] = { { 40, 40 }, { 40, 39 }, { 0, 0 }, { 0, 0 }, { 0, 0 }, { 0, 0 }, { 0, 0 },
+                                         { 0, 0 }, { 0, 0 }, { 0, 0 }, { 0, 0 }, { 0, 0 }, { 0, 0 }, { 0, 0 } };
+    static uint8_t table[KEEPER_TABLE_SIZE(2, MESSAGES)];
+    struct question q = about(MARKED_LINE, table, sizeof table);
+    size_t turn, i, k;
+    q.list_length = 2;
+    for (turn = 0; turn < 2; turn++) {
+        put_number(table, 0, 2);
+        put_number(table, 1, MESSAGES);
+        put_number(table, 2, COUNT);
+        put_number(table, 3, COUNT);
+        /* With the latest message first, and with the first one first. */
+        for (i = 0; i < MESSAGES; i++) {
+            k = turn == 0 ? i : MESSAGES - 1 - i;
+            put_number(table, 4 + 2 * i, k % 2);
+            put_number(table, 5 + 2 * i, (uint16_t)(1 + k / 2 - k % 2));
+            put_number(table, 4 + 2 * MESSAGES + 2 * i, 1 - k % 2);
+            put_number(table, 5 + 2 * MESSAGES + 2 * i, (uint16_t)(1 + k / 2));
+        }
+        for (i = 0; i < sizeof lists / sizeof lists[0]; i++) {
+            q.list = lists[i];
+            of_marks("a domino", q, lines[i], 2, 11);
+        }
+    }
+}
+
+/* Messages that wait, of which there is no edge, and edges by which virtual checkpoints are reached. */
+static void waiting_and_new(void)
+{
+    /* (0,1) to (1,2); (1,2) to (2, waiting); (1,3) to (2,1); (2,0) to (0, waiting). */
+    static const uint16_t numbers[] = { 3, 4, 3, 4, 2, 0, 1, 1, 2, 1, 3, 2, 0, 1, 2, 2, 0, 2, 1, 0, 0 };
+    static const uint16_t lists[][3] = { { 3, 4, 2 }, { 2, 4, 2 }, { 1, 4, 2 }, { 0, 4, 2 }, { 3, 3, 2 }, { 3, 2, 2 },
+                                         { 3, 2, 0 }, { 3, 4, 0 }, { 2, 2, 2 }, { 2, 1, 1 }, { 0, 0, 1 }, { 0, 0, 0 } };
+    static const uint16_t lines[][3] = { { 3, 4, 2 }, { 2, 4, 2 }, { 1, 1, 0 }, { 0, 1, 0 }, { 3, 3, 0 }, { 3, 2, 0 },
+                                         { 3, 2, 0 }, { 3, 4, 0 }, { 2, 2, 0 }, { 2, 1, 0 }, { 0, 0, 0 }, { 0, 0, 0 } };
+    uint8_t table[64];
+    struct question q = about(MARKED_LINE, table, put_numbers(table, numbers, sizeof numbers / sizeof numbers[0]));
+    size_t i;
+    q.list_length = 3;
+    for (i = 0; i < sizeof lists / sizeof lists[0]; i++) {
+        q.list = lists[i];
+        of_marks("waiting messages and virtual checkpoints", q, lines[i], 3, 2);
+    }
+}
+
+/* 32 processes of two checkpoints, and a message (p,1) to (p+1,1) from each but the last. One process has ceiling 1, and
+   the others are free: what it has sent on, and so to the last process, puts all behind it back to 0. */
+static void chain_of_32(void)
+{
+    enum { MESSAGES = 31 };
+    static uint8_t table[KEEPER_TABLE_SIZE(32, MESSAGES)];
+    uint16_t ceilings[32], line[32];
+    struct question q = about(MARKED_LINE, table, sizeof table);
+    size_t turn, p, i, k;
+    q.list = ceilings;
+    q.list_length = 32;
+    for (turn = 0; turn < 2; turn++) {
+        put_number(table, 0, 32);
+        put_number(table, 1, MESSAGES);
+        for (p = 0; p < 32; p++)
+            put_number(table, 2 + p, 2);
+        for (i = 0; i < MESSAGES; i++) {
+            k = turn == 0 ? i : MESSAGES - 1 - i;
+            put_number(table, 34 + 2 * i, (uint16_t)k);
+            put_number(table, 35 + 2 * i, 1);
+            put_number(table, 34 + 2 * MESSAGES + 2 * i, (uint16_t)(k + 1));
+            put_number(table, 35 + 2 * MESSAGES + 2 * i, 1);
+        }
+        for (p = 0; p < 32; p += p < 30 ? 6 : 1) {
+            for (i = 0; i < 32; i++) {
+                ceilings[i] = i == p ? 1 : 2;
+                line[i] = i < p ? 2 : i == p ? 1 : 0;
+            }
+            of_marks("a chain of 32", q, line, 32, 12);
+        }
+    }
+}
+
+/* Both methods on tables by chance, under ceilings by chance. */
+static uint32_t chance_state = 20261116;
+
+static size_t chance(size_t bound)
+{
+    chance_state = chance_state * 1103515245u + 12345u;
+    return (chance_state >> 16) % bound;
+}
+
+static void both_methods(void)
+{
+    uint8_t table[KEEPER_TABLE_SIZE(5, 24)], line[KEEPER_LARGEST_LINE];
+    uint16_t list[5];
+    size_t counts[5], round, n, m, p, k, i, j, sum, written, lowered = 0;
+    for (round = 0; round < 1000; round++) {
+        struct question q;
+        struct answer a = { KEEPER_OK, line, 0, NULL, 0, 0 };
+        n = 1 + chance(5);
+        m = n == 1 ? 0 : chance(25);
+        put_number(table, 0, (uint16_t)n);
+        put_number(table, 1, (uint16_t)m);
+        for (sum = p = 0; p < n; p++) {
+            counts[p] = 1 + chance(6);
+            sum += counts[p];
+            put_number(table, 2 + p, (uint16_t)counts[p]);
+            list[p] = (uint16_t)(counts[p] - (chance(2) == 0 ? 0 : chance(counts[p] + 1)));
+        }
+        for (k = 0; k < m; k++) {
+            j = chance(n);
+            i = (j + 1 + chance(n - 1)) % n;
+            put_number(table, 2 + n + 2 * k, (uint16_t)j);
+            put_number(table, 3 + n + 2 * k, (uint16_t)chance(counts[j]));
+            put_number(table, 2 + n + 2 * m + 2 * k, (uint16_t)i);
+            put_number(table, 3 + n + 2 * m + 2 * k, (uint16_t)chance(counts[i]));
+        }
+        q = about(MARKED_LINE, table, KEEPER_TABLE_SIZE(n, m));
+        q.list = list;
+        q.list_length = n;
+        q.marks = a.marks_size = KEEPER_MARKS_SIZE(sum, n);
+        q.room = a.size = 2 * n;
+        same("the line under ceilings", keeper_line_under(table, q.length, list, n, line, sizeof line, &written), KEEPER_OK);
+        same("its length", written, a.size);
+        for (p = 0; p < n; p++)
+            lowered += keeper_u16_at(line, 2 * p) != list[p];
+        ask("by chance", &q, &a);
+    }
+    same("lines by chance are lowered", lowered > 500, 1);
 }
 
 /* ---- sizes */
@@ -674,12 +940,18 @@ static void sizes(void)
     same("KEEPER_LARGEST_TABLE", KEEPER_LARGEST_TABLE, KEEPER_TABLE_SIZE(KEEPER_MOST_PROCESSES, KEEPER_MOST_MESSAGES));
     same("KEEPER_LARGEST_TABLE", KEEPER_LARGEST_TABLE, 32836);
     same("KEEPER_LARGEST_LINE", KEEPER_LARGEST_LINE, 64);
+    same("KEEPER_MARKS_ROOM", KEEPER_MARKS_ROOM, KEEPER_MARKS_SIZE(32 * 4096, 32));
+    same("KEEPER_MARKS_ROOM", KEEPER_MARKS_ROOM, 16388);
     same("KEEPER_SCRATCH_NUMBERS", KEEPER_SCRATCH_NUMBERS, 1024);
     same("KEEPER_SHEET_ROOM", KEEPER_SHEET_ROOM, KEEPER_SHEET_SIZE(KEEPER_SCRATCH_NUMBERS, KEEPER_MOST_MESSAGES));
     same("KEEPER_SHEET_ROOM", KEEPER_SHEET_ROOM, 12292);
     same("KEEPER_LISTING_ROOM", KEEPER_LISTING_ROOM, 80000);
     same("KEEPER_TABLE_SIZE", KEEPER_TABLE_SIZE(1 + 1, 2 + 3), 48);
     same("KEEPER_LINE_SIZE", KEEPER_LINE_SIZE(1 + 1), 4);
+    same("KEEPER_MARKS_SIZE", KEEPER_MARKS_SIZE(1 + 5, 1 + 1), 1);
+    same("KEEPER_MARKS_SIZE", 3 * KEEPER_MARKS_SIZE(4 | 3, 1 | 2), 6);
+    same("KEEPER_MARKS_SIZE", 24 / KEEPER_MARKS_SIZE(8, 1), 12);
+    same("KEEPER_MARKS_SIZE of small numbers", KEEPER_MARKS_SIZE((uint16_t)65535, (uint8_t)32), 8196);
     same("KEEPER_SCRATCH_SIZE", KEEPER_SCRATCH_SIZE(1 + 2), 9);
     same("KEEPER_SHEET_SIZE", KEEPER_SHEET_SIZE(1 + 2, 1 + 1), 20);
 }
@@ -795,6 +1067,11 @@ int main(void)
     largest();
     full_counts();
     full_ceilings();
+    sizes_of_marks();
+    domino();
+    waiting_and_new();
+    chain_of_32();
+    both_methods();
     if (failures != 0) {
         printf("calls: %d failures\n", failures);
         return 1;

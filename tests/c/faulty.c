@@ -11,6 +11,7 @@ __typeof__(keeper_check_table) faulty_check_table;
 __typeof__(keeper_recovery_line) faulty_recovery_line;
 __typeof__(keeper_line_of_set) faulty_line_of_set;
 __typeof__(keeper_line_under) faulty_line_under;
+__typeof__(keeper_marked_line) faulty_marked_line;
 __typeof__(keeper_send) faulty_send;
 __typeof__(keeper_save) faulty_save;
 __typeof__(keeper_fall_back) faulty_fall_back;
@@ -20,8 +21,9 @@ __typeof__(keeper_listing) faulty_listing;
 /* Whether this fault is the one asked for. */
 static int fault(int number)
 {
-    const char *asked = getenv("FAULT");
-    return asked != NULL && atoi(asked) == number;
+    static int asked = -1;
+    if (asked < 0) asked = getenv("FAULT") == NULL ? 0 : atoi(getenv("FAULT"));
+    return asked == number;
 }
 
 uint32_t faulty_check_table(const uint8_t *table, size_t length)
@@ -97,6 +99,157 @@ uint32_t faulty_line_under(const uint8_t *table, size_t length, const uint16_t *
     if (fault(71) && r == KEEPER_OK) list[n] ^= 1;
     if (fault(72) && r == KEEPER_WRONG_CEILING_COUNT && ceilings == NULL) return KEEPER_OK;
     if (fault(73) && r == KEEPER_OK && ((uintptr_t)answer & 1) != 0) answer[0] ^= 1;
+    return r;
+}
+
+/* The line by marking, over a byte for each checkpoint and the virtual ones; right where no fault of it is asked for. No
+   table of calls.c takes 100 rounds, and where there are no messages no root is marked. */
+static void faulty_marking(const uint8_t *table, const uint16_t *ceilings, uint16_t *root)
+{
+    static uint8_t marked[KEEPER_MOST_PROCESSES][KEEPER_MOST_CHECKPOINTS + 1];
+    size_t n = keeper_u16_at(table, 0), m = keeper_u16_at(table, 2), p, k, count;
+    int more, gave, rounds = 0;
+    for (p = 0; p < n; p++) {
+        memset(marked[p], 0, sizeof marked[p]);
+        root[p] = ceilings[p];
+    }
+    if (m == 0) return;
+    do {
+        do {
+            more = 0;
+            for (p = 0; p < n; p++) {
+                size_t c;
+                count = keeper_u16_at(table, 4 + 2 * p);
+                for (c = 0; c < count; c++) {
+                    if (c != root[p] && (fault(90) || !marked[p][c])) continue;
+                    if (fault(91) && c + 1 == count) continue;
+                    if (fault(92) && c == root[p]) continue;
+                    more |= !marked[p][c + 1];
+                    marked[p][c + 1] = 1;
+                }
+            }
+            for (k = 0; k < m; k++) {
+                size_t send = 4 + 2 * n + 4 * k, receipt = send + 4 * m;
+                size_t j = keeper_u16_at(table, send), y = keeper_u16_at(table, send + 2);
+                size_t i = keeper_u16_at(table, receipt), r = keeper_u16_at(table, receipt + 2);
+                if (r == 0 && !fault(93) && !fault(94)) continue;
+                if (fault(94) && r == 0) r = keeper_u16_at(table, 4 + 2 * i);
+                if (fault(95)) { size_t s = j; j = i; i = s; s = y; y = r; r = s; }
+                if (fault(96)) y++;
+                if (fault(97) && y > 0) y--;
+                if (fault(98)) r++;
+                if (fault(99) && r > 1) r--;
+                if (y != root[j] && (fault(90) || fault(100) || !marked[j][y])) continue;
+                if (fault(101) && y == root[j]) continue;
+                if (fault(102) && i == 31) continue;
+                more |= !marked[i][r];
+                marked[i][r] = 1;
+            }
+        } while (more && !fault(103));
+        for (gave = 0, p = 0; p < n; p++) {
+            uint16_t before = root[p];
+            if (fault(104)) marked[p][root[p]] = 1;
+            if (fault(105) && marked[p][root[p]]) root[p] = 0;
+            while (root[p] > 0 && marked[p][root[p]]) root[p]--;
+            if (fault(106) && root[p] > 0 && root[p] < before) root[p]--;
+            if (fault(108) && p == n - 1) root[p] = before;
+            gave |= root[p] != before;
+        }
+        rounds++;
+    } while (gave && rounds < 100 && !fault(110) && !(fault(111) && rounds == 2) && !(fault(112) && rounds == 32));
+}
+
+/* The sum of the counts of an accepted table. */
+static size_t sum_of(const uint8_t *table)
+{
+    size_t p, sum = 0;
+    for (p = 0; p < table[0]; p++)
+        sum += keeper_u16_at(table, 4 + 2 * p);
+    return sum;
+}
+
+/* How many bytes of marks are asked for, by a fault or rightly. */
+static size_t faulty_marks_size(size_t sum, size_t n)
+{
+    if (fault(113)) return (sum + 7) / 8;
+    if (fault(114)) return sum / 8;
+    if (fault(115)) return (sum + n) / 8;
+    if (fault(116)) return (sum + n) / 8 + 1;
+    if (fault(117)) return ((sum & 0xFFFF) + n + 7) / 8;
+    if (fault(118)) return (((sum + n) & 0xFFFF) + 7) / 8;
+    if (fault(119)) return (sum + 2 * n + 7) / 8;
+    if (fault(120)) return sum + n;
+    if (fault(121)) return (32 * sum / n + 32 + 7) / 8;
+    if (fault(122)) return KEEPER_MARKS_ROOM;
+    return (sum + n + 7) / 8;
+}
+
+uint32_t faulty_marked_line(const uint8_t *table, size_t length, const uint16_t *ceilings, size_t ceilings_length,
+                            uint8_t *marks, size_t marks_length, uint8_t *answer, size_t room, size_t *written)
+{
+    static uint8_t own[KEEPER_MARKS_ROOM], before[KEEPER_MARKS_ROOM];
+    uint16_t root[KEEPER_MOST_PROCESSES], *list = (uint16_t *)(uintptr_t)ceilings;
+    size_t p, n = keeper_check_table(table, length) == KEEPER_OK ? table[0] : 0, sum = n == 0 ? 0 : sum_of(table);
+    size_t size = KEEPER_MARKS_SIZE(sum, n), asked = n == 0 ? 0 : faulty_marks_size(sum, n);
+    int is_short = n != 0 && marks_length < size, seen = marks_length > 0 && marks[0] == 0xFF;
+    uint32_t r;
+    if (fault(123) && marks_length == 0) return KEEPER_MARKS_TOO_SHORT;
+    if (fault(124) && n != 0 && room < 2 * n) return KEEPER_ANSWER_TOO_SHORT;
+    if (fault(125) && is_short) return KEEPER_MARKS_TOO_SHORT;
+    if (fault(126) && ceilings_length == n && is_short) return KEEPER_MARKS_TOO_SHORT;
+    if (fault(127) && is_short && room < 2 * n) return keeper_line_under(table, length, ceilings, ceilings_length, answer, room, written);
+    if (fault(128) && n != 0 && ceilings_length > n) ceilings_length = n;
+    if (!is_short) memcpy(before, marks, size);
+    r = keeper_marked_line(table, length, ceilings, ceilings_length, marks, marks_length, answer, room, written);
+    if (r == KEEPER_MARKS_TOO_SHORT && marks_length >= asked) {
+        r = keeper_marked_line(table, length, ceilings, ceilings_length, own, sizeof own, answer, room, written);
+        if (r == KEEPER_OK && marks_length > 0) memset(marks, 0, marks_length);
+    } else if (r == KEEPER_OK && marks_length < asked) {
+        memcpy(marks, before, size);
+        return KEEPER_MARKS_TOO_SHORT;
+    }
+    if (r == KEEPER_OK) {
+        faulty_marking(table, ceilings, root);
+        for (p = 0; p < n; p++)
+            keeper_put_u16(answer, 2 * p, root[p]);
+        if (fault(129)) marks[0] = 1;
+        if (fault(130)) marks[size - 1] = before[size - 1];
+        if (fault(131)) memcpy(marks, before, size);
+        if (fault(132)) marks[size] = 0;
+        if (fault(133)) memset(marks, 0, marks_length);
+        if (fault(134)) marks[marks_length] = 0;
+        if (fault(135)) marks[-1] = 0;
+        if (fault(136)) for (p = sum + n; p < 8 * size; p++) marks[size - 1] |= before[size - 1] & (1u << p % 8);
+        if (fault(137) && root[0] > 0) keeper_put_u16(answer, 0, (uint16_t)(root[0] - 1));
+        if (fault(138) && root[n - 1] > 0) keeper_put_u16(answer, 2 * n - 2, (uint16_t)(root[n - 1] - 1));
+        if (fault(139)) for (p = 0; p < n; p++) keeper_put_u16(answer, 2 * p, ceilings[p]);
+        if (fault(140)) memset(answer, 0, 2 * n);
+        if (fault(141)) keeper_recovery_line(table, length, answer, room, written);
+        if (fault(142)) keeper_line_of_set(table, length, 0, answer, room, written);
+        if (fault(143)) *written = n;
+        if (fault(144)) *written = size;
+        if (fault(145) && room > 2 * n) answer[2 * n] = 0;
+        if (fault(146)) list[0] ^= 1;
+        if (fault(147)) list[n] ^= 1;
+        if (fault(148)) ((uint8_t *)(uintptr_t)table)[length - 1] ^= 1;
+        if (fault(149) && seen) answer[0] ^= 1;
+        if (fault(150) && ((uintptr_t)marks & 7) == 5) answer[0] ^= 1;
+        if (fault(151) && room == 2 * n) return KEEPER_ANSWER_TOO_SHORT;
+    }
+    if (fault(152) && r == KEEPER_ANSWER_TOO_SHORT) memset(marks, 0, size);
+    if (fault(153) && r == KEEPER_ANSWER_TOO_SHORT) marks[size - 1] ^= 0x80;
+    if (fault(154) && r == KEEPER_ANSWER_TOO_SHORT && marks_length > size) marks[size] = 0;
+    if (fault(155) && r == KEEPER_MARKS_TOO_SHORT && marks_length > 0) memset(marks, 0, marks_length);
+    if (fault(156) && r == KEEPER_CEILING_TOO_HIGH && marks_length > 0) marks[0] = 0;
+    if (fault(157) && r == KEEPER_WRONG_CEILING_COUNT && marks_length > 0) marks[marks_length - 1] = 0;
+    if (fault(158) && r == KEEPER_WRONG_LENGTH && marks_length > 0) memset(marks, 0, marks_length);
+    if (fault(159) && r == KEEPER_MARKS_TOO_SHORT) return KEEPER_SCRATCH_TOO_SHORT;
+    if (fault(160) && r == KEEPER_MARKS_TOO_SHORT) *written = 2 * n;
+    if (fault(161) && r == KEEPER_MARKS_TOO_SHORT && room >= 2 * n) memset(answer, 0, 2 * n);
+    if (fault(162) && r == KEEPER_ANSWER_TOO_SHORT) *written = 2 * n;
+    if (fault(163) && r == KEEPER_ANSWER_TOO_SHORT && room > 0) answer[room - 1] = 0;
+    if (fault(107) && r == KEEPER_MARKS_TOO_SHORT && marks == NULL) return KEEPER_OK;
+    if (fault(109) && r == KEEPER_CEILING_TOO_HIGH && is_short) return KEEPER_OK;
     return r;
 }
 
