@@ -5,7 +5,7 @@ use std::fmt;
 use std::io::{self, Write};
 use std::process::ExitCode;
 
-use keeper::{run_table, FellBack, Refusal, Table};
+use keeper::{run_table, FellBack, Line, Refusal, Table};
 
 use crate::arguments::{self, Arguments};
 use crate::explain::Call;
@@ -202,6 +202,20 @@ fn ceilings(table: &[u8], arguments: &Arguments) -> Option<Vec<u16>> {
     Some(numbers.collect())
 }
 
+/// The ceilings of processes that hold, of all where none is named: the last
+/// checkpoint of each, and the count of any other.
+fn ceilings_of_holders(table: &Table, processes: &[u16]) -> Vec<u16> {
+    let holds = |process| processes.is_empty() || processes.contains(&process);
+    let counts = (0..).zip(table.counts());
+    let ceilings = counts.map(|(process, count)| count - u16::from(holds(process)));
+    ceilings.collect()
+}
+
+/// The line under ceilings by the marking method, with marks of the right size.
+fn marked_line(table: &Table, ceilings: &[u16]) -> Result<Line, Refusal> {
+    table.marked_line(ceilings, &mut vec![0; table.marks_size()])
+}
+
 pub fn line(input: &Input, arguments: &Arguments) -> Result<Vec<u8>, Failure> {
     let processes = arguments.numbers("PROCESS");
     let mut set = 0;
@@ -210,10 +224,21 @@ pub fn line(input: &Input, arguments: &Arguments) -> Result<Vec<u8>, Failure> {
     }
     let table = input.accepted_or_json(arguments)?;
     let ceilings = ceilings(&input.table, arguments);
-    let (call, line) = match (&ceilings, processes) {
-        (Some(ceilings), _) => (Call::Under(ceilings), table.line_under(ceilings)),
-        (None, []) => (Call::Table, Ok(table.recovery_line())),
-        (None, _) => (Call::Hold(processes), table.line_of_set(set)),
+    let call = match (&ceilings, processes) {
+        (Some(ceilings), _) => Call::Under(ceilings),
+        (None, []) => Call::Table,
+        (None, _) => Call::Hold(processes),
+    };
+    let line = match (&call, arguments.has("--marking")) {
+        (Call::Under(ceilings), false) => table.line_under(ceilings),
+        (Call::Under(ceilings), true) => marked_line(&table, ceilings),
+        (Call::Hold(_), false) => table.line_of_set(set),
+        // Whether there are such processes, the call for sets says.
+        (Call::Hold(_), true) => table
+            .line_of_set(set)
+            .and_then(|_| marked_line(&table, &ceilings_of_holders(&table, processes))),
+        (_, false) => Ok(table.recovery_line()),
+        (_, true) => marked_line(&table, &ceilings_of_holders(&table, processes)),
     };
     let line = line.map_err(|refusal| input.refused_or_json(&call, refusal, arguments))?;
     Ok(match arguments.has("--json") {

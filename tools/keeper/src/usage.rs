@@ -163,6 +163,13 @@ const UNDER: Opt = Opt {
 count, which leaves that process free",
 };
 
+const MARKING: Opt = Opt {
+    names: &["--marking"],
+    takes: Takes::Nothing,
+    value: "",
+    words: "find the line by the published marking method, which gives the same line",
+};
+
 const DRAW_UNDER: Opt = Opt {
     names: &["--under"],
     takes: Takes::Ceilings,
@@ -324,7 +331,7 @@ process), `checkpoints` (an array of objects with `process` and `number`), `mess
             times: Times::Any,
         }],
         file: true,
-        options: &[&UNDER, &JSON, &READ_TEXT, &OUTPUT],
+        options: &[&UNDER, &MARKING, &JSON, &READ_TEXT, &OUTPUT],
         short: "the recovery line, the line of the processes that hold, or the line under ceilings",
         words: "\
 Reads a run table and writes a line, one decimal number for each process: the recovery line, or the line of each \
@@ -338,6 +345,12 @@ protect it: whoever discards by sheets may no longer have its checkpoints, or th
 is one kind of ceiling, the last checkpoint; --under and PROCESS exclude each other.
 
   keeper line --under 3,-,4 run.table
+
+With --marking the line, whichever is asked for, is found by the published method: the rollback propagation algorithm on \
+the checkpoint graph, Figure 3 of Wang and Fuchs, \"Optimal Message Log Reclamation for Uncoordinated Checkpointing\". All \
+that is strictly reachable from the roots, at first the ceilings, is marked, each marked root gives way to the latest \
+unmarked checkpoint of its process, and marking is repeated until no root is marked. It is proved that both methods give \
+the same line for every table and all ceilings, so that what is written is the same.
 
 In JSON it is an object with the key `line`, an array of numbers; that of a refusal has the keys `refused`, the number, \
 and `words`.",

@@ -100,6 +100,9 @@ fn bash() {
     );
     assert_eq!(offered(&["keeper", "draw", "--title", ""]), [""; 0]);
     assert_eq!(offered(&["keeper", "line", "--u"]), ["--under"]);
+    assert_eq!(offered(&["keeper", "line", "--m"]), ["--marking"]);
+    assert_eq!(offered(&["keeper", "draw", "--m"]), [""; 0]);
+    assert_eq!(offered(&["keeper", "line", "--marking", ""]), files);
     assert_eq!(offered(&["keeper", "line", "--under", ""]), [""; 0]);
     assert_eq!(offered(&["keeper", "draw", "--under", ""]), [""; 0]);
     assert_eq!(

@@ -83,6 +83,56 @@ fn lines() {
     );
 }
 
+/// The lines that `line` writes, by the published method: of example A, and what
+/// is refused and wrong.
+#[test]
+fn lines_by_marking() {
+    let a = example_a();
+    for (arguments, line) in [
+        (&["line", "--marking"][..], "1 1"),
+        (&["line", "--marking", "0"], "1 1"),
+        (&["line", "--marking", "1"], "3 2"),
+        (&["line", "1", "--marking", "-"], "3 2"),
+        (&["line", "--marking", "1", "0", "1"], "1 1"),
+        (&["line", "--marking", "--marking"], "1 1"),
+        (&["line", "--under", "0,3", "--marking"], "0 1"),
+    ] {
+        let expected = format!("{line}\n");
+        assert_eq!(done(arguments, &a), expected.as_bytes(), "{arguments:?}");
+    }
+    let text = done(&["decode"], &a);
+    assert_eq!(done(&["line", "--text", "--marking", "1"], &text), b"3 2\n");
+    // The most marks, and a single process.
+    let most = bytes(&[vec![32, 0], vec![4096; 32]].concat());
+    let expected = format!("{}4095\n", "4095 ".repeat(31));
+    assert_eq!(done(&["line", "--marking"], &most), expected.as_bytes());
+    let expected = format!("{}4095\n", "4096 ".repeat(31));
+    assert_eq!(
+        done(&["line", "--marking", "31"], &most),
+        expected.as_bytes()
+    );
+    assert_eq!(done(&["line", "--marking"], &bytes(&[1, 0, 1])), b"0\n");
+
+    let message = "refused 12: there is no process 2 (N is 2)";
+    fails(&["line", "--marking", "2"], &a, 1, message);
+    fails(&["line", "--marking", "0", "2"], &a, 1, message);
+    let message = "`32`: a process that holds is numbered 0 to 31 (see `keeper line --help`)";
+    fails(&["line", "--marking", "32"], &a, 2, message);
+    let message = "(standard input): refused 1: the table has 3 bytes, and needs 4 at least";
+    fails(&["line", "--marking"], &a[..3], 1, message);
+    let message = "--under and PROCESS exclude each other (see `keeper line --help`)";
+    fails(
+        &["line", "--marking", "--under", "3,2", "1"],
+        &a,
+        2,
+        message,
+    );
+    let message = "--marking takes no value (see `keeper line --help`)";
+    fails(&["line", "--marking=1"], &a, 2, message);
+    let message = "draw has no option `--marking` (see `keeper draw --help`)";
+    fails(&["draw", "--marking"], &a, 2, message);
+}
+
 #[test]
 fn lines_under_ceilings() {
     let a = example_a();
@@ -104,6 +154,8 @@ fn lines_under_ceilings() {
         let attached = format!("--under={ceilings}");
         let attached = done(&["line", &attached, "-"], &a);
         assert_eq!(attached, expected.as_bytes(), "{ceilings}");
+        let marked = done(&["line", "--marking", "--under", ceilings], &a);
+        assert_eq!(marked, expected.as_bytes(), "{ceilings}, by marking");
     }
     let text = done(&["decode"], &a);
     assert_eq!(done(&["line", "--text", "--under=0,3"], &text), b"0 1\n");
@@ -127,6 +179,7 @@ fn lines_under_ceilings() {
     for (ceilings, words) in refused {
         let message = format!("refused {words}");
         fails(&["line", "--under", ceilings], &a, 1, &message);
+        fails(&["line", "--under", ceilings, "--marking"], &a, 1, &message);
         fails(&["draw", "--under", ceilings], &a, 1, &message);
     }
     let message = "refused 17: 2 ceilings for 1 process";
@@ -136,6 +189,7 @@ fn lines_under_ceilings() {
     // The table's checks come first.
     let message = "(standard input): refused 1: the table has 3 bytes, and needs 4 at least";
     fails(&["line", "--under", "9"], &a[..3], 1, message);
+    fails(&["line", "--marking", "--under", "9"], &a[..3], 1, message);
 
     let each = "each is a number from 0 to 65535, or `-`";
     let wrong: &[(&[&str], &str)] = &[
@@ -205,8 +259,12 @@ fn lines_under_the_ceilings_of_the_corpus() {
             .map(|count| count.parse().expect("a number"))
             .collect();
         let line = |ceilings: Vec<String>| {
-            let arguments = ["line", "--under", &ceilings.join(","), &case.path];
+            let ceilings = ceilings.join(",");
+            let arguments = ["line", "--under", &ceilings, &case.path];
             let line = String::from_utf8(done(&arguments, b"")).expect("ASCII");
+            let arguments = ["line", "--marking", "--under", &ceilings, &case.path];
+            let marked = String::from_utf8(done(&arguments, b"")).expect("ASCII");
+            assert_eq!(line, marked, "{}, {ceilings}", case.name);
             line.trim_end().to_string()
         };
         let listing = String::from_utf8(case.listing).expect("ASCII");
@@ -235,16 +293,22 @@ fn lines_of_the_corpus() {
             continue;
         }
         let listing = String::from_utf8(case.listing).expect("ASCII");
-        let line = String::from_utf8(done(&["line", &case.path], b"")).expect("ASCII");
-        assert_eq!(
-            listing.lines().next(),
-            Some(format!("line {}", line.trim_end()).as_str())
-        );
-        let line = String::from_utf8(done(&["line", "0", &case.path], b"")).expect("ASCII");
-        assert_eq!(
-            listing.lines().nth(1),
-            Some(format!("hold 0 {}", line.trim_end()).as_str())
-        );
+        for options in [&["line"][..], &["line", "--marking"]] {
+            let line = |arguments: &[&str]| {
+                let line = done(&[options, arguments].concat(), b"");
+                String::from_utf8(line).expect("ASCII")
+            };
+            let all = line(&[&case.path]);
+            assert_eq!(
+                listing.lines().next(),
+                Some(format!("line {}", all.trim_end()).as_str())
+            );
+            let one = line(&["0", &case.path]);
+            assert_eq!(
+                listing.lines().nth(1),
+                Some(format!("hold 0 {}", one.trim_end()).as_str())
+            );
+        }
     }
 }
 
@@ -514,6 +578,7 @@ fn a_full_device_is_an_error() {
         "list --json \"$table\"",
         "line \"$table\"",
         "line --under 0,- \"$table\"",
+        "line --marking \"$table\"",
         "decode \"$table\"",
         "send 0 1 \"$table\"",
         "sheet \"$table\"",

@@ -105,6 +105,13 @@ fn answers_as_the_subcommands_give_them() {
         ("line 0 1", &["line", "0", "1"]),
         ("line --under 0,-", &["line", "--under", "0,3"]),
         ("line --under=3,2 --json", &["line", "--json", "1"]),
+        ("line --marking", &["line"]),
+        ("line --marking 1", &["line", "1"]),
+        ("line --marking --under 0,-", &["line", "--under", "0,3"]),
+        (
+            "line --marking --json --under=3,2",
+            &["line", "--json", "1"],
+        ),
         ("sheet", &["sheet", "--text-out"]),
         ("sheet --text-out", &["sheet", "--text-out"]),
         ("sheet --json", &["sheet", "--json"]),
@@ -160,6 +167,16 @@ fn a_line_that_fails() {
             "line\nline --under 4,-",
             1,
             "2: line --under 4,-: refused 18: the ceiling 4 of process 0 is above its count 3",
+        ),
+        (
+            "line\nline --marking 2",
+            1,
+            "2: line --marking 2: refused 12: there is no process 2 (N is 2)",
+        ),
+        (
+            "line\nline --marking --under 4,-",
+            1,
+            "2: line --marking --under 4,-: refused 18: the ceiling 4 of process 0 is above its count 3",
         ),
         (
             "line\nline --under 3,,2",

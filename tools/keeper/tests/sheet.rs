@@ -478,6 +478,9 @@ fn lines_in_json() {
         (&["line", "--json"][..], "[1,1]"),
         (&["line", "--json", "1"], "[3,2]"),
         (&["line", "--json", "--under", "0,-"], "[0,1]"),
+        (&["line", "--json", "--marking"], "[1,1]"),
+        (&["line", "--json", "--marking", "1"], "[3,2]"),
+        (&["line", "--json", "--marking", "--under", "0,-"], "[0,1]"),
     ] {
         let written = String::from_utf8(done(arguments, &a)).expect("UTF-8");
         assert_eq!(written, format!("{{\"line\":{line}}}\n"), "{arguments:?}");
@@ -498,6 +501,18 @@ fn lines_in_json() {
             &a,
             17,
             "3 ceilings for 2 processes",
+        ),
+        (
+            &["line", "--json", "--marking", "2"],
+            &a,
+            12,
+            "there is no process 2 (N is 2)",
+        ),
+        (
+            &["line", "--json", "--marking", "--under", "3"],
+            &a,
+            17,
+            "1 ceiling for 2 processes",
         ),
         (
             &["line", "--json", "--under", "3,4"],
