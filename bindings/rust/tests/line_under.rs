@@ -4,68 +4,11 @@
 
 mod common;
 
-use common::{accepted, bytes, corpus, example_a, Chance, EXAMPLE_A};
+use common::{
+    accepted, bytes, ceilings_of, corpus, counts, example_a, is_consistent, latest, lines_below,
+    small, Chance, EXAMPLE_A,
+};
 use keeper::{archive, Refusal, Table, LARGEST_LINE};
-
-fn counts(table: &Table) -> Vec<u16> {
-    table.counts().collect()
-}
-
-/// The ceilings of a set: a holder's last checkpoint, any other's count.
-fn ceilings_of(table: &Table, set: u32) -> Vec<u16> {
-    let counts = (0..).zip(table.counts());
-    counts
-        .map(|(process, count)| count - (set >> process & 1) as u16)
-        .collect()
-}
-
-/// Whether no message is received before the line and sent after it.
-fn is_consistent(table: &Table, line: &[u16]) -> bool {
-    !table.messages().any(|message| {
-        let received = message.received.map(|number| number.get());
-        let sent_after = message.sent >= line[usize::from(message.sender)];
-        sent_after && received.is_some_and(|number| number <= line[usize::from(message.receiver)])
-    })
-}
-
-/// Every line at or below the ceilings.
-fn lines_below(ceilings: &[u16]) -> Vec<Vec<u16>> {
-    let mut lines = vec![vec![]];
-    for ceiling in ceilings {
-        let longer = |line: Vec<u16>| (0..=*ceiling).map(move |last| [&line[..], &[last]].concat());
-        lines = lines.into_iter().flat_map(longer).collect();
-    }
-    lines
-}
-
-/// The latest consistent line by the definition: it is among the consistent
-/// ones, and no other has a larger number anywhere.
-fn latest(table: &Table, ceilings: &[u16]) -> Vec<u16> {
-    let mut lines = lines_below(ceilings);
-    lines.retain(|line| is_consistent(table, line));
-    let is_above = |line: &[u16], other: &[u16]| line.iter().zip(other).all(|(l, o)| l >= o);
-    let mut latest = lines
-        .iter()
-        .filter(|line| lines.iter().all(|other| is_above(line, other)));
-    latest.next().expect("one of them is the latest").clone()
-}
-
-/// A small table: any numbers within their limits.
-fn small(chance: &mut Chance) -> Table {
-    let n = 1 + chance.below(3);
-    let m = if n == 1 { 0 } else { chance.below(7) };
-    let counts: Vec<usize> = (0..n).map(|_| 1 + chance.below(3)).collect();
-    let (mut sends, mut receipts) = (vec![], vec![]);
-    for _ in 0..m {
-        let sender = chance.below(n);
-        let receiver = (sender + 1 + chance.below(n - 1)) % n;
-        sends.extend([sender, chance.below(counts[sender])]);
-        receipts.extend([receiver, chance.below(counts[receiver])]);
-    }
-    let numbers = [vec![n, m], counts, sends, receipts].concat();
-    let numbers: Vec<u16> = numbers.into_iter().map(|number| number as u16).collect();
-    Table::from_bytes(bytes(&numbers)).expect("within the limits")
-}
 
 #[test]
 fn the_latest_consistent_line_at_or_below_all_ceilings() {
