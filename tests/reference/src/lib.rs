@@ -8,6 +8,7 @@
 //!
 //! * `table`   - lookups in raw bytes, the table's checks, reading and writing
 //! * `lines`   - orphans, consistency and latest consistent lines under ceilings
+//! * `marking` - the graph of states, and the marking procedure on it
 //! * `steps`   - send, save and fall back
 //! * `sheet`   - the keep sheet
 //! * `futures` - a search over lists of steps for what they need
@@ -18,6 +19,7 @@ pub mod futures;
 pub mod gen;
 pub mod lines;
 pub mod listing;
+pub mod marking;
 pub mod sheet;
 pub mod steps;
 pub mod table;
@@ -25,6 +27,7 @@ pub mod table;
 pub use futures::needed_by_futures;
 pub use lines::{line_of_set, line_under, recovery_line};
 pub use listing::listing;
+pub use marking::marked_line;
 pub use sheet::keep_sheet;
 pub use steps::{fall_back, save, send};
 pub use table::{
@@ -32,8 +35,9 @@ pub use table::{
     TABLE_CHECKS,
 };
 
-/// What a call yields: the returned number, the bytes of the answer, and the
-/// numbers at the front of the scratch where the call writes them.
+/// What a call yields: the returned number, the bytes of the answer, and what
+/// stands at the front of the scratch or of the mark buffer where the call
+/// writes them.
 #[derive(Clone, Debug, PartialEq, Eq)]
 pub struct Outcome {
     /// Zero, or the number of the refusal.
@@ -44,6 +48,10 @@ pub struct Outcome {
     /// The first N x N numbers of the scratch afterwards, or `None` when the
     /// scratch is left as it was. Only the keep sheet writes it.
     pub lines: Option<Vec<u16>>,
+    /// How many bytes at the front of the mark buffer are zero afterwards, or
+    /// `None` when the mark buffer is left as it was. Only the line by marking
+    /// writes it. The bytes beyond these keep their values.
+    pub marks: Option<usize>,
 }
 
 impl Outcome {
@@ -53,6 +61,7 @@ impl Outcome {
             number,
             answer: Vec::new(),
             lines: None,
+            marks: None,
         }
     }
 
@@ -66,6 +75,7 @@ impl Outcome {
             number: 0,
             answer,
             lines: None,
+            marks: None,
         }
     }
 }

@@ -15,6 +15,7 @@ calls: check
        line ANSWER_LEN
        set SET ANSWER_LEN
        under ANSWER_LEN CEILING...
+       marked MARKS_LEN ANSWER_LEN CEILING...
        send FROM TO ANSWER_LEN
        save PROCESS ANSWER_LEN POSITION...
        fall-back ANSWER_LEN
@@ -44,6 +45,9 @@ fn outcome(bytes: &[u8], args: &[String]) -> Option<Outcome> {
         ("line", 2) => reference::recovery_line(bytes, number(args, 1)?),
         ("set", 3) => reference::line_of_set(bytes, number(args, 1)?, number(args, 2)?),
         ("under", 2..) => reference::line_under(bytes, &list(args, 2)?, number(args, 1)?),
+        ("marked", 3..) => {
+            reference::marked_line(bytes, &list(args, 3)?, number(args, 1)?, number(args, 2)?)
+        }
         ("send", 4) => reference::send(bytes, number(args, 1)?, number(args, 2)?, number(args, 3)?),
         ("save", 3..) => {
             reference::save(bytes, number(args, 1)?, &list(args, 3)?, number(args, 2)?)
@@ -54,7 +58,8 @@ fn outcome(bytes: &[u8], args: &[String]) -> Option<Outcome> {
     })
 }
 
-/// Number, answer in hexadecimal, and the scratch lines where there are any.
+/// Number, answer in hexadecimal, and where there are any the scratch lines and
+/// the mark buffer's zero bytes.
 fn show(outcome: &Outcome) -> String {
     let mut text = format!("number {}\nanswer", outcome.number);
     for byte in &outcome.answer {
@@ -67,6 +72,9 @@ fn show(outcome: &Outcome) -> String {
             text += &format!(" {entry}");
         }
         text += "\n";
+    }
+    if let Some(zeros) = outcome.marks {
+        text += &format!("marks {zeros}\n");
     }
     text
 }

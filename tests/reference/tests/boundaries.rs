@@ -360,7 +360,8 @@ fn buffers() {
             Outcome {
                 number: 16,
                 answer: vec![],
-                lines: long.lines.clone()
+                lines: long.lines.clone(),
+                marks: None
             }
         );
         assert_eq!(keep_sheet(&bytes, n * n - 1, 0), Outcome::refused(15));
