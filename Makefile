@@ -80,7 +80,7 @@ format: need-rt
 
 # The second implementation: its own tests, and its answers to the scripts of the test programs.
 CARGO = cargo --quiet
-CASES = run_table_cases keeper_cases
+CASES = run_table_cases keeper_cases marking_cases
 reference-tests: need-cargo
 	@mkdir -p target/tests
 	@cd tests/reference && $(CARGO) test --release --target-dir ../../target/cargo >../../target/tests/reference.log 2>&1 || { cat ../../target/tests/reference.log; exit 1; }

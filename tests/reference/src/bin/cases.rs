@@ -1,6 +1,7 @@
-//! Answers the scripts of the test programs (`run_table_cases`, `keeper_cases`)
-//! from this implementation: reads a script on standard input and prints what
-//! the program is to print. The programs' expected outputs are made so.
+//! Answers the scripts of the test programs (`run_table_cases`, `keeper_cases`,
+//! `marking_cases`) from this implementation: reads a script on standard input
+//! and prints what the program is to print. The programs' expected outputs are
+//! made so.
 
 use std::io::{Read, Write};
 
@@ -12,10 +13,20 @@ const SPACE: usize = 33_000;
 /// The numbers of their list of ceilings.
 const CEILINGS: usize = 64;
 
+/// The bytes of their mark buffer, at most.
+const MARKS: usize = 16_500;
+
 struct Bench {
     table: Vec<u8>,
     answer: Vec<u8>,
     out: String,
+}
+
+/// A list of ceilings: of those given the last goes on to the end; 0 if none is.
+fn ceilings(count: usize, given: &[usize]) -> Vec<u16> {
+    let mut list: Vec<u16> = given.iter().map(|&c| c as u16).collect();
+    list.resize(count.min(CEILINGS), list.last().copied().unwrap_or(0));
+    list
 }
 
 impl Bench {
@@ -81,6 +92,12 @@ impl Bench {
     }
 
     fn outcome(&mut self, outcome: keeper::Outcome) {
+        self.outcome_with(outcome, None);
+    }
+
+    /// What is printed of a call; of a mark buffer how many of its bytes, from
+    /// the front on, are 0 after it.
+    fn outcome_with(&mut self, outcome: keeper::Outcome, zeros: Option<usize>) {
         let written = if outcome.number == 0 {
             outcome.answer.len()
         } else {
@@ -92,6 +109,9 @@ impl Bench {
             self.out.push_str(" lines");
             let bytes: Vec<u8> = lines.iter().flat_map(|l| l.to_le_bytes()).collect();
             self.numbers(&bytes);
+        }
+        if let Some(zeros) = zeros {
+            self.out.push_str(&format!(" marks {zeros}"));
         }
         self.out.push_str(" ok");
         if outcome.number == 0 {
@@ -124,8 +144,8 @@ impl Bench {
             return;
         }
         if ![
-            "check", "whole", "lookup", "recovery", "hold", "under", "send", "save", "fall",
-            "sheet",
+            "check", "whole", "lookup", "recovery", "hold", "under", "marked", "send", "save",
+            "fall", "sheet",
         ]
         .contains(&word)
         {
@@ -159,10 +179,16 @@ impl Bench {
             "recovery" => self.outcome(keeper::recovery_line(&whole, a[0])),
             "hold" => self.outcome(keeper::line_of_set(&whole, a[0] as u32, a[1])),
             "under" => {
-                // The last ceiling given goes on to the end; 0 if none is.
-                let mut list: Vec<u16> = small[2..].iter().map(|&c| c as u16).collect();
-                list.resize(a[0].min(CEILINGS), list.last().copied().unwrap_or(0));
+                let list = ceilings(a[0], &small[2..]);
                 self.outcome(keeper::line_under(&whole, &list, a[1]));
+            }
+            "marked" => {
+                let list = ceilings(a[0], &small[4..]);
+                let mut marks = vec![small[3] as u8; a[2].min(MARKS)];
+                let outcome = keeper::marked_line(&whole, &list, marks.len(), a[1]);
+                marks[..outcome.marks.unwrap_or(0)].fill(0);
+                let zeros = marks.iter().take_while(|&&byte| byte == 0).count();
+                self.outcome_with(outcome, Some(zeros));
             }
             "send" => self.outcome(keeper::send(&whole, small[0] as u16, small[1] as u16, a[2])),
             "save" => {
