@@ -207,7 +207,7 @@ binding-tests: archives need-cargo
 # Every call of the library beside the second implementation: tables by chance, at the limits, damaged, with shares
 # at and near exact halves, chains of steps; then every table of small scopes. A difference prints the table, the call
 # and both answers.
-CALLS = 360000
+CALLS = 450000
 SEED = 20260101
 SCOPES =
 differential-tests: archives need-cargo

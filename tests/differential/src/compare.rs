@@ -1,8 +1,9 @@
 //! One call, made by the archive, by the binding and by the second
 //! implementation, and everything that may differ: the returned number, the
 //! length written, every byte of the answer buffer and of its guards, every
-//! number of the scratch and of its guards, and what may only be read. The share
-//! of a listing is also held against the rule of its rounding.
+//! number of the scratch and of its guards, every byte of the mark buffer and of
+//! its guards, and what may only be read. The share of a listing is also held
+//! against the rule of its rounding.
 
 use std::collections::BTreeMap;
 use std::fmt;
@@ -12,11 +13,12 @@ use reference::gen::Rng;
 use reference::Outcome;
 
 use crate::lend::{Element, Lent};
+use crate::marked;
 use crate::share::{self, ROUNDINGS};
 use crate::show;
 
 /// A call and its arguments, apart from the table. `room` is the length of the
-/// answer buffer, `numbers` that of the scratch.
+/// answer buffer, `numbers` that of the scratch, `marks` that of the mark buffer.
 #[derive(Clone, Debug, PartialEq, Eq)]
 pub enum Call {
     CheckTable,
@@ -29,6 +31,11 @@ pub enum Call {
     },
     LineUnder {
         ceilings: Vec<u16>,
+        room: usize,
+    },
+    MarkedLine {
+        ceilings: Vec<u16>,
+        marks: usize,
         room: usize,
     },
     Send {
@@ -54,11 +61,12 @@ pub enum Call {
 }
 
 /// The names of the calls, in the order of the report.
-pub const NAMES: [&str; 9] = [
+pub const NAMES: [&str; 10] = [
     "check_table",
     "recovery_line",
     "line_of_set",
     "line_under",
+    "marked_line",
     "send",
     "save",
     "fall_back",
@@ -101,11 +109,12 @@ impl Call {
             Call::RecoveryLine { .. } => 1,
             Call::LineOfSet { .. } => 2,
             Call::LineUnder { .. } => 3,
-            Call::Send { .. } => 4,
-            Call::Save { .. } => 5,
-            Call::FallBack { .. } => 6,
-            Call::KeepSheet { .. } => 7,
-            Call::Listing { .. } => 8,
+            Call::MarkedLine { .. } => 4,
+            Call::Send { .. } => 5,
+            Call::Save { .. } => 6,
+            Call::FallBack { .. } => 7,
+            Call::KeepSheet { .. } => 8,
+            Call::Listing { .. } => 9,
         }
     }
 
@@ -116,6 +125,7 @@ impl Call {
             Call::RecoveryLine { room }
             | Call::LineOfSet { room, .. }
             | Call::LineUnder { room, .. }
+            | Call::MarkedLine { room, .. }
             | Call::Send { room, .. }
             | Call::Save { room, .. }
             | Call::FallBack { room }
@@ -132,6 +142,7 @@ impl Call {
             Call::RecoveryLine { room }
             | Call::LineOfSet { room, .. }
             | Call::LineUnder { room, .. }
+            | Call::MarkedLine { room, .. }
             | Call::Send { room, .. }
             | Call::Save { room, .. }
             | Call::FallBack { room }
@@ -149,11 +160,19 @@ impl Call {
         }
     }
 
+    /// The length of the mark buffer.
+    fn marks(&self) -> usize {
+        match *self {
+            Call::MarkedLine { marks, .. } => marks,
+            _ => 0,
+        }
+    }
+
     /// A save's list, or one of ceilings.
     fn list(&self) -> &[u16] {
         match self {
             Call::Save { list, .. } => list,
-            Call::LineUnder { ceilings, .. } => ceilings,
+            Call::LineUnder { ceilings, .. } | Call::MarkedLine { ceilings, .. } => ceilings,
             _ => &[],
         }
     }
@@ -173,6 +192,11 @@ impl Call {
             Call::RecoveryLine { room } => reference::recovery_line(table, *room),
             Call::LineOfSet { set, room } => reference::line_of_set(table, *set, *room),
             Call::LineUnder { ceilings, room } => reference::line_under(table, ceilings, *room),
+            Call::MarkedLine {
+                ceilings,
+                marks,
+                room,
+            } => reference::marked_line(table, ceilings, *marks, *room),
             Call::Send { from, to, room } => reference::send(table, *from, *to, *room),
             Call::Save {
                 process,
@@ -196,6 +220,8 @@ impl Call {
         let (entries, of_entries) = (list.as_ptr(), list.len());
         let scratch = lent.scratch.slice_mut();
         let (numbers, of_numbers) = (scratch.as_mut_ptr(), scratch.len());
+        let marks = lent.marks.slice_mut();
+        let (marks, of_marks) = (marks.as_mut_ptr(), marks.len());
         let answer = lent.answer.slice_mut();
         let (answer, room) = (answer.as_mut_ptr(), answer.len());
         let written = lent.written.slice_mut().as_mut_ptr();
@@ -211,6 +237,9 @@ impl Call {
                 }
                 Call::LineUnder { .. } => archive::keeper_line_under(
                     bytes, length, entries, of_entries, answer, room, written,
+                ),
+                Call::MarkedLine { .. } => marked::keeper_marked_line(
+                    bytes, length, entries, of_entries, marks, of_marks, answer, room, written,
                 ),
                 Call::Send { from, to, .. } => {
                     archive::keeper_send(bytes, length, from, to, answer, room, written)
@@ -231,15 +260,17 @@ impl Call {
         }
     }
 
-    /// What the binding answers, brought into the archive's form.
-    fn by_binding(&self, lent: &mut Loan) -> u32 {
+    /// What the binding answers, brought into the archive's form; `None` where
+    /// it does not have the call.
+    fn by_binding(&self, lent: &mut Loan) -> Option<u32> {
         let table = lent.table.slice();
         let answer = lent.answer.slice_mut();
         let result = match *self {
-            Call::CheckTable => return number(keeper::check_table(table)),
+            Call::CheckTable => return Some(number(keeper::check_table(table))),
             Call::RecoveryLine { .. } => keeper::recovery_line(table, answer),
             Call::LineOfSet { set, .. } => keeper::line_of_set(table, set, answer),
             Call::LineUnder { .. } => keeper::line_under(table, lent.list.slice(), answer),
+            Call::MarkedLine { .. } => return None,
             Call::Send { from, to, .. } => keeper::send(table, from, to, answer),
             Call::Save { process, .. } => keeper::save(table, process, lent.list.slice(), answer),
             Call::FallBack { .. } => keeper::fall_back(table, answer),
@@ -249,7 +280,7 @@ impl Call {
         if let Ok(length) = result {
             lent.written.put(&[length]);
         }
-        number(result)
+        Some(number(result))
     }
 }
 
@@ -270,12 +301,13 @@ const LOOKUPS: [(&str, Lookup, Lookup); 5] = [
     ("received", run_table::received, reference::received),
 ];
 
-/// All that a call is lent. A call that has no list, no scratch or no answer
-/// gets none of it; the slice is there all the same, and stays as it is.
+/// All that a call is lent. A call that has no list, no scratch, no marks or no
+/// answer gets none of it; the slice is there all the same, and stays as it is.
 struct Loan {
     table: Lent<u8>,
     list: Lent<u16>,
     scratch: Lent<u16>,
+    marks: Lent<u8>,
     answer: Lent<u8>,
     written: Lent<usize>,
 }
@@ -286,6 +318,7 @@ impl Loan {
             table: Lent::holding(rng, table),
             list: Lent::holding(rng, call.list()),
             scratch: Lent::room(rng, call.numbers()),
+            marks: Lent::room(rng, call.marks()),
             answer: Lent::room(rng, call.room()),
             written: Lent::room(rng, 1),
         }
@@ -296,6 +329,7 @@ impl Loan {
             table: self.table.copy(),
             list: self.list.copy(),
             scratch: self.scratch.copy(),
+            marks: self.marks.copy(),
             answer: self.answer.copy(),
             written: self.written.copy(),
         }
@@ -310,6 +344,9 @@ impl Loan {
         }
         if let Some(lines) = &outcome.lines {
             loan.scratch.put(lines);
+        }
+        if let Some(zeros) = outcome.marks {
+            loan.marks.put(&vec![0; zeros]);
         }
         loan
     }
@@ -327,6 +364,7 @@ impl Loan {
         add("table", &self.table, &expected.table, into);
         add("list", &self.list, &expected.list, into);
         add("scratch", &self.scratch, &expected.scratch, into);
+        add("mark buffer", &self.marks, &expected.marks, into);
         add("answer", &self.answer, &expected.answer, into);
         add("length written", &self.written, &expected.written, into);
     }
@@ -400,7 +438,10 @@ impl Comparison {
         for by_binding in [false, true] {
             let mut loan = before.copy();
             let number = if by_binding {
-                call.by_binding(&mut loan)
+                let Some(number) = call.by_binding(&mut loan) else {
+                    continue;
+                };
+                number
             } else {
                 call.by_archive(&mut loan)
             };
@@ -424,17 +465,19 @@ impl Comparison {
                     call: format!("{call:?}, called through {path}"),
                     what,
                     got: format!(
-                        "number {number}, length written {} ({} before the call), scratch {:?}, answer buffer {}",
+                        "number {number}, length written {} ({} before the call), scratch {:?}, mark buffer {}, answer buffer {}",
                         loan.written.slice()[0],
                         before.written.slice()[0],
                         loan.scratch.slice(),
+                        show::hex(loan.marks.slice()),
                         call.show(loan.answer.slice())
                     ),
                     expected: format!(
-                        "number {}, length written {}, scratch {:?}, answer buffer {}",
+                        "number {}, length written {}, scratch {:?}, mark buffer {}, answer buffer {}",
                         expected.number,
                         wanted.written.slice()[0],
                         wanted.scratch.slice(),
+                        show::hex(wanted.marks.slice()),
                         call.show(wanted.answer.slice())
                     ),
                 }));
@@ -453,6 +496,7 @@ impl Comparison {
                         .lines
                         .as_ref()
                         .map(|lines| loan.scratch.slice()[..lines.len()].to_vec()),
+                    marks: expected.marks,
                 };
             }
         }

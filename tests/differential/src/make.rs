@@ -2,6 +2,7 @@
 
 use keeper::LISTING_ROOM;
 use reference::gen::{self, Order, Rng};
+use reference::marking::mark_bytes;
 use reference::table::{MOST_MESSAGES, MOST_STATES};
 use reference::{Message, Outcome, Table, TABLE_CHECKS};
 
@@ -345,6 +346,22 @@ pub fn ceilings(rng: &mut Rng, table: &Table) -> Vec<u16> {
     ceilings
 }
 
+/// A length of a mark buffer that needs so many bytes: mostly just as many, or
+/// one more or fewer, then none, some, and far more than any table needs.
+pub fn marks(rng: &mut Rng, needed: usize) -> usize {
+    match rng.between(0, 15) {
+        0..=5 => needed,
+        6..=8 => needed.saturating_sub(1),
+        9..=11 => needed + 1,
+        12 => 0,
+        13 => rng.between(0, needed),
+        14 => needed + rng.between(1, 300),
+        // The low 16 bits are too short.
+        _ if rng.chance(1, 12) => 65_536 + rng.between(0, needed.saturating_sub(1)),
+        _ => needed + 256,
+    }
+}
+
 /// Lengths of an answer buffer for an answer of this length: exact, one byte
 /// short, and others; for a refused call (`None`) any.
 fn rooms(rng: &mut Rng, answer: Option<usize>, all: bool) -> Vec<usize> {
@@ -386,6 +403,16 @@ fn calls(rng: &mut Rng, bytes: &[u8], few: bool) -> Vec<Call> {
     for _ in 0..times(6) {
         let ceilings = ceilings(rng, &values);
         calls.push(Call::LineUnder { ceilings, room });
+    }
+    let needed = mark_bytes(&values);
+    for _ in 0..times(6) {
+        let ceilings = ceilings(rng, &values);
+        let marks = marks(rng, needed);
+        calls.push(Call::MarkedLine {
+            ceilings,
+            marks,
+            room,
+        });
     }
     for _ in 0..times(4) {
         let (from, to) = (process(rng, n), process(rng, n));

@@ -28,6 +28,11 @@ fn all_calls(room: usize) -> Vec<Call> {
             ceilings: vec![3, 1],
             room,
         },
+        Call::MarkedLine {
+            ceilings: vec![2, 3],
+            marks: 3,
+            room,
+        },
         Call::Send {
             from: 0,
             to: 1,
@@ -90,7 +95,7 @@ fn the_number_counts() {
     for room in [0, ENOUGH] {
         for call in all_calls(room) {
             let expected = call.expected(&table);
-            for number in (0..=18).filter(|&number| number != expected.number) {
+            for number in (0..=19).filter(|&number| number != expected.number) {
                 let mut spoilt = expected.clone();
                 spoilt.number = number;
                 assert!(fails(&table, &call, spoilt), "{call:?}, {number}");
@@ -126,6 +131,56 @@ fn the_scratch_counts() {
     }
 }
 
+/// On success the bytes that the marks need are zero, and no more of them: one
+/// byte for example A. A refusal leaves all as they were.
+#[test]
+fn the_marks_count() {
+    let table = example_a().to_bytes();
+    let call = |marks, room| Call::MarkedLine {
+        ceilings: vec![2, 3],
+        marks,
+        room,
+    };
+    let answered = call(3, 4).expected(&table);
+    assert_eq!((answered.number, answered.marks), (0, Some(1)));
+    for (marks, room, number) in [(3, 4, 0), (3, 3, 16), (3, 0, 16), (0, 4, 19)] {
+        let call = call(marks, room);
+        let expected = call.expected(&table);
+        assert_eq!(expected.number, number);
+        assert!(!fails(&table, &call, expected.clone()));
+        let all = [None, Some(1), Some(2), Some(3)].into_iter();
+        let fits = all.filter(|zeros| zeros.unwrap_or(0) <= marks);
+        for zeros in fits.filter(|&zeros| zeros != expected.marks) {
+            let mut spoilt = expected.clone();
+            spoilt.marks = zeros;
+            assert!(fails(&table, &call, spoilt), "{call:?}, {zeros:?}");
+        }
+    }
+}
+
+/// A mark buffer is refused where it is one byte short, and not where it is
+/// enough: the other number is a difference.
+#[test]
+fn the_length_of_the_marks_counts() {
+    let call = |marks| Call::MarkedLine {
+        ceilings: vec![0, 0],
+        marks,
+        room: ENOUGH,
+    };
+    // 8 bits and 9 bits.
+    for (counts, needed) in [(vec![3, 3], 1), (vec![3, 4], 2)] {
+        let messages = Vec::new();
+        let table = Table { counts, messages }.to_bytes();
+        for marks in 0..=3 {
+            let mut answered = Outcome::answered(vec![0; 4], ENOUGH);
+            answered.marks = Some(needed.min(marks));
+            let refused = Outcome::refused(19);
+            assert_eq!(fails(&table, &call(marks), answered), marks < needed);
+            assert_eq!(fails(&table, &call(marks), refused), marks >= needed);
+        }
+    }
+}
+
 /// Each call has met each of its checks once, and shares each rounding.
 fn all_met() -> Comparison {
     let mut comparison = Comparison::default();
@@ -144,6 +199,8 @@ fn all_met() -> Comparison {
 fn the_lists_of_checks_count() {
     assert_eq!(checks_of("check_table"), TABLE_CHECKS);
     assert_eq!(checks_of("listing"), [16]);
+    let of_marking = [&TABLE_CHECKS[..], &[17, 18, 19, 16]].concat();
+    assert_eq!(checks_of("marked_line"), of_marking);
     let mut comparison = all_met();
     assert_eq!(comparison.strays(), [""; 0]);
     for (place, name) in NAMES.iter().enumerate() {
@@ -215,6 +272,11 @@ fn another_table_counts() {
         let mut calls = all_calls(ENOUGH);
         calls.push(Call::LineUnder {
             ceilings: table.counts.iter().map(|&count| count as u16 / 2).collect(),
+            room: ENOUGH,
+        });
+        calls.push(Call::MarkedLine {
+            ceilings: table.counts.iter().map(|&count| count as u16 / 2).collect(),
+            marks: 2,
             room: ENOUGH,
         });
         for call in calls {

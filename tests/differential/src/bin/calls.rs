@@ -9,9 +9,10 @@ use std::time::Instant;
 use differential::compare::{Call, Comparison, Difference};
 use differential::{make, share};
 use reference::gen::{self, Order, Rng};
+use reference::marking::mark_bytes;
 use reference::{Message, Outcome, Table, TABLE_CHECKS};
 
-const CALLS: u64 = 360_000;
+const CALLS: u64 = 450_000;
 const SEED: u64 = 20_260_101;
 
 /// What a call would write into an endless buffer, then with room for it and
@@ -49,6 +50,7 @@ fn limits(comparison: &mut Comparison, seed: u64) -> Result<(), Box<Difference>>
         let bytes = table.to_bytes();
         let n = table.processes();
         let room = usize::MAX;
+        let needed = mark_bytes(table);
         let waiting = table.waiting_for(1).into_iter().map(|k| k as u16);
         let mut calls = vec![
             Call::CheckTable,
@@ -60,6 +62,11 @@ fn limits(comparison: &mut Comparison, seed: u64) -> Result<(), Box<Difference>>
             },
             Call::LineUnder {
                 ceilings: make::ceilings(rng, table),
+                room,
+            },
+            Call::MarkedLine {
+                ceilings: make::ceilings(rng, table),
+                marks: make::marks(rng, needed),
                 room,
             },
             Call::Send {
@@ -78,13 +85,23 @@ fn limits(comparison: &mut Comparison, seed: u64) -> Result<(), Box<Difference>>
                 room,
             },
         ];
-        // The counts; half of each; the last of them lower and higher by one.
+        // The counts; half of each; the last states; the last of the counts
+        // lower and higher by one. Marks that just fit, or just do not.
         let counts: Vec<u16> = table.counts.iter().map(|&count| count as u16).collect();
         let halves = counts.iter().map(|count| count / 2).collect();
+        let last = counts.iter().map(|count| count - 1).collect();
         let (mut lower, mut higher) = (counts.clone(), counts.clone());
         lower[n - 1] -= 1;
         higher[n - 1] += 1;
-        for ceilings in [counts, halves, lower, higher] {
+        for ceilings in [counts, halves, last, lower, higher] {
+            for marks in [needed, needed - 1] {
+                let ceilings = ceilings.clone();
+                calls.push(Call::MarkedLine {
+                    ceilings,
+                    marks,
+                    room,
+                });
+            }
             calls.push(Call::LineUnder { ceilings, room });
         }
         for call in &calls {
@@ -262,8 +279,19 @@ fn orders(comparison: &mut Comparison, seed: u64) -> Result<(), Box<Difference>>
         for set in [0, 1, 2, 3, 4, 6, 7, 1 << 31, u32::MAX] {
             calls.push(Call::LineOfSet { set, room });
         }
+        // Mark buffers that are just enough for the table, one byte short, and
+        // none; of a refused table any.
+        let needed = Table::read(table).map_or(1, |table| mark_bytes(&table));
         for ceilings in &ceilings {
             let ceilings = ceilings.clone();
+            for marks in [0, needed - 1, needed, needed + 1] {
+                let ceilings = ceilings.clone();
+                calls.push(Call::MarkedLine {
+                    ceilings,
+                    marks,
+                    room,
+                });
+            }
             calls.push(Call::LineUnder { ceilings, room });
         }
         for numbers in 0..=5 {
@@ -278,6 +306,53 @@ fn orders(comparison: &mut Comparison, seed: u64) -> Result<(), Box<Difference>>
             }
         }
         make::listings(comparison, rng, &made_by, table)?;
+    }
+    Ok(())
+}
+
+/// The mark buffer: tables whose bits just fill bytes, and with one bit less and
+/// more, with few processes and with as many as there may be; lengths on both
+/// sides of the least one, of the counts alone, and of 8 and 16 bits. Each under
+/// the last states, from which the most roots give way, and by chance.
+fn marks(comparison: &mut Comparison, seed: u64) -> Result<(), Box<Difference>> {
+    let rng = &mut Rng::new(seed);
+    for n in [1, 2, 3, 5, 7, 8, 9, 15, 16, 17, 31, 32] {
+        for more in 0..=16 {
+            let (m, most) = (rng.between(0, 3 * n), rng.between(1, 9) as u32);
+            let mut table = gen::arbitrary(rng, n, m, most);
+            // The last process takes the bits up to a byte, and then `more`.
+            let bits: u32 = table.counts.iter().map(|count| count + 1).sum();
+            table.counts[n - 1] += (8 - bits % 8) % 8 + more;
+            let made_by = format!("marks, seed {seed}, {n} processes, {more} bits more");
+            let bytes = table.to_bytes();
+            let needed = mark_bytes(&table);
+            let of_counts = table.counts.iter().sum::<u32>() as usize / 8;
+            let last = table.counts.iter().map(|&count| count as u16 - 1).collect();
+            for ceilings in [last, gen::ceilings(rng, &table)] {
+                let lengths = [
+                    0,
+                    of_counts,
+                    of_counts + 1,
+                    needed - 1,
+                    needed,
+                    needed + 1,
+                    needed + 8,
+                    256,
+                    256 + needed - 1,
+                    16_388,
+                    65_536,
+                    65_536 + needed - 1,
+                ];
+                for marks in lengths {
+                    let call = Call::MarkedLine {
+                        ceilings: ceilings.clone(),
+                        marks,
+                        room: usize::MAX,
+                    };
+                    exact_and_short(comparison, rng, &made_by, &bytes, &call)?;
+                }
+            }
+        }
     }
     Ok(())
 }
@@ -350,9 +425,15 @@ fn chain(comparison: &mut Comparison, seed: u64, steps: usize) -> Result<(), Box
             let now = Table::read(&bytes).expect("the library writes accepted tables");
             let ceilings = make::ceilings(rng, &now);
             let numbers = n * n + rng.between(0, 3);
+            let marks = make::marks(rng, mark_bytes(&now));
             for call in [
                 Call::RecoveryLine { room },
                 Call::LineOfSet { set, room },
+                Call::MarkedLine {
+                    ceilings: ceilings.clone(),
+                    marks,
+                    room,
+                },
                 Call::LineUnder { ceilings, room },
                 Call::KeepSheet { numbers, room },
                 Call::Listing { room },
@@ -385,6 +466,8 @@ fn run(comparison: &mut Comparison, calls: u64, seed: u64) -> Result<(), Box<Dif
     part(comparison, "bounds, damages and pairs of damages");
     orders(comparison, seed + 3)?;
     part(comparison, "several refusals at once");
+    marks(comparison, seed + 6)?;
+    part(comparison, "mark buffers");
     shares(comparison, seed + 4)?;
     part(comparison, "shares at and near exact halves");
     for number in 0..40 {

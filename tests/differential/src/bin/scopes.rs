@@ -7,6 +7,9 @@
 //!   above each count, and under lists of another length; that a lower list
 //!   never has a later line; and the line of every set beside the line under
 //!   the ceilings of that set.
+//! * `scopes marked N C M`: the line by marking under the same lists of ceilings,
+//!   beside the second implementation's and beside the library's line under
+//!   them; what it leaves in the mark buffer; and mark buffers that are too short.
 //! * `scopes listing T M`: the listings of all tables with at most T states in
 //!   all and at most M messages, so with up to T processes. From T = 8 on these
 //!   have each exact half of a percent that a total of 8 can have.
@@ -24,12 +27,14 @@ use std::process::ExitCode;
 use std::time::Instant;
 
 use differential::compare::{number, Call};
+use differential::marked::keeper_marked_line;
 use differential::scope::{least_renaming, next_order, renamed_message, Scope};
 use differential::{share, show};
 use keeper::archive;
 use reference::lines::{
     all_hold, ceiling, line_by_enumeration, line_to_bytes, single_holder, Line,
 };
+use reference::marking::{mark_bytes, Marking};
 use reference::sheet::kept_under;
 use reference::{needed_by_futures, Message, Table};
 
@@ -216,6 +221,67 @@ impl Lined {
     }
 }
 
+/// What stands round the marks, on either side, and the most bytes that are lent:
+/// four processes of eight states need five, and three are lent beyond them.
+const MARK_GUARDS: usize = 4;
+const MOST_MARKS: usize = 8;
+
+/// What the call for the line by marking yields: the same, and all of the mark
+/// buffer with what stands round it.
+#[derive(Clone, Copy, Debug, PartialEq, Eq)]
+struct Marked {
+    lined: Lined,
+    marks: [u8; MARK_GUARDS + MOST_MARKS + MARK_GUARDS],
+}
+
+impl Marked {
+    /// What to expect of a buffer that held `fill` before: of its bytes the
+    /// first are zero on success, as many as are needed.
+    fn expected(lined: Lined, fill: u8, needed: usize) -> Marked {
+        let mut marks = [fill; MARK_GUARDS + MOST_MARKS + MARK_GUARDS];
+        if lined.number == 0 {
+            marks[MARK_GUARDS..MARK_GUARDS + needed].fill(0);
+        }
+        Marked { lined, marks }
+    }
+
+    /// The archive's line by marking, in a mark buffer of this length, and
+    /// whether the list and what stands round it were left alone.
+    fn under(
+        table: &[u8],
+        ceilings: &[u16],
+        fill: u8,
+        length: usize,
+        room: usize,
+    ) -> (Marked, bool) {
+        let mut marked = Marked {
+            lined: Lined::NOTHING,
+            marks: [fill; MARK_GUARDS + MOST_MARKS + MARK_GUARDS],
+        };
+        let mut list = [LIST_GUARD; 16];
+        list[4..4 + ceilings.len()].copy_from_slice(ceilings);
+        let before = list;
+        let lent = &mut list[4..4 + ceilings.len()];
+        let marks = &mut marked.marks[MARK_GUARDS..MARK_GUARDS + length];
+        let answer = &mut marked.lined.buffer[4..4 + room];
+        // SAFETY: each pointer and length is a slice of a buffer of its own.
+        marked.lined.number = unsafe {
+            keeper_marked_line(
+                table.as_ptr(),
+                table.len(),
+                lent.as_mut_ptr(),
+                lent.len(),
+                marks.as_mut_ptr(),
+                marks.len(),
+                answer.as_mut_ptr(),
+                answer.len(),
+                &mut marked.lined.written,
+            )
+        };
+        (marked, list == before)
+    }
+}
+
 /// Every list with a number from 0 to one above the count for each process.
 fn all_ceilings(counts: &[u32]) -> Vec<Vec<u16>> {
     let mut all: Vec<Vec<u16>> = vec![Vec::new()];
@@ -317,6 +383,97 @@ fn under(scope: Scope) -> Result<String, Failure> {
     assert_eq!(tables, scope.size(), "every table once");
     Ok(format!(
         "{tables} tables, {calls} calls, {pairs} pairs of ceilings"
+    ))
+}
+
+/// What the mark buffer holds before a call, in turn: all marks, none, and some.
+const FILLS: [u8; 5] = [0xFF, 0xA5, 0x00, 0x5A, 0x01];
+
+/// The lines by marking under all ceilings, on every table of a scope.
+fn marked(scope: Scope) -> Result<String, Failure> {
+    let mut tables = 0;
+    let mut calls: u64 = 0;
+    let mut by_rounds = [0; 16];
+    scope.each_sorted(|sorted| -> Result<(), Failure> {
+        let n = sorted.processes();
+        let needed = mark_bytes(sorted);
+        // What to expect, from the second implementation's graph; it has no
+        // order of the messages.
+        let mut expected: Vec<(Vec<u16>, Lined)> = Vec::new();
+        for list in all_ceilings(&sorted.counts) {
+            let ceilings: Line = list.iter().map(|&number| number.into()).collect();
+            let above = (0..n).any(|p| ceilings[p] > sorted.counts[p]);
+            let lined = if above {
+                Lined::refused(18)
+            } else {
+                let marking = Marking::new(sorted, &ceilings);
+                by_rounds[marking.rounds.len()] += 1;
+                Lined::answered(marking.line())
+            };
+            expected.push((list, lined));
+        }
+        for length in (0..=n + 2).filter(|&length| length != n) {
+            expected.push((vec![0; length], Lined::refused(17)));
+            expected.push((vec![u16::MAX; length], Lined::refused(17)));
+        }
+        // Lengths of the mark buffer and of the answer's: other ones than the
+        // first for one order alone.
+        let mut lengths = Vec::new();
+        for marks in [needed + 3, needed, needed + 1, needed - 1, 0] {
+            for room in [2 * n + 3, 2 * n, 2 * n - 1, 0] {
+                lengths.push((marks, room));
+            }
+        }
+        let mut table = sorted.clone();
+        loop {
+            tables += 1;
+            let bytes = table.to_bytes();
+            for (list, lined) in &expected {
+                for &(marks, room) in &lengths {
+                    let fill = FILLS[(calls % 5) as usize];
+                    calls += 1;
+                    let wanted = match lined.number {
+                        0 if marks < needed => Lined::refused(19),
+                        0 if room < 2 * n => Lined::refused(16),
+                        _ => *lined,
+                    };
+                    let wanted = Marked::expected(wanted, fill, needed);
+                    let (got, left) = Marked::under(&bytes, list, fill, marks, room);
+                    if got != wanted || !left {
+                        return Err(format!(
+                            "difference in marked_line {list:?}, {marks} bytes of marks, each {fill} before, room {room}\n{}library: {got:?}{}\nsecond implementation: {wanted:?}",
+                            show::table(&bytes),
+                            if left { "" } else { "; the list or its guards were changed" }
+                        ));
+                    }
+                    // The library's other call, to the last byte of its buffer.
+                    let (under, _) = Lined::under(&bytes, list, room);
+                    if got.lined.number != 19 && got.lined != under {
+                        return Err(format!(
+                            "difference between marked_line and line_under {list:?}, room {room}\n{}{got:?}\n{under:?}",
+                            show::table(&bytes)
+                        ));
+                    }
+                }
+            }
+            lengths.truncate(1);
+            if !next_order(&mut table.messages) {
+                return Ok(());
+            }
+        }
+    })?;
+    assert_eq!(tables, scope.size(), "every table once");
+    let rounds: Vec<String> = (1..16)
+        .filter(|&rounds| by_rounds[rounds] > 0)
+        .map(|rounds| format!("{rounds}: {}", by_rounds[rounds]))
+        .collect();
+    // Two messages there and back take three rounds.
+    if scope.processes >= 2 && scope.states >= 2 && scope.messages >= 2 && rounds.len() < 3 {
+        return Err(format!("no three rounds are needed: {}", rounds.join(", ")));
+    }
+    Ok(format!(
+        "{tables} tables, {calls} calls, lists by their rounds ({})",
+        rounds.join(", ")
     ))
 }
 
@@ -561,6 +718,7 @@ fn task(words: &[&str]) -> Option<Result<String, Failure>> {
     match (words[0], words.len()) {
         ("lines", 4) => Some(lines(scope)),
         ("under", 4) => Some(under(scope)),
+        ("marked", 4) => Some(marked(scope)),
         ("steps", 4) => Some(steps(scope)),
         ("needs", 5) => Some(needs(scope, number(4)?)),
         _ => None,
@@ -568,12 +726,16 @@ fn task(words: &[&str]) -> Option<Result<String, Failure>> {
 }
 
 /// The scopes of `make test`.
-const PART: [&str; 11] = [
+const PART: [&str; 15] = [
     "lines 3 3 3",
     "lines 2 4 4",
     "under 3 3 3",
     "under 2 4 3",
     "under 4 2 2",
+    "marked 3 3 2",
+    "marked 3 2 3",
+    "marked 2 4 3",
+    "marked 4 2 2",
     "listing 8 2",
     "listing 6 3",
     "steps 2 3 3",
@@ -583,11 +745,13 @@ const PART: [&str; 11] = [
 ];
 
 /// Larger ones: some minutes.
-const MORE: [&str; 8] = [
+const MORE: [&str; 10] = [
     "lines 3 3 4",
     "lines 4 2 3",
     "under 2 4 4",
     "under 4 2 3",
+    "marked 3 3 3",
+    "marked 2 4 4",
     "listing 10 2",
     "listing 7 3",
     "steps 3 3 2",
@@ -615,7 +779,7 @@ fn main() -> ExitCode {
                 return ExitCode::FAILURE;
             }
             None => {
-                eprintln!("usage: scopes [more | lines N C M | under N C M | listing T M | steps N C M | needs N C M DEPTH]");
+                eprintln!("usage: scopes [more | lines N C M | under N C M | marked N C M | listing T M | steps N C M | needs N C M DEPTH]");
                 return ExitCode::from(2);
             }
         }
