@@ -216,6 +216,132 @@ uint32_t MODEL(line_under)(const uint8_t *table, size_t length, const uint16_t *
     return answer_line(&run, line, answer, room, written);
 }
 
+/* "The published marking method beside ours", of the change requests: its graph. A vertex is a state of a
+   process, its new one included, and the edges that leave a vertex are a list. */
+enum { MOST_VERTICES = MOST_PROCESSES * (MOST_STATES + 1), MOST_EDGES = MOST_VERTICES + MOST_MESSAGES };
+
+struct graph {
+    unsigned vertices, edges;
+    unsigned zero[MOST_PROCESSES]; /* the vertex of state 0 of each process; the later ones follow it */
+    int leaves[MOST_VERTICES];     /* the first edge that leaves each vertex; -1: none */
+    struct {
+        unsigned to;
+        int next;
+    } edge[MOST_EDGES];
+};
+
+static void add_edge(struct graph *graph, unsigned from, unsigned to)
+{
+    graph->edge[graph->edges].to = to;
+    graph->edge[graph->edges].next = graph->leaves[from];
+    graph->leaves[from] = (int)graph->edges++;
+}
+
+static void make_graph(const struct run *run, struct graph *graph)
+{
+    graph->vertices = graph->edges = 0;
+    for (unsigned p = 0; p < run->n; p++) {
+        graph->zero[p] = graph->vertices;
+        for (unsigned c = 0; c <= run->count[p]; c++)
+            graph->leaves[graph->vertices++] = -1;
+    }
+    for (unsigned p = 0; p < run->n; p++)
+        for (unsigned c = 0; c < run->count[p]; c++)
+            add_edge(graph, graph->zero[p] + c, graph->zero[p] + c + 1);
+    for (unsigned k = 0; k < run->m; k++) {
+        const struct message *message = &run->message[k];
+        if (message->r == 0)
+            continue;
+        add_edge(graph, graph->zero[message->j] + message->y, graph->zero[message->i] + message->r);
+    }
+}
+
+/* A mark is a bit of the lent buffer, that of state 0 of process 0 first. */
+static bool is_marked(const uint8_t *marks, unsigned vertex)
+{
+    return marks[vertex / 8] >> vertex % 8 & 1;
+}
+
+static void mark(uint8_t *marks, unsigned vertex)
+{
+    marks[vertex / 8] |= (uint8_t)(1 << vertex % 8);
+}
+
+/* Marks all that is strictly reachable from a root, by one edge or more: so the root itself only where the
+   graph leads back to it. What was marked before was followed then. */
+static void mark_from(const struct graph *graph, unsigned root, uint8_t *marks)
+{
+    static unsigned stack[MOST_VERTICES + 1];
+    unsigned height = 0;
+    stack[height++] = root;
+    while (height > 0) {
+        unsigned vertex = stack[--height];
+        for (int e = graph->leaves[vertex]; e >= 0; e = graph->edge[e].next) {
+            unsigned to = graph->edge[e].to;
+            if (is_marked(marks, to))
+                continue;
+            mark(marks, to);
+            stack[height++] = to;
+        }
+    }
+}
+
+/* The latest unmarked state of a process. No edge leads to state 0. */
+static unsigned latest_unmarked(const struct run *run, const struct graph *graph, unsigned p, const uint8_t *marks)
+{
+    unsigned c = run->count[p];
+    while (c > 0 && is_marked(marks, graph->zero[p] + c))
+        c--;
+    return c;
+}
+
+/* Figure 3 of the source: marks from the roots and, while a root is marked, another one in its place. */
+static void replace_roots(const struct run *run, const struct graph *graph, unsigned root[MOST_PROCESSES], uint8_t *marks)
+{
+    bool replaced = true;
+    while (replaced) {
+        replaced = false;
+        for (unsigned p = 0; p < run->n; p++)
+            mark_from(graph, graph->zero[p] + root[p], marks);
+        for (unsigned p = 0; p < run->n; p++) {
+            unsigned stood = root[p];
+            if (is_marked(marks, graph->zero[p] + stood))
+                root[p] = latest_unmarked(run, graph, p, marks);
+            replaced = replaced || root[p] != stood;
+        }
+    }
+}
+
+uint32_t MODEL(marked_line)(const uint8_t *table, size_t length, const uint16_t *ceilings, size_t entries,
+                            uint8_t *marks, size_t bytes, uint8_t *answer, size_t room, size_t *written)
+{
+    static struct graph graph;
+    uint32_t refusal = read_run(table, length, &run);
+    if (refusal != 0)
+        return refusal;
+    if (entries != run.n)
+        return 17;
+    for (unsigned p = 0; p < run.n; p++)
+        if (ceilings[p] > run.count[p])
+            return 18;
+    size_t states = run.n;
+    for (unsigned p = 0; p < run.n; p++)
+        states += run.count[p];
+    size_t size = states / 8 + (states % 8 != 0);
+    if (bytes < size)
+        return 19;
+    if (room < 2 * (size_t)run.n)
+        return 16;
+    unsigned root[MOST_PROCESSES];
+    for (unsigned p = 0; p < run.n; p++)
+        root[p] = ceilings[p];
+    make_graph(&run, &graph);
+    memset(marks, 0, size);
+    replace_roots(&run, &graph, root, marks);
+    memset(marks, 0, size);
+    return answer_line(&run, root, answer, room, written);
+}
+
 /* "Steps". */
 uint32_t MODEL(send)(const uint8_t *table, size_t length, uint16_t from, uint16_t to, uint8_t *answer, size_t room,
                      size_t *written)

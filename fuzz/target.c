@@ -13,7 +13,9 @@
    arguments. The low four bits of the first byte say which: 14 and 15 are the line under a list of ceilings,
    below them it is by the remainder of 7. Bit 7: the answer of a step becomes the table. The check of the table
    (0 and 7) has no answer: the listing, which takes any bytes too and no more than they, is made behind it, and
-   its buffer is by the byte of lengths. */
+   its buffer is by the byte of lengths. Behind the line under a list of ceilings comes the line by marking, with
+   the same list and the same room: bits 3 to 5 of the byte of lengths say how long its mark buffer is, bits 6 and
+   7 what stands in it before, and it takes no byte of its own. */
 #include "model.h"
 
 #include <stdbool.h>
@@ -31,6 +33,7 @@ enum {
     LARGEST_ROOM = KEEPER_LISTING_ROOM + 64,
     LARGEST_SCRATCH = KEEPER_SCRATCH_NUMBERS + 64,
     LARGEST_LIST = 65536 + 40,
+    LARGEST_MARKS = KEEPER_MARKS_ROOM + 64,
     MOST_POSITIONS = 300,
     MOST_WORK = 60000,
     GUARDS = 32
@@ -61,20 +64,21 @@ struct loan {
     uint8_t answer[GUARDS + LARGEST_ROOM + GUARDS];
     uint16_t scratch[GUARDS + LARGEST_SCRATCH + GUARDS];
     uint16_t list[GUARDS + LARGEST_LIST + GUARDS];
+    uint8_t marks[GUARDS + LARGEST_MARKS + GUARDS];
     size_t written[3];
 };
 static struct loan before, by_archive, by_model;
 
 /* A call with its arguments. */
-enum { CHECK_TABLE, RECOVERY_LINE, LINE_OF_SET, SEND, SAVE, FALL_BACK, KEEP_SHEET, LINE_UNDER, LISTING };
+enum { CHECK_TABLE, RECOVERY_LINE, LINE_OF_SET, SEND, SAVE, FALL_BACK, KEEP_SHEET, LINE_UNDER, LISTING, MARKED_LINE };
 struct call {
     unsigned which;
     uint32_t set;
     uint16_t from, to;
-    size_t entries, numbers, room;
+    size_t entries, numbers, marks, room;
 };
-static const char *const names[] = {"check_table", "recovery_line", "line_of_set", "send",   "save",
-                                    "fall_back",   "keep_sheet",    "line_under",  "listing"};
+static const char *const names[] = {"check_table", "recovery_line", "line_of_set", "send",    "save",
+                                    "fall_back",   "keep_sheet",    "line_under",  "listing", "marked_line"};
 
 static uint32_t of_archive(const struct call *call, struct loan *loan)
 {
@@ -95,6 +99,9 @@ static uint32_t of_archive(const struct call *call, struct loan *loan)
     case LINE_UNDER:
         return keeper_line_under(table, table_length, loan->list + GUARDS, call->entries, answer, call->room,
                                  &loan->written[1]);
+    case MARKED_LINE:
+        return keeper_marked_line(table, table_length, loan->list + GUARDS, call->entries, loan->marks + GUARDS,
+                                  call->marks, answer, call->room, &loan->written[1]);
     default: return keeper_listing(table, table_length, answer, call->room, &loan->written[1]);
     }
 }
@@ -118,6 +125,9 @@ static uint32_t of_model(const struct call *call, struct loan *loan)
     case LINE_UNDER:
         return model_line_under(table, table_length, loan->list + GUARDS, call->entries, answer, call->room,
                                 &loan->written[1]);
+    case MARKED_LINE:
+        return model_marked_line(table, table_length, loan->list + GUARDS, call->entries, loan->marks + GUARDS,
+                                 call->marks, answer, call->room, &loan->written[1]);
     default: return model_listing(table, table_length, answer, call->room, &loan->written[1]);
     }
 }
@@ -140,8 +150,8 @@ static void show_text(const char *what, const struct call *call, const struct lo
 static _Noreturn void differ(const char *what, const struct call *call, uint32_t got, uint32_t expected)
 {
     printf("difference: %s\n", what);
-    printf("call %s: set %#x, from or process %u, to %u, room %zu, scratch %zu, list of %zu:", names[call->which],
-           call->set, call->from, call->to, call->room, call->numbers, call->entries);
+    printf("call %s: set %#x, from or process %u, to %u, room %zu, scratch %zu, marks %zu, list of %zu:",
+           names[call->which], call->set, call->from, call->to, call->room, call->numbers, call->marks, call->entries);
     for (size_t at = 0; at < call->entries && at < MOST_POSITIONS; at++)
         printf(" %u", before.list[GUARDS + at]);
     printf("%s\n", call->entries > MOST_POSITIONS ? " and so on" : "");
@@ -152,6 +162,11 @@ static _Noreturn void differ(const char *what, const struct call *call, uint32_t
     show_text("listing of the model", call, &by_model, expected);
     show_bytes("answer buffer of the archive", by_archive.answer + GUARDS, call->room);
     show_bytes("answer buffer of the model  ", by_model.answer + GUARDS, call->room);
+    if (call->which == MARKED_LINE) {
+        show_bytes("marks before the call", before.marks + GUARDS, call->marks);
+        show_bytes("marks of the archive ", by_archive.marks + GUARDS, call->marks);
+        show_bytes("marks of the model   ", by_model.marks + GUARDS, call->marks);
+    }
     fflush(stdout);
     abort();
 }
@@ -162,6 +177,7 @@ static bool same_loans(const struct call *call, const char **what)
     size_t room = GUARDS + call->room + GUARDS;
     size_t numbers = sizeof(uint16_t) * (GUARDS + call->numbers + GUARDS);
     size_t entries = sizeof(uint16_t) * (GUARDS + call->entries + GUARDS);
+    size_t marks = GUARDS + call->marks + GUARDS;
     *what = "the answer buffer or its guards";
     if (memcmp(by_archive.answer, by_model.answer, room) != 0)
         return false;
@@ -170,6 +186,9 @@ static bool same_loans(const struct call *call, const char **what)
         return false;
     *what = "the list or its guards";
     if (memcmp(by_archive.list, before.list, entries) != 0)
+        return false;
+    *what = "the marks or their guards";
+    if (memcmp(by_archive.marks, by_model.marks, marks) != 0)
         return false;
     *what = "the length written or its guards";
     return memcmp(by_archive.written, by_model.written, sizeof before.written) == 0;
@@ -180,6 +199,7 @@ static void copy_loan(struct loan *to, const struct call *call)
     memcpy(to->answer, before.answer, GUARDS + call->room + GUARDS);
     memcpy(to->scratch, before.scratch, sizeof(uint16_t) * (GUARDS + call->numbers + GUARDS));
     memcpy(to->list, before.list, sizeof(uint16_t) * (GUARDS + call->entries + GUARDS));
+    memcpy(to->marks, before.marks, GUARDS + call->marks + GUARDS);
     memcpy(to->written, before.written, sizeof before.written);
 }
 
@@ -374,6 +394,51 @@ static void make_ceilings(struct input *input, struct call *call, size_t n)
     list_is_set(call, entries);
 }
 
+/* The mark buffer of a line by marking: its length, and what stands in it before: bytes that depend on the place,
+   or all marks, no mark, every other one. The exact length is that of the counts that the table has, accepted or
+   not. */
+static void make_marks(struct call *call, size_t n, unsigned lengths)
+{
+    size_t sum = 0;
+    for (size_t p = 0; p < n; p++)
+        sum += 6 + 2 * p <= table_length ? get_number(2 + p) : 1;
+    size_t exact = KEEPER_MARKS_SIZE(sum, n);
+    switch (lengths >> 3 & 7) {
+    case 0: call->marks = exact; break;
+    case 1: call->marks = exact - (exact > 0); break;
+    case 2: call->marks = exact + 1; break;
+    case 3: call->marks = sum / 8; break;
+    case 4: call->marks = (sum + n) / 8; break;
+    case 5: call->marks = 0; break;
+    case 6: call->marks = KEEPER_MARKS_ROOM; break;
+    default: call->marks = exact + GUARDS; break;
+    }
+    if (call->marks > LARGEST_MARKS)
+        call->marks = LARGEST_MARKS;
+    for (size_t at = 0; at < GUARDS + call->marks + GUARDS; at++)
+        before.marks[at] = (uint8_t)(at * 53 + 29);
+    static const uint8_t fills[4] = {0, 0xFF, 0, 0x55};
+    if (lengths >> 6 != 0)
+        memset(before.marks + GUARDS, fills[lengths >> 6], call->marks);
+}
+
+/* The line by marking behind the line under the same ceilings, whose call this was and whose number is given:
+   of the archive too, the same line. */
+static void marking_behind(struct call *call, uint32_t refusal, size_t n, unsigned lengths)
+{
+    static uint8_t line[KEEPER_LARGEST_LINE];
+    size_t length = refusal == 0 ? by_archive.written[1] : 0;
+    memcpy(line, by_archive.answer + GUARDS, length);
+    call->which = MARKED_LINE;
+    make_marks(call, n, lengths);
+    uint32_t got = compare(call);
+    bool too_short = got == 19 && (refusal == 0 || refusal == 16);
+    if (got != refusal && !too_short)
+        differ("the number of the line by marking beside that of the line under the ceilings", call, got, refusal);
+    if (got == 0 && memcmp(by_archive.answer + GUARDS, line, length) != 0)
+        differ("the line by marking is not the line under the ceilings", call, got, refusal);
+}
+
 static void one_call(struct input *input)
 {
     unsigned first = byte(input), lengths = byte(input);
@@ -426,6 +491,8 @@ static void one_call(struct input *input)
     default: call.room = answer; break;
     }
     uint32_t got = compare(&call);
+    if (call.which == LINE_UNDER)
+        marking_behind(&call, got, n, lengths);
     bool step = call.which == SEND || call.which == SAVE || call.which == FALL_BACK;
     if ((first & 128) != 0 && step && got == 0) {
         memcpy(table_bytes + GUARDS, by_archive.answer + GUARDS, by_archive.written[1]);
