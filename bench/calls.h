@@ -7,11 +7,13 @@
 /* A call of an implementation, which takes what the archive's takes. */
 #define AS_KEEPER(prefix, name) __typeof__(keeper_##name) prefix##_##name
 
-/* Plain C: the same passes, after the same checks of the table. */
+/* Plain C: the same passes, after the same checks of the table; for the line by marking the same rounds of
+   passes, over the same bits. */
 AS_KEEPER(plain, check_table);
 AS_KEEPER(plain, line_of_set);
 AS_KEEPER(plain, recovery_line);
 AS_KEEPER(plain, line_under);
+AS_KEEPER(plain, marked_line);
 AS_KEEPER(plain, send);
 AS_KEEPER(plain, save);
 AS_KEEPER(plain, fall_back);
@@ -20,6 +22,7 @@ AS_KEEPER(plain, keep_sheet);
 /* Plain C without the checks of the table. */
 AS_KEEPER(bare, recovery_line);
 AS_KEEPER(bare, line_under);
+AS_KEEPER(bare, marked_line);
 AS_KEEPER(bare, send);
 AS_KEEPER(bare, save);
 AS_KEEPER(bare, fall_back);
@@ -29,6 +32,7 @@ AS_KEEPER(bare, keep_sheet);
 AS_KEEPER(rust, check_table);
 AS_KEEPER(rust, recovery_line);
 AS_KEEPER(rust, line_under);
+AS_KEEPER(rust, marked_line);
 AS_KEEPER(rust, send);
 AS_KEEPER(rust, save);
 AS_KEEPER(rust, fall_back);
@@ -52,5 +56,12 @@ AS_KEEPER(ranges, keep_sheet);
 size_t plain_passes_of_recovery_line(const uint8_t *table);
 size_t plain_passes_under(const uint8_t *table, const uint16_t *ceilings);
 size_t plain_passes_of_holders(const uint8_t *table);
+
+/* How many rounds the plain C version of the marking procedure makes under ceilings, and how many passes over
+   the messages in all of them together. */
+struct marking {
+    size_t rounds, passes;
+};
+struct marking plain_marking_under(const uint8_t *table, const uint16_t *ceilings);
 
 #endif
