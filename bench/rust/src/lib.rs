@@ -1,7 +1,8 @@
 //! The keeper's calls in plain Rust: passes over the messages from the last to
 //! the first, from the ceiling of each line down, after the same checks of the
 //! table as the archive's. The line of a single holder whose rollback does not
-//! propagate is its ceiling. Safe code but for the slices that the C names take.
+//! propagate is its ceiling. The line by marking takes rounds of such passes over
+//! the bits of the lent buffer. Safe code but for the slices that the C names take.
 
 const MOST_PROCESSES: usize = 32;
 const MOST_MESSAGES: usize = 4096;
@@ -217,6 +218,100 @@ fn line_under(table: &[u8], ceilings: &[u16], answer: &mut [u8], written: &mut u
     line[..parts.n].copy_from_slice(ceilings);
     let line = lower(&parts, line);
     put_line(&line[..parts.n], answer, written)
+}
+
+fn is_marked(marks: &[u8], bit: usize) -> bool {
+    marks[bit / 8] >> (bit % 8) & 1 == 1
+}
+
+/// Marks from a bit on, up to the first that is marked or to the end.
+fn mark_on(marks: &mut [u8], from: usize, end: usize) {
+    for bit in from..end {
+        if is_marked(marks, bit) {
+            return;
+        }
+        marks[bit / 8] |= 1 << (bit % 8);
+    }
+}
+
+/// The marking procedure, from the ceilings, with no mark set: rounds of passes
+/// over the messages from the last to the first. State y of process p is bit
+/// `first[p] + y`.
+fn last_roots(
+    parts: &Parts,
+    first: &[usize; MOST_PROCESSES + 1],
+    mut root: Line,
+    marks: &mut [u8],
+) -> Line {
+    for p in 0..parts.n {
+        mark_on(marks, first[p] + usize::from(root[p]) + 1, first[p + 1]);
+    }
+    loop {
+        loop {
+            let mut marked = false;
+            for ((sender, sent), (receiver, received)) in parts.messages().rev() {
+                let to = first[receiver] + usize::from(received);
+                if received == 0 || is_marked(marks, to) {
+                    continue;
+                }
+                if sent == root[sender] || is_marked(marks, first[sender] + usize::from(sent)) {
+                    mark_on(marks, to, first[receiver + 1]);
+                    marked = true;
+                }
+            }
+            if !marked {
+                break;
+            }
+        }
+        let mut replaced = false;
+        for p in 0..parts.n {
+            while is_marked(marks, first[p] + usize::from(root[p])) {
+                root[p] -= 1;
+                replaced = true;
+            }
+        }
+        if !replaced {
+            return root;
+        }
+    }
+}
+
+fn marked_line(
+    table: &[u8],
+    ceilings: &[u16],
+    marks: &mut [u8],
+    answer: &mut [u8],
+    written: &mut usize,
+) -> u32 {
+    let refusal = check(table);
+    if refusal != 0 {
+        return refusal;
+    }
+    let parts = Parts::of(table);
+    if ceilings.len() != parts.n {
+        return 17;
+    }
+    if (0..parts.n).any(|p| ceilings[p] > parts.count(p)) {
+        return 18;
+    }
+    let mut first = [0; MOST_PROCESSES + 1];
+    for p in 0..parts.n {
+        first[p + 1] = first[p] + usize::from(parts.count(p)) + 1;
+    }
+    let size = first[parts.n].div_ceil(8);
+    if marks.len() < size {
+        return 19;
+    }
+    if answer.len() < 2 * parts.n {
+        return 16;
+    }
+    let mut root = [0; MOST_PROCESSES];
+    root[..parts.n].copy_from_slice(ceilings);
+    let marks = &mut marks[..size];
+    marks.fill(0);
+    let root = last_roots(&parts, &first, root, marks);
+    marks.fill(0);
+    put_line(&root[..parts.n], answer, written)
 }
 
 fn send(table: &[u8], from: u16, to: u16, answer: &mut [u8], written: &mut usize) -> u32 {
@@ -438,6 +533,29 @@ pub unsafe extern "C" fn rust_line_under(
     line_under(
         from_raw_parts(table, length),
         from_raw_parts(ceilings, ceilings_length),
+        from_raw_parts_mut(answer, room),
+        written,
+    )
+}
+
+/// # Safety
+/// As above.
+#[no_mangle]
+pub unsafe extern "C" fn rust_marked_line(
+    table: *const u8,
+    length: usize,
+    ceilings: *const u16,
+    ceilings_length: usize,
+    marks: *mut u8,
+    marks_length: usize,
+    answer: *mut u8,
+    room: usize,
+    written: &mut usize,
+) -> u32 {
+    marked_line(
+        from_raw_parts(table, length),
+        from_raw_parts(ceilings, ceilings_length),
+        from_raw_parts_mut(marks, marks_length),
         from_raw_parts_mut(answer, room),
         written,
     )
