@@ -29,36 +29,54 @@ enum { MOST_ANSWER = KEEPER_LARGEST_TABLE + 64, MOST_ROWS = 64 };
 /* ------------------------------------------------------------------------------------------------- */
 /* The implementations. */
 
-enum { ARCHIVE, PLAIN, BARE, RUST, MARKS, RANGES, IMPLEMENTATIONS };
+enum { ARCHIVE, PLAIN, BARE, RUST, MARKS, RANGES, UNDER, IMPLEMENTATIONS };
 
 struct implementation {
     const char *name;
     __typeof__(keeper_keep_sheet) *keep_sheet;
     __typeof__(keeper_recovery_line) *recovery_line;
     __typeof__(keeper_line_under) *line_under;
+    __typeof__(keeper_marked_line) *marked_line;
     __typeof__(keeper_fall_back) *fall_back;
     __typeof__(keeper_send) *send;
     __typeof__(keeper_save) *save;
 };
 
 static const struct implementation implementations[IMPLEMENTATIONS] = {
-    {"archive", keeper_keep_sheet, keeper_recovery_line, keeper_line_under, keeper_fall_back, keeper_send, keeper_save},
-    {"C", plain_keep_sheet, plain_recovery_line, plain_line_under, plain_fall_back, plain_send, plain_save},
-    {"C-without-checks", bare_keep_sheet, bare_recovery_line, bare_line_under, bare_fall_back, bare_send, bare_save},
-    {"Rust", rust_keep_sheet, rust_recovery_line, rust_line_under, rust_fall_back, rust_send, rust_save},
-    {"work-list-marks", marks_keep_sheet, marks_recovery_line, marks_line_under, marks_fall_back, NULL, NULL},
-    {"work-list-ranges", ranges_keep_sheet, ranges_recovery_line, ranges_line_under, ranges_fall_back, NULL, NULL},
+    {"archive", keeper_keep_sheet, keeper_recovery_line, keeper_line_under, keeper_marked_line, keeper_fall_back, keeper_send, keeper_save},
+    {"C", plain_keep_sheet, plain_recovery_line, plain_line_under, plain_marked_line, plain_fall_back, plain_send, plain_save},
+    {"C-without-checks", bare_keep_sheet, bare_recovery_line, bare_line_under, bare_marked_line, bare_fall_back, bare_send, bare_save},
+    {"Rust", rust_keep_sheet, rust_recovery_line, rust_line_under, rust_marked_line, rust_fall_back, rust_send, rust_save},
+    {"work-list-marks", marks_keep_sheet, marks_recovery_line, marks_line_under, NULL, marks_fall_back, NULL, NULL},
+    {"work-list-ranges", ranges_keep_sheet, ranges_recovery_line, ranges_line_under, NULL, ranges_fall_back, NULL, NULL},
+    {"archive-line-under", NULL, NULL, keeper_line_under, NULL, NULL, NULL, NULL},
 };
 
-/* A line under ceilings twice: under half of each count, and under the counts. */
-enum { SHEET_CALL, LINE_CALL, HALVES_CALL, COUNTS_CALL, FALL_BACK_CALL, SEND_CALL, SAVE_CALL, CALLS };
+/* A line under ceilings twice: under half of each count, and under the counts. The line by marking too; beside
+   it those that lend no marks find the same line as they do. */
+enum {
+    SHEET_CALL, LINE_CALL, HALVES_CALL, COUNTS_CALL, MARKED_HALVES_CALL, MARKED_COUNTS_CALL, FALL_BACK_CALL, SEND_CALL,
+    SAVE_CALL, CALLS
+};
 
 static const char *const call_names[CALLS] = {
-    "keep-sheet", "recovery-line", "line-under-halves", "line-under-counts", "fall-back", "send", "save",
+    "keep-sheet", "recovery-line", "line-under-halves", "line-under-counts", "marked-line-under-halves",
+    "marked-line-under-counts", "fall-back", "send", "save",
 };
 static const char *const call_titles[CALLS] = {
-    "Keep sheet", "Recovery line", "Line under half of each count", "Line under the counts", "Fall back", "Send", "Save",
+    "Keep sheet", "Recovery line", "Line under half of each count", "Line under the counts",
+    "Line by marking, under half of each count", "Line by marking, under the counts", "Fall back", "Send", "Save",
 };
+
+/* What Figure 3 on networkx is asked for, of the calls that it has. */
+static const char *const figure3_words[CALLS] = {
+    [SHEET_CALL] = "sheet", [MARKED_HALVES_CALL] = "halves", [MARKED_COUNTS_CALL] = "counts",
+};
+
+static bool is_marking(int call)
+{
+    return call == MARKED_HALVES_CALL || call == MARKED_COUNTS_CALL;
+}
 
 /* ------------------------------------------------------------------------------------------------- */
 /* Rows. */
@@ -90,7 +108,7 @@ struct row {
     bool propagates[KEEPER_MOST_PROCESSES];        /* the single holders whose lines take passes */
     size_t propagating;
     size_t kept, logged, kept_before, logged_before;
-    double passes_of_holders, passes_of_recovery, passes_of_halves;
+    double passes_of_holders, passes_of_recovery, passes_of_halves, rounds_of_marking, passes_of_marking;
     /* What is measured: numbers of one kind alone, so that they can be taken together one by one. */
     struct figures {
         struct times times[CALLS][IMPLEMENTATIONS];
@@ -98,7 +116,7 @@ struct row {
         double part[PARTS];        /* seconds, the least of each; 0: not measured */
     } here;
     double instructions[CALLS][IMPLEMENTATIONS];   /* 0: not counted */
-    double networkx;               /* seconds; 0: not measured */
+    double networkx[CALLS];        /* seconds; 0: not measured */
 };
 
 static struct row rows[MOST_ROWS];
@@ -107,6 +125,7 @@ static size_t row_count;
 static _Alignas(PAGE) struct { uint8_t half_a_page[PAGE / 2], bytes[MOST_ANSWER]; } answers;
 #define answer answers.bytes
 static uint16_t scratch[KEEPER_SCRATCH_NUMBERS];
+static _Alignas(PAGE) uint8_t marks[KEEPER_MARKS_ROOM + 64];
 static size_t written;
 
 /* Where the report goes. */
@@ -142,6 +161,13 @@ static uint32_t call(const struct row *row, int which, int call)
         return by->line_under(row->table, row->length, row->halves, row->n, answer, sizeof answer, &written);
     case COUNTS_CALL:
         return by->line_under(row->table, row->length, row->counts, row->n, answer, sizeof answer, &written);
+    case MARKED_HALVES_CALL:
+    case MARKED_COUNTS_CALL: {
+        const uint16_t *ceilings = call == MARKED_HALVES_CALL ? row->halves : row->counts;
+        if (by->marked_line == NULL)
+            return by->line_under(row->table, row->length, ceilings, row->n, answer, sizeof answer, &written);
+        return by->marked_line(row->table, row->length, ceilings, row->n, marks, sizeof marks, answer, sizeof answer, &written);
+    }
     case FALL_BACK_CALL:
         return by->fall_back(row->table, row->length, answer, sizeof answer, &written);
     case SEND_CALL:
@@ -153,6 +179,8 @@ static uint32_t call(const struct row *row, int which, int call)
 
 static bool has(int which, int call)
 {
+    if (which == UNDER || is_marking(call))
+        return is_marking(call);
     return implementations[which].send != NULL || call < SEND_CALL;
 }
 
@@ -200,7 +228,21 @@ static void read_table(struct row *row)
             row->list[row->entries++] = (uint16_t)k;
 }
 
-/* Every implementation gives the archive's number, length, answer and lines. */
+/* Whether the marks are as a call leaves them that found a buffer of one byte everywhere: cleared as far as the
+   states of the row's table go where the call has marks, untouched where it has none. */
+static bool marks_are_left(const struct row *row, bool has_marks, uint8_t before)
+{
+    size_t sum = 0;
+    for (size_t p = 0; p < row->n; p++)
+        sum += row->counts[p];
+    size_t cleared = has_marks ? KEEPER_MARKS_SIZE(sum, row->n) : 0;
+    for (size_t b = 0; b < sizeof marks; b++)
+        if (marks[b] != (b < cleared ? 0 : before))
+            return false;
+    return true;
+}
+
+/* Every implementation gives the archive's number, length, answer and lines, and leaves the marks as it has to. */
 static void compare(struct row *row)
 {
     static uint8_t first_answer[MOST_ANSWER];
@@ -212,10 +254,13 @@ static void compare(struct row *row)
                 continue;
             memset(answer, 0xA5, sizeof answer);
             memset(scratch, 0xA5, sizeof scratch);
+            memset(marks, 0xA5, sizeof marks);
             written = SIZE_MAX;
             uint32_t refusal = call(row, w, c);
             if (refusal != 0)
                 stop("%s: %s of %s is refused by %u", row->label, call_names[c], implementations[w].name, refusal);
+            if (!marks_are_left(row, is_marking(c) && implementations[w].marked_line != NULL, 0xA5))
+                stop("%s: %s of %s leaves other marks", row->label, call_names[c], implementations[w].name);
             if (w == ARCHIVE) {
                 memcpy(first_answer, answer, sizeof answer);
                 memcpy(first_scratch, scratch, sizeof scratch);
@@ -414,14 +459,14 @@ static void take_together(char **paths, int places)
 enum { PAINTED = 32768 };
 
 enum {
-    CHECK_EXPORT, LINE_EXPORT, SET_EXPORT, UNDER_EXPORT, SEND_EXPORT, SAVE_EXPORT, FALL_BACK_EXPORT, SHEET_EXPORT,
+    CHECK_EXPORT, LINE_EXPORT, SET_EXPORT, UNDER_EXPORT, MARKED_EXPORT, SEND_EXPORT, SAVE_EXPORT, FALL_BACK_EXPORT, SHEET_EXPORT,
     LISTING_EXPORT, TABLE_CHECK_EXPORT, PROCESSES_EXPORT, MESSAGES_EXPORT, COUNT_EXPORT, SENDER_EXPORT, SENT_EXPORT, RECEIVER_EXPORT,
     RECEIVED_EXPORT, EXPORTS
 };
 
 static const char *const export_names[EXPORTS] = {
-    "keeper_check_table", "keeper_recovery_line", "keeper_line_of_set", "keeper_line_under", "keeper_send",
-    "keeper_save", "keeper_fall_back", "keeper_keep_sheet", "keeper_listing", "run_table_check",
+    "keeper_check_table", "keeper_recovery_line", "keeper_line_of_set", "keeper_line_under", "keeper_marked_line",
+    "keeper_send", "keeper_save", "keeper_fall_back", "keeper_keep_sheet", "keeper_listing", "run_table_check",
     "run_table_processes", "run_table_messages", "run_table_count", "run_table_sender", "run_table_sent",
     "run_table_receiver", "run_table_received",
 };
@@ -453,6 +498,7 @@ __attribute__((noinline)) static size_t stack_of(int export, const struct argume
     case LINE_EXPORT: sink = keeper_recovery_line(table, length, answer, sizeof answer, &written); break;
     case SET_EXPORT: sink = keeper_line_of_set(table, length, 1, answer, sizeof answer, &written); break;
     case UNDER_EXPORT: sink = keeper_line_under(table, length, with->ceilings, with->of_ceilings, answer, sizeof answer, &written); break;
+    case MARKED_EXPORT: sink = keeper_marked_line(table, length, with->ceilings, with->of_ceilings, marks, sizeof marks, answer, sizeof answer, &written); break;
     case SEND_EXPORT: sink = keeper_send(table, length, 0, 1, answer, sizeof answer, &written); break;
     case SAVE_EXPORT: sink = keeper_save(table, length, with->process, with->list, with->entries, answer, sizeof answer, &written); break;
     case FALL_BACK_EXPORT: sink = keeper_fall_back(table, length, answer, sizeof answer, &written); break;
@@ -564,13 +610,11 @@ static bool read_instructions(const char *path)
 /* ------------------------------------------------------------------------------------------------- */
 /* Figure 3 on networkx, by a command that takes the tables' paths. */
 
-static bool measure_networkx(const char *command)
+static void measure_networkx_of(int c, const char *command)
 {
-    if (command == NULL || command[0] == 0)
-        return false;
     static char line[1 << 16];
-    char *words = malloc(strlen(command) + row_count * 300 + 1);
-    char *end = words + sprintf(words, "%s", command);
+    char *words = malloc(strlen(command) + row_count * 300 + 64);
+    char *end = words + sprintf(words, "%s %s", command, figure3_words[c]);
     for (size_t r = 0; r < row_count; r++)
         end += sprintf(end, " '%s'", rows[r].path);
     FILE *pipe = popen(words, "r");
@@ -581,7 +625,7 @@ static bool measure_networkx(const char *command)
         int at;
         if (fgets(line, sizeof line, pipe) == NULL || sscanf(line, "%lf %n", &seconds, &at) != 1)
             stop("%s: Figure 3 on networkx gave no answer", rows[r].label);
-        call(&rows[r], ARCHIVE, SHEET_CALL);
+        call(&rows[r], ARCHIVE, c);
         bool same = strlen(line + at) == 2 * written + 1;
         for (size_t b = 0; same && b < written; b++) {
             char byte[3];
@@ -589,11 +633,20 @@ static bool measure_networkx(const char *command)
             same = memcmp(byte, line + at + 2 * b, 2) == 0;
         }
         if (!same)
-            stop("%s: the sheet by Figure 3 on networkx differs from the archive's", rows[r].label);
-        rows[r].networkx = seconds;
+            stop("%s: %s by Figure 3 on networkx differs from the archive's", rows[r].label, call_names[c]);
+        rows[r].networkx[c] = seconds;
     }
     pclose(pipe);
     free(words);
+}
+
+static bool measure_networkx(const char *command)
+{
+    if (command == NULL || command[0] == 0)
+        return false;
+    for (int c = 0; c < CALLS; c++)
+        if (figure3_words[c] != NULL)
+            measure_networkx_of(c, command);
     return true;
 }
 
@@ -629,40 +682,45 @@ static const char *brief(double value)
 
 static void say_tables(void)
 {
-    SAY("| table | N | M | passes a line | passes, recovery line | passes, under halves | K | Q | K, traditional | Q, traditional |\n");
-    SAY("|---|---|---|---|---|---|---|---|---|---|\n");
+    SAY("| table | N | M | passes a line | passes, recovery line | passes, under halves | rounds, marking | passes, marking | K | Q | K, traditional | Q, traditional |\n");
+    SAY("|---|---|---|---|---|---|---|---|---|---|---|---|\n");
     for (size_t r = 0; r < row_count; r++) {
         const struct row *row = &rows[r];
-        SAY("| %s | %zu | %zu | %.1f | %.0f | %.0f | %zu | %zu | %zu | %zu |\n", row->label, row->n, row->m,
-            row->passes_of_holders, row->passes_of_recovery, row->passes_of_halves, row->kept, row->logged, row->kept_before, row->logged_before);
+        SAY("| %s | %zu | %zu | %.1f | %.0f | %.0f | %.0f | %.0f | %zu | %zu | %zu | %zu |\n", row->label, row->n, row->m,
+            row->passes_of_holders, row->passes_of_recovery, row->passes_of_halves, row->rounds_of_marking, row->passes_of_marking,
+            row->kept, row->logged, row->kept_before, row->logged_before);
     }
 }
 
 static void say_call(int c, bool instructions, bool networkx)
 {
-    bool lists = has(MARKS, c);
-    SAY("| table | N | M | archive, µs | C, µs |%s / C | / C, fastest | / C without checks | / Rust |%s%s%s\n",
-        lists ? " work list, µs |" : "", lists ? " / work list | / its marks |" : "",
-        instructions ? " instructions / C |" : "", c == SHEET_CALL ? " networkx, ms |" : "");
-    SAY("|---|---|---|---|---|%s---|---|---|---|%s%s%s\n", lists ? "---|" : "", lists ? "---|---|" : "",
-        instructions ? "---|" : "", c == SHEET_CALL ? "---|" : "");
+    bool lists = has(MARKS, c), by_figure3 = figure3_words[c] != NULL;
+    SAY("| table | N | M | archive, µs | C, µs |%s%s / C | / C, fastest | / C without checks | / Rust |%s%s%s%s\n",
+        is_marking(c) ? " line under, µs |" : "", lists ? " work list, µs |" : "", is_marking(c) ? " / line under |" : "",
+        lists ? " / work list | / its marks |" : "", instructions ? " instructions / C |" : "", by_figure3 ? " networkx, ms |" : "");
+    SAY("|---|---|---|---|---|%s%s---|---|---|---|%s%s%s%s\n", is_marking(c) ? "---|" : "", lists ? "---|" : "",
+        is_marking(c) ? "---|" : "", lists ? "---|---|" : "", instructions ? "---|" : "", by_figure3 ? "---|" : "");
     for (size_t r = 0; r < row_count; r++) {
         const struct row *row = &rows[r];
         const struct times *t = row->here.times[c];
         SAY("| %s | %zu | %zu | %s | %s |", row->label, row->n, row->m, brief(1e6 * t[ARCHIVE].median), brief(1e6 * t[PLAIN].median));
+        if (is_marking(c))
+            SAY(" %s |", brief(1e6 * t[UNDER].median));
         if (lists)
             SAY(" %s |", brief(1e6 * t[RANGES].median));
         SAY(" %.2f | %.2f | %s | %.2f |", row->here.ratio[c][PLAIN], t[ARCHIVE].least / t[PLAIN].least,
             brief(row->here.ratio[c][BARE]), row->here.ratio[c][RUST]);
+        if (is_marking(c))
+            SAY(" %s |", brief(row->here.ratio[c][UNDER]));
         if (lists)
             SAY(" %s | %s |", brief(row->here.ratio[c][RANGES]), brief(row->here.ratio[c][MARKS]));
         if (instructions && row->instructions[c][PLAIN] > 0)
             SAY(" %.2f |", row->instructions[c][ARCHIVE] / row->instructions[c][PLAIN]);
         else if (instructions)
             SAY(" |");
-        if (c == SHEET_CALL) {
+        if (by_figure3) {
             if (networkx)
-                SAY(" %s |", brief(1e3 * row->networkx));
+                SAY(" %s |", brief(1e3 * row->networkx[c]));
             else
                 SAY(" not there |");
         }
@@ -670,14 +728,15 @@ static void say_call(int c, bool instructions, bool networkx)
     }
 }
 
-/* Whether a ratio is at most 1.0, at the two places that the tables show. */
-static bool is_met(double ratio)
+/* Whether a ratio is at most a limit, at the two places that the tables show. */
+static bool is_met(double ratio, double limit)
 {
-    return ratio < 1.005;
+    return ratio < limit + 0.005;
 }
 
-/* On how many rows a ratio is at most 1.0, its range, and the rows where it is more, where these are few. */
-static void say_goal(int c, int against, bool histories_alone, bool goal)
+/* What is compared; on how many rows the ratio is at most the limit, its range, and the rows where it is more,
+   where these are few. */
+static void say_goal(int c, double limit, const char *of_what, int against, bool histories_alone, bool goal)
 {
     size_t met = 0, of = 0;
     double lowest = 1e9, highest = 0;
@@ -686,11 +745,11 @@ static void say_goal(int c, int against, bool histories_alone, bool goal)
             continue;
         double ratio = rows[r].here.ratio[c][against];
         of++;
-        met += is_met(ratio);
+        met += is_met(ratio, limit);
         lowest = ratio < lowest ? ratio : lowest;
         highest = ratio > highest ? ratio : highest;
     }
-    SAY(" %zu of %zu | %.2f to %.2f |", met, of, lowest, highest);
+    SAY("| %s | %.1f times %s | %zu of %zu | %s to %s |", call_titles[c], limit, of_what, met, of, brief(lowest), brief(highest));
     if (!goal)
         SAY(" no goal |\n");
     else if (met == of)
@@ -702,16 +761,41 @@ static void say_goal(int c, int against, bool histories_alone, bool goal)
     else {
         SAY(" missed on");
         for (size_t r = 0, said = 0; r < row_count; r++)
-            if ((!histories_alone || rows[r].history) && !is_met(rows[r].here.ratio[c][against]))
+            if ((!histories_alone || rows[r].history) && !is_met(rows[r].here.ratio[c][against], limit))
                 SAY("%s %s, N = %zu, M = %zu", said++ ? ";" : "", rows[r].label, rows[r].n, rows[r].m);
         SAY(" |\n");
     }
+}
+
+static void say_goals(void)
+{
+    SAY("| call | at most | rows met | ratios | |\n|---|---|---|---|---|\n");
+    for (int c = 0; c < CALLS; c++)
+        say_goal(c, is_marking(c) ? 2.0 : 1.0, "plain C", PLAIN, false, true);
+    for (int c = 0; c < SEND_CALL; c++)
+        if (!is_marking(c)) {
+            say_goal(c, 1.0, "the work list", RANGES, true, true);
+            say_goal(c, 1.0, "the work list with marks", MARKS, true, true);
+        }
+    for (int c = 0; c < CALLS; c++)
+        if (is_marking(c)) {
+            say_goal(c, 1.0, "the work list with marks", MARKS, false, false);
+            say_goal(c, 1.0, "the line under the same ceilings", UNDER, false, false);
+        }
+    for (int c = 0; c < CALLS; c++)
+        say_goal(c, 1.0, "Rust", RUST, false, false);
 }
 
 /* The nanoseconds that a pass takes for one message, from the recovery line's time without the checks. */
 static double pass_cost(const struct row *row, int line, int check)
 {
     return 1e9 * (row->here.part[line] - row->here.part[check]) / (row->passes_of_recovery * (double)row->m);
+}
+
+/* The same of marking, from its time under half of each count: with it all bits that are set and cleared. */
+static double marking_pass_cost(const struct row *row, int which, int check)
+{
+    return 1e9 * (row->here.times[MARKED_HALVES_CALL][which].least - row->here.part[check]) / (row->passes_of_marking * (double)row->m);
 }
 
 /* The time of the lines of single holders that take passes, and of a sheet without its checks and these. */
@@ -769,11 +853,18 @@ static double rest_share(const struct row *row) { return row->history ? 100 * re
 static double pass_of_archive(const struct row *row) { return pass_cost(row, LINE_OF_ARCHIVE, CHECK_OF_ARCHIVE); }
 static double pass_of_c(const struct row *row) { return pass_cost(row, LINE_OF_C, CHECK_OF_C); }
 static double pass_of_rust(const struct row *row) { return pass_cost(row, LINE_OF_RUST, CHECK_OF_RUST); }
+static double marking_pass_of_archive(const struct row *row) { return marking_pass_cost(row, ARCHIVE, CHECK_OF_ARCHIVE); }
+static double marking_pass_of_c(const struct row *row) { return marking_pass_cost(row, PLAIN, CHECK_OF_C); }
+static double marking_pass_of_rust(const struct row *row) { return marking_pass_cost(row, RUST, CHECK_OF_RUST); }
+static double marking_to_line(const struct row *row) { return row->here.ratio[MARKED_HALVES_CALL][UNDER]; }
+static double marking_to_line_of_counts(const struct row *row) { return row->here.ratio[MARKED_COUNTS_CALL][UNDER]; }
 static double counted(const struct row *row, int c) { return row->instructions[c][PLAIN] > 0 ? row->instructions[c][ARCHIVE] / row->instructions[c][PLAIN] : 0; }
 static double counted_sheet(const struct row *row) { return counted(row, SHEET_CALL); }
 static double counted_line(const struct row *row) { return counted(row, LINE_CALL); }
 static double counted_halves(const struct row *row) { return counted(row, HALVES_CALL); }
 static double counted_counts(const struct row *row) { return counted(row, COUNTS_CALL); }
+static double counted_marked_halves(const struct row *row) { return counted(row, MARKED_HALVES_CALL); }
+static double counted_marked_counts(const struct row *row) { return counted(row, MARKED_COUNTS_CALL); }
 static double counted_fall_back(const struct row *row) { return counted(row, FALL_BACK_CALL); }
 static double counted_send(const struct row *row) { return counted(row, SEND_CALL); }
 static double counted_save(const struct row *row) { return counted(row, SAVE_CALL); }
@@ -794,10 +885,17 @@ static const struct {
     {"pass", pass_of_archive, " ns"},
     {"pass-of-c", pass_of_c, " ns"},
     {"pass-of-rust", pass_of_rust, " ns"},
+    {"marking-pass", marking_pass_of_archive, " ns"},
+    {"marking-pass-of-c", marking_pass_of_c, " ns"},
+    {"marking-pass-of-rust", marking_pass_of_rust, " ns"},
+    {"marking-to-line", marking_to_line, ""},
+    {"marking-to-line-of-counts", marking_to_line_of_counts, ""},
     {"instructions-sheet", counted_sheet, ""},
     {"instructions-line", counted_line, ""},
     {"instructions-halves", counted_halves, ""},
     {"instructions-counts", counted_counts, ""},
+    {"instructions-marked-halves", counted_marked_halves, ""},
+    {"instructions-marked-counts", counted_marked_counts, ""},
     {"instructions-fall-back", counted_fall_back, ""},
     {"instructions-send", counted_send, ""},
     {"instructions-save", counted_save, ""},
@@ -851,23 +949,9 @@ static void say_report(const char *text, bool instructions, bool networkx)
             say_parts();
         else if (strncmp(name, "call ", 5) == 0)
             say_call(atoi(name + 5), instructions, networkx);
-        else if (strcmp(name, "goals") == 0) {
-            SAY("| call | at most 1.0 times | rows met | ratios | |\n|---|---|---|---|---|\n");
-            for (int c = 0; c < CALLS; c++) {
-                SAY("| %s | plain C |", call_titles[c]);
-                say_goal(c, PLAIN, false, true);
-            }
-            for (int c = 0; c < SEND_CALL; c++) {
-                SAY("| %s | the work list |", call_titles[c]);
-                say_goal(c, RANGES, true, true);
-                SAY("| %s | the work list with marks |", call_titles[c]);
-                say_goal(c, MARKS, true, true);
-            }
-            for (int c = 0; c < CALLS; c++) {
-                SAY("| %s | Rust |", call_titles[c]);
-                say_goal(c, RUST, false, false);
-            }
-        } else if (strcmp(name, "stack") == 0)
+        else if (strcmp(name, "goals") == 0)
+            say_goals();
+        else if (strcmp(name, "stack") == 0)
             say_stack();
         else
             stop("%s: no such place in the report", name);
@@ -900,6 +984,9 @@ static void compare_rows(void)
         compare(&rows[r]);
         rows[r].passes_of_recovery = (double)plain_passes_of_recovery_line(rows[r].table);
         rows[r].passes_of_halves = (double)plain_passes_under(rows[r].table, rows[r].halves);
+        struct marking marking = plain_marking_under(rows[r].table, rows[r].halves);
+        rows[r].rounds_of_marking = (double)marking.rounds;
+        rows[r].passes_of_marking = (double)marking.passes;
         rows[r].passes_of_holders = (double)plain_passes_of_holders(rows[r].table) / (double)rows[r].n;
     }
 }

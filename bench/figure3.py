@@ -1,5 +1,6 @@
-"""The keep sheet by Figure 3 of the source, on networkx: for each table named on the command line one
-line, the seconds that it took and the sheet in hexadecimal."""
+"""Figure 3 of the source on networkx. The command line has what is asked for and then tables: `sheet` is the
+keep sheet, `halves` the line under half of each count, rounded down, `counts` the line under the counts. For
+each table one line, the seconds that it took and the answer in hexadecimal."""
 
 import struct
 import sys
@@ -30,13 +31,11 @@ def checkpoint_graph(counts, messages):
     return graph
 
 
-def line(graph, counts, holder):
-    """The latest consistent line where one process holds. What is marked is taken out of the graph: its
-    edges have been followed."""
+def line(graph, ceilings):
+    """The latest consistent line under ceilings. What is marked is taken out of the graph: its edges have
+    been followed."""
     graph = graph.copy()
-    graph.remove_node((holder, counts[holder]))
-    roots = list(counts)
-    roots[holder] -= 1
+    roots = list(ceilings)
     fresh = [(p, c) for p, c in enumerate(roots)]
     while fresh:
         for root in fresh:
@@ -56,9 +55,22 @@ def line(graph, counts, holder):
     return roots
 
 
+def of_holder(counts, holder):
+    """The ceilings where one process holds."""
+    return [count - (p == holder) for p, count in enumerate(counts)]
+
+
+def packed(numbers):
+    return struct.pack(f"<{len(numbers)}H", *numbers)
+
+
+def line_under(counts, messages, ceilings):
+    return packed(line(checkpoint_graph(counts, messages), ceilings))
+
+
 def sheet(counts, messages):
     graph = checkpoint_graph(counts, messages)
-    lines = [line(graph, counts, p) for p in range(len(counts))]
+    lines = [line(graph, of_holder(counts, p)) for p in range(len(counts))]
     states = sorted({(p, l[p]) for l in lines for p in range(len(counts)) if l[p] < counts[p]})
     positions = [
         k
@@ -67,11 +79,18 @@ def sheet(counts, messages):
     ]
     numbers = [len(states), len(positions)]
     numbers += [p for p, _ in states] + [c for _, c in states] + positions
-    return struct.pack(f"<{len(numbers)}H", *numbers)
+    return packed(numbers)
 
 
-for path in sys.argv[1:]:
+ASKED = {
+    "sheet": sheet,
+    "halves": lambda counts, messages: line_under(counts, messages, [c // 2 for c in counts]),
+    "counts": lambda counts, messages: line_under(counts, messages, counts),
+}
+
+asked = ASKED[sys.argv[1]]
+for path in sys.argv[2:]:
     counts, messages = read(path)
     start = time.process_time()
-    answer = sheet(counts, messages)
+    answer = asked(counts, messages)
     print(f"{time.process_time() - start:.6f} {answer.hex()}", flush=True)

@@ -13,14 +13,14 @@ say() { echo "bench: $*" >&2; }
 say "building"
 cargo --quiet build --release --manifest-path tests/reference/Cargo.toml --target-dir target/cargo
 cargo --quiet build --release --manifest-path bench/rust/Cargo.toml --target-dir target/cargo
-for part in bench plain worklist; do
+for part in bench plain marking worklist; do
     gcc -std=gnu11 -Wall -Wextra -Werror -O3 -Iinclude -c -o "$out/$part.o" "bench/$part.c"
 done
 # The same code at four places: what is linked after a pad stands 16 bytes further for each 16 bytes of it.
 place() {
     gcc -c -DPAD="$2" -o "$out/pad-c-$1.o" bench/pad.S
     gcc -c -DPAD="$3" -o "$out/pad-archive-$1.o" bench/pad.S
-    gcc -o "$out/bench-$1" "$out/bench.o" "$out/pad-c-$1.o" "$out/plain.o" "$out/worklist.o" "$out/pad-archive-$1.o" \
+    gcc -o "$out/bench-$1" "$out/bench.o" "$out/pad-c-$1.o" "$out/plain.o" "$out/marking.o" "$out/worklist.o" "$out/pad-archive-$1.o" \
         target/staticlib/libkeeper.a target/staticlib/liblisting_text.a target/staticlib/librun_table.a \
         target/cargo/release/libpasses.a -lpthread -ldl -lm
 }
