@@ -312,6 +312,27 @@ static void replace_roots(const struct run *run, const struct graph *graph, unsi
     }
 }
 
+/* A bit for each state, the new ones included. */
+static size_t states_of(const struct run *run)
+{
+    size_t states = run->n;
+    for (unsigned p = 0; p < run->n; p++)
+        states += run->count[p];
+    return states;
+}
+
+/* The bytes of the marks, rounded up. */
+static size_t marks_size(const struct run *run)
+{
+    size_t states = states_of(run);
+    return states / 8 + (states % 8 != 0);
+}
+
+static void clear_marks(uint8_t *marks, size_t size)
+{
+    memset(marks, 0, size);
+}
+
 uint32_t MODEL(marked_line)(const uint8_t *table, size_t length, const uint16_t *ceilings, size_t entries,
                             uint8_t *marks, size_t bytes, uint8_t *answer, size_t room, size_t *written)
 {
@@ -324,10 +345,7 @@ uint32_t MODEL(marked_line)(const uint8_t *table, size_t length, const uint16_t 
     for (unsigned p = 0; p < run.n; p++)
         if (ceilings[p] > run.count[p])
             return 18;
-    size_t states = run.n;
-    for (unsigned p = 0; p < run.n; p++)
-        states += run.count[p];
-    size_t size = states / 8 + (states % 8 != 0);
+    size_t size = marks_size(&run);
     if (bytes < size)
         return 19;
     if (room < 2 * (size_t)run.n)
@@ -336,9 +354,9 @@ uint32_t MODEL(marked_line)(const uint8_t *table, size_t length, const uint16_t 
     for (unsigned p = 0; p < run.n; p++)
         root[p] = ceilings[p];
     make_graph(&run, &graph);
-    memset(marks, 0, size);
+    clear_marks(marks, size);
     replace_roots(&run, &graph, root, marks);
-    memset(marks, 0, size);
+    clear_marks(marks, size);
     return answer_line(&run, root, answer, room, written);
 }
 

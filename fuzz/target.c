@@ -33,7 +33,7 @@ enum {
     LARGEST_ROOM = KEEPER_LISTING_ROOM + 64,
     LARGEST_SCRATCH = KEEPER_SCRATCH_NUMBERS + 64,
     LARGEST_LIST = 65536 + 40,
-    LARGEST_MARKS = KEEPER_MARKS_ROOM + 64,
+    LARGEST_MARKS = 65536 + 40,
     MOST_POSITIONS = 300,
     MOST_WORK = 60000,
     GUARDS = 32
@@ -396,9 +396,10 @@ static void make_ceilings(struct input *input, struct call *call, size_t n)
 
 /* The mark buffer of a line by marking: its length, and what stands in it before: bytes that depend on the place,
    or all marks, no mark, every other one. The exact length is that of the counts that the table has, accepted or
-   not. */
+   not; 65,536 bytes, which 16 bits don't count, are lent too. */
 static void make_marks(struct call *call, size_t n, unsigned lengths)
 {
+    unsigned fill = lengths >> 6;
     size_t sum = 0;
     for (size_t p = 0; p < n; p++)
         sum += 6 + 2 * p <= table_length ? get_number(2 + p) : 1;
@@ -411,15 +412,15 @@ static void make_marks(struct call *call, size_t n, unsigned lengths)
     case 4: call->marks = (sum + n) / 8; break;
     case 5: call->marks = 0; break;
     case 6: call->marks = KEEPER_MARKS_ROOM; break;
-    default: call->marks = exact + GUARDS; break;
+    default: call->marks = fill == 3 ? 65536 : exact + GUARDS; break;
     }
     if (call->marks > LARGEST_MARKS)
         call->marks = LARGEST_MARKS;
     for (size_t at = 0; at < GUARDS + call->marks + GUARDS; at++)
         before.marks[at] = (uint8_t)(at * 53 + 29);
     static const uint8_t fills[4] = {0, 0xFF, 0, 0x55};
-    if (lengths >> 6 != 0)
-        memset(before.marks + GUARDS, fills[lengths >> 6], call->marks);
+    if (fill != 0)
+        memset(before.marks + GUARDS, fills[fill], call->marks);
 }
 
 /* The line by marking behind the line under the same ceilings, whose call this was and whose number is given:
