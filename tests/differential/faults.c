@@ -9,6 +9,7 @@
     __typeof__(keeper_recovery_line) fault##k##_recovery_line;  \
     __typeof__(keeper_line_of_set) fault##k##_line_of_set;      \
     __typeof__(keeper_line_under) fault##k##_line_under;        \
+    __typeof__(keeper_marked_line) fault##k##_marked_line;      \
     __typeof__(keeper_send) fault##k##_send;                    \
     __typeof__(keeper_save) fault##k##_save;                    \
     __typeof__(keeper_fall_back) fault##k##_fall_back;          \
@@ -19,12 +20,14 @@
 
 #define FAULT(k)                                                                                             \
     {fault##k##_check_table, fault##k##_recovery_line, fault##k##_line_of_set, fault##k##_line_under,        \
-     fault##k##_send, fault##k##_save, fault##k##_fall_back, fault##k##_keep_sheet, fault##k##_listing},
+     fault##k##_marked_line, fault##k##_send,          fault##k##_save,        fault##k##_fall_back,         \
+     fault##k##_keep_sheet,  fault##k##_listing},
 static const struct {
     __typeof__(keeper_check_table) *check_table;
     __typeof__(keeper_recovery_line) *recovery_line;
     __typeof__(keeper_line_of_set) *line_of_set;
     __typeof__(keeper_line_under) *line_under;
+    __typeof__(keeper_marked_line) *marked_line;
     __typeof__(keeper_send) *send;
     __typeof__(keeper_save) *save;
     __typeof__(keeper_fall_back) *fall_back;
@@ -67,6 +70,13 @@ uint32_t keeper_line_of_set(TABLE, uint32_t set, ANSWER)
 uint32_t keeper_line_under(TABLE, const uint16_t *ceilings, size_t ceilings_length, ANSWER)
 {
     return faults[chosen()].line_under(table, length, ceilings, ceilings_length, answer, room, written);
+}
+
+uint32_t keeper_marked_line(TABLE, const uint16_t *ceilings, size_t ceilings_length, uint8_t *marks,
+                            size_t marks_length, ANSWER)
+{
+    return faults[chosen()].marked_line(table, length, ceilings, ceilings_length, marks, marks_length, answer, room,
+                                        written);
 }
 
 uint32_t keeper_send(TABLE, uint16_t from, uint16_t to, ANSWER)
