@@ -52,8 +52,8 @@ static const struct implementation implementations[IMPLEMENTATIONS] = {
     {"archive-line-under", NULL, NULL, keeper_line_under, NULL, NULL, NULL, NULL},
 };
 
-/* A line under ceilings twice: under half of each count, and under the counts. The line by marking too; beside
-   it those that lend no marks find the same line as they do. */
+/* A line under ceilings twice: under half of each count, and under the counts. By marking too; beside that, an
+   implementation without the call finds the line under the same ceilings in its own way. */
 enum {
     SHEET_CALL, LINE_CALL, HALVES_CALL, COUNTS_CALL, MARKED_HALVES_CALL, MARKED_COUNTS_CALL, FALL_BACK_CALL, SEND_CALL,
     SAVE_CALL, CALLS
