@@ -13,7 +13,6 @@ use reference::gen::Rng;
 use reference::Outcome;
 
 use crate::lend::{Element, Lent};
-use crate::marked;
 use crate::share::{self, ROUNDINGS};
 use crate::show;
 
@@ -238,7 +237,7 @@ impl Call {
                 Call::LineUnder { .. } => archive::keeper_line_under(
                     bytes, length, entries, of_entries, answer, room, written,
                 ),
-                Call::MarkedLine { .. } => marked::keeper_marked_line(
+                Call::MarkedLine { .. } => archive::keeper_marked_line(
                     bytes, length, entries, of_entries, marks, of_marks, answer, room, written,
                 ),
                 Call::Send { from, to, .. } => {
@@ -260,17 +259,18 @@ impl Call {
         }
     }
 
-    /// What the binding answers, brought into the archive's form; `None` where
-    /// it does not have the call.
-    fn by_binding(&self, lent: &mut Loan) -> Option<u32> {
+    /// What the binding answers, brought into the archive's form.
+    fn by_binding(&self, lent: &mut Loan) -> u32 {
         let table = lent.table.slice();
         let answer = lent.answer.slice_mut();
         let result = match *self {
-            Call::CheckTable => return Some(number(keeper::check_table(table))),
+            Call::CheckTable => return number(keeper::check_table(table)),
             Call::RecoveryLine { .. } => keeper::recovery_line(table, answer),
             Call::LineOfSet { set, .. } => keeper::line_of_set(table, set, answer),
             Call::LineUnder { .. } => keeper::line_under(table, lent.list.slice(), answer),
-            Call::MarkedLine { .. } => return None,
+            Call::MarkedLine { .. } => {
+                keeper::marked_line(table, lent.list.slice(), lent.marks.slice_mut(), answer)
+            }
             Call::Send { from, to, .. } => keeper::send(table, from, to, answer),
             Call::Save { process, .. } => keeper::save(table, process, lent.list.slice(), answer),
             Call::FallBack { .. } => keeper::fall_back(table, answer),
@@ -280,7 +280,7 @@ impl Call {
         if let Ok(length) = result {
             lent.written.put(&[length]);
         }
-        Some(number(result))
+        number(result)
     }
 }
 
@@ -438,10 +438,7 @@ impl Comparison {
         for by_binding in [false, true] {
             let mut loan = before.copy();
             let number = if by_binding {
-                let Some(number) = call.by_binding(&mut loan) else {
-                    continue;
-                };
-                number
+                call.by_binding(&mut loan)
             } else {
                 call.by_archive(&mut loan)
             };

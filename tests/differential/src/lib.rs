@@ -3,7 +3,6 @@
 //! * `lend`    - buffers with guards on both sides, for what a call is lent
 //! * `compare` - one call made by the archive, by the binding and by the
 //!   second implementation, and everything that may differ
-//! * `marked`  - the archive's line by marking, which the binding does not declare
 //! * `make`    - tables and arguments by chance
 //! * `share`   - how the share of a listing was rounded, and tables that have a
 //!   chosen one
@@ -13,7 +12,6 @@
 pub mod compare;
 pub mod lend;
 pub mod make;
-pub mod marked;
 pub mod scope;
 pub mod share;
 pub mod show;

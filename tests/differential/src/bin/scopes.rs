@@ -27,7 +27,6 @@ use std::process::ExitCode;
 use std::time::Instant;
 
 use differential::compare::{number, Call};
-use differential::marked::keeper_marked_line;
 use differential::scope::{least_renaming, next_order, renamed_message, Scope};
 use differential::{share, show};
 use keeper::archive;
@@ -266,7 +265,7 @@ impl Marked {
         let answer = &mut marked.lined.buffer[4..4 + room];
         // SAFETY: each pointer and length is a slice of a buffer of its own.
         marked.lined.number = unsafe {
-            keeper_marked_line(
+            archive::keeper_marked_line(
                 table.as_ptr(),
                 table.len(),
                 lent.as_mut_ptr(),
