@@ -159,6 +159,7 @@ differs tests/reference/src/table.rs 's/^    \/\/ 8\. A send number is not below
 differs tests/reference/src/table.rs '/^    \/\/ 3\. /d' '3: M is above'
 differs tests/reference/src/gen.rs 's/"5\. A count is 0 or/"5. A count is/' '5: a count'
 changed tests/reference/src/steps.rs "s/^\\/\\/\\/ Checks: the table's, 10, 13, 14, 16/\\/\\/\\/ Checks: the table's, 10, 13, 16/"
+changed tests/reference/src/marking.rs "s/^\\/\\/\\/ Checks: the table's, 17, 18, 19, 16/\\/\\/\\/ Checks: the table's, 17, 18, 16, 19/"
 differs crates/run_table/specs/Checks.antt '/number = 8 }/{h;d;};/number = 9 }/G' 'row 8 '
 
 # A file that is not there.
