@@ -204,9 +204,9 @@ binding-tests: archives need-cargo
 	@cd bindings/rust && $(CARGO) test --release --all-features --target-dir ../../target/cargo >../../target/tests/binding.log 2>&1 || { cat ../../target/tests/binding.log; exit 1; }
 	@awk '/^test result/ { n += $$4 } END { print n " tests of the Rust binding passed" }' target/tests/binding.log
 
-# Every call of the library beside the second implementation: tables by chance, at the limits, damaged, with shares
-# at and near exact halves, chains of steps; then every table of small scopes. A difference prints the table, the call
-# and both answers.
+# Every call of the library beside the second implementation: tables by chance, at the limits, damaged, mark buffers
+# at and near their least length, shares at and near exact halves, chains of steps; then every table of small scopes. A
+# difference prints the table, the call and both answers.
 CALLS = 450000
 SEED = 20260101
 SCOPES =
