@@ -1,8 +1,11 @@
 //! The ways to find a line agree, on all small tables and on chance ones, and
 //! the general claims about lines and steps hold.
 
+mod common;
+
 use std::collections::HashMap;
 
+use common::{all_at_or_below, small_tables};
 use reference::gen::*;
 use reference::lines::*;
 use reference::sheet::{kept, kept_under};
@@ -69,19 +72,6 @@ fn lines_agree(table: &Table, enumerate: bool) {
     assert!(is_consistent(table, &vec![0; n]));
 }
 
-/// Every list of numbers at or below the given ones, place by place.
-fn all_at_or_below(top: &[u32]) -> Vec<Vec<u16>> {
-    let mut lists = vec![Vec::new()];
-    for &most in top {
-        let longer = |list: &Vec<u16>, at: u32| [&list[..], &[at as u16]].concat();
-        lists = lists
-            .iter()
-            .flat_map(|list| (0..=most).map(move |at| longer(list, at)))
-            .collect();
-    }
-    lists
-}
-
 /// Whether the one is at or below the other in every place.
 fn at_or_below(one: &[u16], other: &[u16]) -> bool {
     one.len() == other.len() && one.iter().zip(other).all(|(a, b)| a <= b)
@@ -105,13 +95,6 @@ fn line_in(outcome: Outcome) -> Vec<u16> {
         .collect()
 }
 
-/// The small tables whose every ceiling is tried.
-fn small_tables() -> impl Iterator<Item = Table> {
-    [(2, 2, 4), (2, 3, 3), (2, 4, 2), (3, 2, 2), (3, 3, 1)]
-        .into_iter()
-        .flat_map(|(n, c, m)| all_tables(n, c, m))
-}
-
 /// All ways to find a line, under all ceilings.
 #[test]
 fn under_all_ceilings_of_all_small_tables() {
@@ -119,7 +102,6 @@ fn under_all_ceilings_of_all_small_tables() {
     for table in small_tables() {
         let index = SendIndex::new(&table);
         for ceiling in all_at_or_below(&table.counts) {
-            let ceiling: Line = ceiling.into_iter().map(u32::from).collect();
             line_agrees(&table, &index, &ceiling, true);
             ceilings += 1;
         }

@@ -1,16 +1,13 @@
 //! Limits, buffers that just fit or just do not, and the order of the checks.
 
+mod common;
+
+use common::numbers;
 use reference::gen::{arbitrary, ceilings, history, limit_tables, staircase, Rng};
 use reference::sheet::kept;
 use reference::*;
 
 const ROOM: usize = 40_000;
-
-fn numbers(list: &[u16]) -> Vec<u8> {
-    list.iter()
-        .flat_map(|number| number.to_le_bytes())
-        .collect()
-}
 
 #[test]
 fn counts() {

@@ -2,8 +2,11 @@
 //! they catch, its line beside the other ways to find one, and the call's
 //! buffers and checks.
 
+mod common;
+
 use std::collections::BTreeSet;
 
+use common::{all_at_or_below, numbers, of_counts, small_tables};
 use reference::gen::*;
 use reference::lines::*;
 use reference::marking::{latest_unmarked, mark_bytes, marked_roots, Graph, Marking, State};
@@ -452,26 +455,6 @@ fn lines_of_the_examples() {
 // ---------------------------------------------------------------------------
 // All small tables.
 
-/// Every list of numbers at or below the given ones, place by place.
-fn all_at_or_below(top: &[u32]) -> Vec<Vec<u32>> {
-    let mut lists = vec![Vec::new()];
-    for &most in top {
-        let longer = |list: &Vec<u32>, at: u32| [&list[..], &[at]].concat();
-        lists = lists
-            .iter()
-            .flat_map(|list| (0..=most).map(move |at| longer(list, at)))
-            .collect();
-    }
-    lists
-}
-
-/// The small tables whose every ceiling is tried.
-fn small_tables() -> impl Iterator<Item = Table> {
-    [(2, 2, 4), (2, 3, 3), (2, 4, 2), (3, 2, 2), (3, 3, 1)]
-        .into_iter()
-        .flat_map(|(n, c, m)| all_tables(n, c, m))
-}
-
 /// The procedure with all marks taken away before each round.
 fn rounds_with_marks_cleared(table: &Table, ceilings: &[u32]) -> Vec<Vec<u32>> {
     let graph = Graph::new(table);
@@ -685,17 +668,6 @@ fn rounds_of_dominoes() {
 // The call: its buffers and its checks.
 
 const ROOM: usize = 40_000;
-
-fn numbers(list: &[u16]) -> Vec<u8> {
-    list.iter()
-        .flat_map(|number| number.to_le_bytes())
-        .collect()
-}
-
-/// A table without messages.
-fn of_counts(counts: &[u16]) -> Vec<u8> {
-    numbers(&[&[counts.len() as u16, 0], counts].concat())
-}
 
 /// "(sum of counts + N) / 8 bytes, rounded up": the bytes to expect were worked
 /// out by hand. Those of the counts alone, or rounded down, would be others, and

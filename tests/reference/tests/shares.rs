@@ -1,19 +1,10 @@
 //! The share, as document 02, §2, rounds it.
 
+mod common;
+
+use common::{numbers, of_counts};
 use reference::listing::share;
 use reference::*;
-
-fn numbers(list: &[u16]) -> Vec<u8> {
-    list.iter()
-        .flat_map(|number| number.to_le_bytes())
-        .collect()
-}
-
-/// A table without messages: each process keeps its last state alone.
-fn apart(counts: &[u16]) -> Vec<u8> {
-    let sizes = [counts.len() as u16, 0];
-    numbers(&[&sizes, counts].concat())
-}
 
 /// So many processes without messages, with so many states in all.
 fn apart_with(n: u16, states: u16) -> Vec<u8> {
@@ -21,7 +12,7 @@ fn apart_with(n: u16, states: u16) -> Vec<u8> {
         .map(|p| states / n + u16::from(p < states % n))
         .collect();
     assert_eq!(counts.iter().sum::<u16>(), states);
-    apart(&counts)
+    of_counts(&counts)
 }
 
 /// The number in the last row of the listing.
@@ -191,12 +182,12 @@ fn odd_numbers_of_states() {
 /// 0 and 100: also 0 though a state is kept, and 100 though one is not.
 #[test]
 fn ends() {
-    assert_eq!(printed(&apart(&[4_096])), 0);
-    assert_eq!(printed(&apart(&[4_096; 32])), 0);
-    assert_eq!(printed(&apart(&[200])), 0);
-    assert_eq!(printed(&apart(&[199])), 1);
+    assert_eq!(printed(&of_counts(&[4_096])), 0);
+    assert_eq!(printed(&of_counts(&[4_096; 32])), 0);
+    assert_eq!(printed(&of_counts(&[200])), 0);
+    assert_eq!(printed(&of_counts(&[199])), 1);
     for n in 1..=32 {
-        assert_eq!(printed(&apart(&vec![1; n])), 100);
+        assert_eq!(printed(&of_counts(&vec![1; n])), 100);
     }
     // 31 of 32 is 96.875.
     assert_eq!(printed(&apart_with(31, 32)), 97);
