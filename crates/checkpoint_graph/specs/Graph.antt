@@ -1,5 +1,5 @@
--- The checkpoint graph of a run (docs/MANUAL.md, "The line by marking"): its states, its edges, and which state leads
--- to which. It is told of the table alone. Assumes nothing.
+-- The checkpoint graph of a run (docs/MANUAL.md, "The same line by marking"): its states, its edges, and which state
+-- leads to which. It is told of the table alone. Assumes nothing.
 use Prim.Native.Nat.{ℕ, suc, _≤_, _<_}
 use Rattle.run_table.specs.Table.{Table, countOf, messageOf, processCount}
 

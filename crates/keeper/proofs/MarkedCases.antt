@@ -1,4 +1,5 @@
--- The marked cases hold of the definitions, and so do the cases of lines under ceilings: a statement each, by computation.
+-- The marked cases hold of the definitions, and so do the cases of lines under ceilings and by marking: a statement each, by
+-- computation.
 -- Assumes nothing.
 use mathlib.Core.Bool.{true}
 use mathlib.Core.Path.{_≡_, refl}
@@ -15,10 +16,12 @@ use Rattle.process_set.specs.Sets.{highBit, member}
 use Rattle.futures.specs.Steps.{afterRollback, putBack, remaining, stays}
 use Rattle.futures.specs.Sheet.{crosses, holderLine, keepsCheckpoint, keepsMessage, keptCheckpoints, keptMessages, sheet}
 use Rattle.keeper.specs.Answers.{answer, unless}
-use Rattle.keeper.specs.Calls.{keepSheetAnswer, lineAnswer, lineOfSetAnswer, lineUnderAnswer, recoveryLineAnswer, rollbackAnswer}
-use Rattle.refusals.specs.CallChecks.{keepSheetChecks, lineOfSetChecks, lineUnderChecks}
-use Rattle.keeper.specs.Cases.{allHold, answerOf, ceilingCases, lateReceipt, lateSend, markedCases, sameAnswer, sameBytes}
-use Rattle.keeper.specs.Cases.{tableA, tableB, tableC, tableD}
+use Rattle.keeper.specs.Calls.{keepSheetAnswer, lineAnswer, lineOfSetAnswer, lineUnderAnswer, markedLineAnswer, recoveryLineAnswer}
+use Rattle.keeper.specs.Calls.{rollbackAnswer}
+use Rattle.marks.specs.Room.{marksSize}
+use Rattle.refusals.specs.CallChecks.{keepSheetChecks, lineOfSetChecks, lineUnderChecks, markedLineChecks}
+use Rattle.keeper.specs.Cases.{allHold, answerOf, ceilingCases, lateReceipt, lateSend, markedCases, markingCases, nineMarks, sameAnswer}
+use Rattle.keeper.specs.Cases.{sameBytes, tableA, tableB, tableC, tableD, tenMarks}
 
 pub marked-cases : allHold markedCases ≡ true
 unfolding firstCaught outside tooShort badProcessCount tooManyMessages badLength badCount unknownProcess toItself badSend badReceipt tableChecks
@@ -35,3 +38,11 @@ unfolding firstCaught outside tooShort badProcessCount tooManyMessages badLength
     tabulate any anyBelow processCount messageCount countOf messageOf isOrphan lower pass passes sum lineUnder unless answer lineAnswer tableA
     tableB tableD lateReceipt answerOf sameBytes sameAnswer allHold aboveCounts lineUnderChecks lineUnderAnswer ceilingCases
 ceiling-cases = refl
+
+pub marking-cases : allHold markingCases ≡ true
+unfolding firstCaught outside tooShort badProcessCount tooManyMessages badLength badCount unknownProcess toItself badSend badReceipt tableChecks
+    tableRefusal processesIn messagesIn countsPart sendsPart receiptsPart countAt processAt checkpointAt messageAt decode u16At u16Bytes u16s
+    tabulate any anyBelow processCount messageCount countOf messageOf isOrphan lower pass passes sum lineUnder unless answer lineAnswer tableA
+    tableB tableD nineMarks tenMarks lateReceipt answerOf sameBytes sameAnswer allHold aboveCounts lineUnderChecks marksSize markedLineChecks
+    markedLineAnswer markingCases
+marking-cases = refl

@@ -6,7 +6,7 @@ use Prim.Native.Nat.{ℕ}
 use lib.Dec.{eqb}
 use Rattle.keeper.specs.Answers.{Answer, answered, refused, unless}
 use Rattle.keeper.specs.Calls.{keepSheetAnswer, lineOfSetAnswer, lineUnderAnswer, recoveryLineAnswer}
-use Rattle.keeper.specs.Calls.{rollbackAnswer}
+use Rattle.keeper.specs.Calls.{markedLineAnswer, rollbackAnswer}
 use Rattle.run_table.specs.Checks.{tableRefusal}
 use Rattle.run_table.specs.Numbers.{u16s}
 
@@ -42,6 +42,7 @@ pub data Call : Type 0 where
   recoveryLine : Call
   hold : ℕ → Call
   under : List ℕ → Call
+  marking : List ℕ → ℕ → ℕ → Call
   fallBack : Call
   keepSheet : Call
 
@@ -50,12 +51,14 @@ pub record Case : Type 0 where
   pub call : Call
   pub expected : Answer
 
--- The answer of a call by the definitions, with a buffer of 1,000 bytes and a scratch of 4 numbers.
+-- The answer of a call by the definitions, with a buffer of 1,000 bytes and a scratch of 4 numbers; of the line by
+-- marking, with the bytes of its mark buffer and of its answer buffer that the case gives.
 unfoldable pub answerOf : List ℕ → Call → Answer
 answerOf table checkTable = unless (tableRefusal table) []
 answerOf table recoveryLine = recoveryLineAnswer table 1000
 answerOf table (hold set) = lineOfSetAnswer table set 1000
 answerOf table (under ceilings) = lineUnderAnswer table ceilings 1000
+answerOf table (marking ceilings bytes room) = markedLineAnswer table ceilings bytes room
 answerOf table fallBack = rollbackAnswer table 1000
 answerOf table keepSheet = keepSheetAnswer table 4 1000
 
@@ -144,4 +147,35 @@ ceilingCases =
     ∷ record { table = tableA; call = under (4 ∷ 0 ∷ []); expected = refused 18 }
     ∷ record { table = tableA; call = under (0 ∷ 4 ∷ []); expected = refused 18 }
     ∷ record { table = lateReceipt; call = under []; expected = refused 9 }
+    ∷ []
+
+-- ---- the same lines by marking (docs/MANUAL.md, "The same line by marking"): which buffers are long enough
+-- Two processes without messages: 7 checkpoints and 2 new states are 9 marks; 8 and 2 are 10.
+unfoldable pub nineMarks : List ℕ
+nineMarks = u16s (2 ∷ 0 ∷ 3 ∷ 4 ∷ [])
+
+unfoldable pub tenMarks : List ℕ
+tenMarks = u16s (2 ∷ 0 ∷ 4 ∷ 4 ∷ [])
+
+unfoldable pub markingCases : List Case
+markingCases =
+    -- A has 8 marks: one byte, or more, or none; the line is that under the ceilings
+    record { table = tableA; call = marking (2 ∷ 2 ∷ []) 1 4; expected = answered (u16s (1 ∷ 1 ∷ [])) }
+    ∷ record { table = tableA; call = marking (0 ∷ 3 ∷ []) 1 1000; expected = answered (u16s (0 ∷ 1 ∷ [])) }
+    ∷ record { table = tableA; call = marking (3 ∷ 3 ∷ []) 100 4; expected = answered (u16s (3 ∷ 3 ∷ [])) }
+    ∷ record { table = tableA; call = marking (2 ∷ 2 ∷ []) 0 4; expected = refused 19 }
+    -- 9 and 10 marks take two bytes, though 8 checkpoints would fit one
+    ∷ record { table = nineMarks; call = marking (3 ∷ 4 ∷ []) 2 4; expected = answered (u16s (3 ∷ 4 ∷ [])) }
+    ∷ record { table = nineMarks; call = marking (3 ∷ 4 ∷ []) 1 4; expected = refused 19 }
+    ∷ record { table = tenMarks; call = marking (0 ∷ 0 ∷ []) 2 4; expected = answered (u16s (0 ∷ 0 ∷ [])) }
+    ∷ record { table = tenMarks; call = marking (0 ∷ 0 ∷ []) 1 4; expected = refused 19 }
+    -- B has two marks, D six
+    ∷ record { table = tableB; call = marking (1 ∷ []) 1 2; expected = answered (u16s (1 ∷ [])) }
+    ∷ record { table = tableD; call = marking (1 ∷ 2 ∷ []) 1 4; expected = answered (u16s (0 ∷ 0 ∷ [])) }
+    -- the order: the table's, 17, 18, 19, 16
+    ∷ record { table = lateReceipt; call = marking [] 0 0; expected = refused 9 }
+    ∷ record { table = tableA; call = marking (4 ∷ []) 0 0; expected = refused 17 }
+    ∷ record { table = tableA; call = marking (4 ∷ 0 ∷ []) 0 0; expected = refused 18 }
+    ∷ record { table = tableA; call = marking (3 ∷ 0 ∷ []) 0 0; expected = refused 19 }
+    ∷ record { table = tableA; call = marking (3 ∷ 0 ∷ []) 1 3; expected = refused 16 }
     ∷ []

@@ -1,5 +1,5 @@
--- The marking procedure on the checkpoint graph (docs/MANUAL.md, "The line by marking"; Figure 3 of the source), from
--- the graph alone. A round is a relation between what stands before it and after it. Assumes nothing.
+-- The marking procedure on the checkpoint graph (docs/MANUAL.md, "The same line by marking"; Figure 3 of the source),
+-- from the graph alone. A round is a relation between what stands before it and after it. Assumes nothing.
 use mathlib.Core.Bool.{Bool, false, true}
 use mathlib.Core.List.{List}
 use mathlib.Core.Logic.{_⊎_}

@@ -1,5 +1,5 @@
--- What is claimed of the marking procedure (docs/MANUAL.md, "The line by marking"): it can be carried out, it comes to
--- an end, and it ends with the line that the other calls find. Assumes nothing.
+-- What is claimed of the marking procedure (docs/MANUAL.md, "The same line by marking"): it can be carried out, it
+-- comes to an end, and it ends with the line that the other calls find. Assumes nothing.
 use mathlib.Core.List.{List}
 use mathlib.Core.Logic.{_⊎_}
 use mathlib.Core.Path.{_≡_}

@@ -1,5 +1,5 @@
--- The lent buffer of the marks (docs/MANUAL.md, "The line by marking"): one bit a state, new states included. Assumes
--- nothing.
+-- The lent buffer of the marks (docs/MANUAL.md, "The same line by marking"): one bit a state, new states included.
+-- Assumes nothing.
 use mathlib.Core.List.{List, _++_}
 use Prim.Native.Nat.{ℕ, _+_, _/_}
 use lib.ListN.{drop, replicate}
