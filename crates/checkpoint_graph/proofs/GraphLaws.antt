@@ -1,8 +1,9 @@
 -- Laws of the checkpoint graph.
 --     message-in               a received message is one of the table's
---     edge-from, edge-to       an edge of a well formed table goes from a checkpoint to a state: new states have no edge out
+--     edge-from, edge-to       an edge of a well formed table goes from a checkpoint to a state: so no edge leads out of a new state
 --     leads-to                 so what a state leads to is a state
---     leads-on                 what leads on from there
+--     leads-on                 two paths, one after the other
+--     leads-carry              what every edge brings from its start to its end, a path does
 --     leads-up                 a state leads to every later one of its process
 -- Assumes nothing.
 use mathlib.Core.Path.{_≡_, ap, subst}
@@ -26,11 +27,17 @@ pub leads-on : {t : Table} {a b c : State} → Leads t a b → Leads t b c → L
 leads-on l (edge e) = then l e
 leads-on l (then m e) = then (leads-on l m) e
 
+-- what every edge brings from its start to its end, and can be gone on from there, a path does
+module _ {t : Table} (P Q : State → Type 0) (step : (a b : State) → Edge t a b → P a → Q b) (weaken : (a : State) → Q a → P a) where
+  pub leads-carry : {a b : State} → Leads t a b → P a → Q b
+  leads-carry (edge e) h = step _ _ e h
+  leads-carry (then l e) h = step _ _ e (weaken _ (leads-carry l h))
+
 module _ (t : Table) (p : ℕ) (known : p < processCount t) where
   up-by : (y d : ℕ) → y + suc d ≤ countOf t p → Leads t (state p y) (state p (suc (y + d)))
   up-by y zero l =
-      let here : suc (y + zero) ≡ suc y = omega arith in
-      subst (λ (n : ℕ). Leads t (state p y) (state p n)) (omega (arith, here)) (edge (to-next p y known (omega arith)))
+      let here : suc y ≡ suc (y + zero) = omega arith in
+      subst (λ (n : ℕ). Leads t (state p y) (state p n)) here (edge (to-next p y known (omega arith)))
   up-by y (suc d) l =
       let place : suc (suc (y + d)) ≡ suc (y + suc d) = omega arith in
       subst (λ (n : ℕ). Leads t (state p y) (state p n)) place (then (up-by y d (omega arith)) (to-next p (suc (y + d)) known (omega arith)))

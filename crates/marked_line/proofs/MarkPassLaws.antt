@@ -17,8 +17,8 @@ use native.Mathlib.Omega.{arith}
 use borrow.Author.Tests.{eq-eqb, eqb-true, le-leb, leb-true, lt-ltb, ltb-true, ne-eqb}
 use lib.Dec.{eqb, leb, ltb}
 use lib.ListN.{getD, length}
-use Rattle.checkpoint_graph.proofs.GraphLaws.{leads-to, message-in}
-use Rattle.checkpoint_graph.specs.Graph.{Edge, Leads, State, edge, received, state, then, to-next}
+use Rattle.checkpoint_graph.proofs.GraphLaws.{leads-carry, leads-to, message-in}
+use Rattle.checkpoint_graph.specs.Graph.{Edge, Leads, State, received, state, to-next}
 use Rattle.marked_line.proofs.MarkRowLaws.{bit-in, first-read, first-there, kept-both, kept-none, lent-kept, process-few, row-below, row-end}
 use Rattle.marked_line.proofs.MarkRowLaws.{row-here, row-kept, row-onwards, row-other, row-room, row-stay}
 use Rattle.marked_line.specs.Marking.{BitThere, Closed, Grown, Lent, Passed, Reached, Ready, RestsAt, markedIn, marksIn}
@@ -439,8 +439,7 @@ module _ (t : Table) (wf : WellFormed t) (roots : List ℕ) (buffer : List ℕ) 
           (omega (arith, good-one .sent-below)))
 
   leads-marked : {a b : State} → Leads t a b → From a → markedIn t buffer (b .process) (b .number) ≡ true
-  leads-marked (edge e) f = edge-marked e f
-  leads-marked (then l e) f = edge-marked e (inr (leads-marked l f))
+  leads-marked = leads-carry From (λ b. markedIn t buffer (b .process) (b .number) ≡ true) (λ a b. edge-marked) (λ a. inr)
 
   all-marked : (s : State) → Reachable t roots s → marksIn t buffer s ≡ true
   all-marked s r =

@@ -18,7 +18,7 @@ use borrow.Author.Tests.{le-leb, leb-true, lt-ltb, ltb-true}
 use lib.Dec.{leb, ltb}
 use lib.ListN.{getD, length, length-set, set}
 use lib.Seq.{getD-set-other, getD-set-same}
-use Rattle.checkpoint_graph.proofs.GraphLaws.{leads-on, leads-to, leads-up, message-in}
+use Rattle.checkpoint_graph.proofs.GraphLaws.{leads-carry, leads-on, leads-to, leads-up, message-in}
 use Rattle.checkpoint_graph.specs.Graph.{Edge, Leads, State, edge, received, state, then, to-next}
 use Rattle.consistency.proofs.LoweringLaws.{sum-falls}
 use Rattle.marking.specs.Procedure.{Marks, MarksReachable, Reachable}
@@ -143,12 +143,12 @@ module _ (t : Table) (w : WellFormed t) (roots : List ℕ) where
         by-place p y l above there (no other) = h .reachable p y l (omega (arith, elsewhere p other)) there
 
   -- ---- lows that no message brings down
-  pub record Closed : Type 0 where
+  pub record AtRest : Type 0 where
     pub lows : List ℕ
     pub known : Lows t roots lows
     pub at-rest : (k : ℕ) → k < messageCount t → applies t roots lows k ≡ false
 
-  close : (fuel : ℕ) (lows : List ℕ) → Lows t roots lows → sum lows ≤ fuel → Closed
+  close : (fuel : ℕ) (lows : List ℕ) → Lows t roots lows → sum lows ≤ fuel → AtRest
   close zero lows h l = record { lows = lows; known = h; at-rest = λ k _. is-false k (applies t roots lows k) refl }
     where
       is-false : (k : ℕ) (b : Bool) → applies t roots lows k ≡ b → b ≡ false
@@ -157,21 +157,21 @@ module _ (t : Table) (w : WellFormed t) (roots : List ℕ) where
   close (suc fuel) lows h l = go (anyBelow (messageCount t) (applies t roots lows)) refl (close fuel)
     where
       go : (b : Bool) → anyBelow (messageCount t) (applies t roots lows) ≡ b
-          → ((lows′ : List ℕ) → Lows t roots lows′ → sum lows′ ≤ fuel → Closed) → Closed
+          → ((lows′ : List ℕ) → Lows t roots lows′ → sum lows′ ≤ fuel → AtRest) → AtRest
       go true e again =
           let found = found-below (applies t roots lows) (messageCount t) e in
           again (set lows (messageOf t (found .0) .receiver) (messageOf t (found .0) .received)) (lows-step lows h (found .0) (found .2))
           (omega (arith, lows-fall lows h (found .0) (found .2)))
       go false e again = record { lows = lows; known = h; at-rest = none-below (applies t roots lows) (messageCount t) e }
 
-  closed : Closed
+  closed : AtRest
   closed = close (sum (tabulate (processCount t) behind)) (tabulate (processCount t) behind) lows-start (le-refl _)
 
   -- a state at its process's root, or behind it, or from its low on
   abbrev Within : List ℕ → State → Type 0
   Within lows a = min (getD lows (a .process) 0) (getD roots (a .process) 0) ≤ a .number
 
-  module _ (c : Closed) where
+  module _ (c : AtRest) where
     edge-closed : {a b : State} → Edge t a b → Within (c .lows) a → getD (c .lows) (b .process) 0 ≤ b .number
     edge-closed (to-next p y known there) within = omega (arith, within, c .known .behind-roots p known)
     edge-closed (received k d) within = go (decLe (getD (c .lows) (messageOf t k .receiver) 0) (messageOf t k .received))
@@ -188,8 +188,7 @@ module _ (t : Table) (w : WellFormed t) (roots : List ℕ) where
             absurd (false≢true (sym (c .at-rest k (message-in t k d)) ∙ applied))
 
     leads-closed : {a b : State} → Leads t a b → Within (c .lows) a → getD (c .lows) (b .process) 0 ≤ b .number
-    leads-closed (edge e) within = edge-closed e within
-    leads-closed (then l e) within = edge-closed e (omega (arith, leads-closed l within))
+    leads-closed = leads-carry (Within (c .lows)) (λ b. getD (c .lows) (b .process) 0 ≤ b .number) (λ a b. edge-closed) (λ a h. omega arith)
 
     -- the states from the lows on
     behindLows : Marks

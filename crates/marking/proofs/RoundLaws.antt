@@ -1,10 +1,10 @@
 -- What holds after some rounds of the marking procedure, and how the next one is made.
 --     leads-above               what a state at or above a consistent line leads to is above that line
 --     Above, stage-above        so the roots stay at or above each consistent line under the ceilings, and what is marked is above it
---     marked-now, stage-later, stage-for-each, stage-below    the last marking; the states behind the roots; the roots beside the ceilings
+--     stage-later, stage-for-each, stage-below    the states behind the roots; the roots beside the ceilings
 --     stage-sum                 rounds and the sum of the roots, together no more than the sum of the ceilings
 --     round-lower, round-falls  a marked root goes down, so their sum falls with each round
---     latest-unmarked, round-made    a process has a latest unmarked state, so where a root is marked a round can be made
+--     zero-unmarked, round-made state 0 is never marked, so a process has a latest unmarked state, and where a root is marked a round can be made
 --     end-consistent            where no root is marked they are a consistent line
 -- Assumes nothing.
 use mathlib.Core.Bool.{Bool, true, false, cond, false≢true}
@@ -16,8 +16,8 @@ use native.Mathlib.Decide.{decLe, decLt, ℕ-discrete}
 use native.Mathlib.Nat.{le-refl, le-trans}
 use native.Mathlib.Omega.{arith}
 use lib.ListN.{getD, length}
-use Rattle.checkpoint_graph.proofs.GraphLaws.{leads-up, message-in}
-use Rattle.checkpoint_graph.specs.Graph.{Edge, Leads, State, edge, received, state, then, to-next}
+use Rattle.checkpoint_graph.proofs.GraphLaws.{leads-carry, leads-up, message-in}
+use Rattle.checkpoint_graph.specs.Graph.{Edge, Leads, State, received, state, to-next}
 use Rattle.consistency.proofs.LineLaws.{orphan-free, zero-consistent}
 use Rattle.consistency.specs.Ceilings.{Ceiling}
 use Rattle.consistency.specs.Lines.{AtOrBelow, Consistent, Line, asLine}
@@ -35,10 +35,9 @@ module _ (t : Table) (l : Line) (c : Consistent (t .messages) l) where
   edge-above (to-next p y known there) h = omega arith
   edge-above (received k d) h = orphan-free (messageOf t k) l (c k) d h
 
-  -- a line has no orphan, so an edge that leaves it goes beyond it
-  pub leads-above : {a b : State} → Leads t a b → l (a .process) ≤ a .number → l (b .process) < b .number
-  leads-above (edge e) h = edge-above e h
-  leads-above (then m e) h = edge-above e (omega (arith, leads-above m h))
+  -- a line has no orphan, so a path that leaves it goes beyond it
+  leads-above : {a b : State} → Leads t a b → l (a .process) ≤ a .number → l (b .process) < b .number
+  leads-above = leads-carry (λ a. l (a .process) ≤ a .number) (λ b. l (b .process) < b .number) (λ a b. edge-above) (λ a h. omega arith)
 
   reachable-above : {roots : List ℕ} {s : State} → ((p : ℕ) → p < processCount t → l p ≤ getD roots p 0) → Reachable t roots s
       → l (s .process) < s .number
