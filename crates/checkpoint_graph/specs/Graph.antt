@@ -13,13 +13,13 @@ abbrev pub state : ℕ → ℕ → State
 state p y = record { process = p; number = y }
 
 -- The states of a run: of each process its checkpoints, and its new state (its virtual checkpoint), whose number is the
--- count.
+-- count. Every edge of a well formed table goes from a checkpoint to one of these (laws `edge-from`, `edge-to`).
 pub record StateOf (t : Table) (s : State) : Type 0 where
   pub known : s .process < processCount t
   pub there : s .number ≤ countOf t (s .process)
 
 -- An edge goes from each state to the next of its process, new states included; and for each received message, (j, y)
--- to (i, r) with r not 0, from state y of j to state r of i.
+-- to (i, r) with r not 0, from state y of j to state r of i. Beyond the last message stands one with receipt number 0.
 pub data Edge (t : Table) : State → State → Type 0 where
   to-next : (p y : ℕ) → p < processCount t → y < countOf t p → Edge t (state p y) (state p (suc y))
   received : (k : ℕ) → 0 < messageOf t k .received

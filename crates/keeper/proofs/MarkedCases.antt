@@ -2,7 +2,13 @@
 -- computation.
 -- Assumes nothing.
 use mathlib.Core.Bool.{true}
-use mathlib.Core.Path.{_≡_, refl}
+use mathlib.Core.List.{List, [], _∷_}
+use mathlib.Core.Path.{_≡_, refl, subst}
+use Prim.Native.Nat.{ℕ}
+use Rattle.consistency.proofs.CeilingLaws.{ceiling-checked}
+use Rattle.marking.proofs.SameLine.{same-line}
+use Rattle.marking.specs.Procedure.{EndsWith}
+use Rattle.run_table.proofs.AcceptLaws.{facts}
 use Rattle.run_table.specs.Checks.{badCount, badLength, badProcessCount, badReceipt, badSend, firstCaught, outside, tableChecks, tableRefusal}
 use Rattle.run_table.specs.Checks.{toItself, tooManyMessages, tooShort, unknownProcess}
 use Rattle.run_table.specs.Format.{checkpointAt, countAt, countsPart, decode, encode, entriesOf, messageAt, messagesIn, processAt, processesIn}
@@ -20,7 +26,7 @@ use Rattle.keeper.specs.Calls.{keepSheetAnswer, lineAnswer, lineOfSetAns
 use Rattle.keeper.specs.Calls.{rollbackAnswer}
 use Rattle.marks.specs.Room.{marksSize}
 use Rattle.refusals.specs.CallChecks.{keepSheetChecks, lineOfSetChecks, lineUnderChecks, markedLineChecks}
-use Rattle.keeper.specs.Cases.{allHold, answerOf, ceilingCases, lateReceipt, lateSend, markedCases, markingCases, nineMarks, sameAnswer}
+use Rattle.keeper.specs.Cases.{MarkingExample, allHold, answerOf, ceilingCases, lateReceipt, lateSend, markedCases, markingCases, nineMarks, sameAnswer}
 use Rattle.keeper.specs.Cases.{sameBytes, tableA, tableB, tableC, tableD, tenMarks}
 
 pub marked-cases : allHold markedCases ≡ true
@@ -46,3 +52,13 @@ unfolding firstCaught outside tooShort badProcessCount tooManyMessages badLength
     tableB tableD nineMarks tenMarks lateReceipt answerOf sameBytes sameAnswer allHold aboveCounts lineUnderChecks marksSize markedLineChecks
     markedLineAnswer markingCases
 marking-cases = refl
+
+-- by the theorem: the procedure ends, and with the computed line
+pub marking-example : MarkingExample
+unfolding firstCaught outside tooShort badProcessCount tooManyMessages badLength badCount unknownProcess toItself badSend badReceipt tableChecks
+    tableRefusal processesIn messagesIn countsPart sendsPart receiptsPart countAt processAt checkpointAt messageAt decode u16At u16Bytes u16s
+    tabulate any anyBelow processCount messageCount countOf messageOf isOrphan lower pass passes sum lineUnder tableA aboveCounts MarkingExample
+marking-example =
+    let ceilings : List ℕ = 2 ∷ 2 ∷ [] in
+    let agrees = same-line (decode tableA) (facts tableA refl .well-formed) ceilings (ceiling-checked (decode tableA) ceilings refl refl) in
+    subst (EndsWith (decode tableA) ceilings) (agrees .same (agrees .ends .0) (agrees .ends .1)) (agrees .ends .1)

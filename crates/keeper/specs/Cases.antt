@@ -7,7 +7,9 @@ use lib.Dec.{eqb}
 use Rattle.keeper.specs.Answers.{Answer, answered, refused, unless}
 use Rattle.keeper.specs.Calls.{keepSheetAnswer, lineOfSetAnswer, lineUnderAnswer, recoveryLineAnswer}
 use Rattle.keeper.specs.Calls.{markedLineAnswer, rollbackAnswer}
+use Rattle.marking.specs.Procedure.{EndsWith}
 use Rattle.run_table.specs.Checks.{tableRefusal}
+use Rattle.run_table.specs.Format.{decode}
 use Rattle.run_table.specs.Numbers.{u16s}
 
 -- ---- the tables, by their numbers: N, M; the counts; the sends; the receipts
@@ -149,7 +151,12 @@ ceilingCases =
     ∷ record { table = lateReceipt; call = under []; expected = refused 9 }
     ∷ []
 
--- ---- the same lines by marking (docs/MANUAL.md, "The same line by marking"): which buffers are long enough
+-- ---- the same lines by marking (docs/MANUAL.md, "The same line by marking")
+-- The manual's example of the procedure: from the ceilings 2 2 of A it ends with the roots 1 1.
+unfoldable pub MarkingExample : Type 0
+MarkingExample = EndsWith (decode tableA) (2 ∷ 2 ∷ []) (1 ∷ 1 ∷ [])
+
+-- Which mark buffers are long enough, and the order of the checks; the lines are those under the ceilings.
 -- Two processes without messages: 7 checkpoints and 2 new states are 9 marks; 8 and 2 are 10.
 unfoldable pub nineMarks : List ℕ
 nineMarks = u16s (2 ∷ 0 ∷ 3 ∷ 4 ∷ [])

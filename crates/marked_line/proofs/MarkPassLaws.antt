@@ -1,10 +1,13 @@
 -- Passes over the messages, from the last to the first, as the loops of `pass` and `mark_reachable` go.
+--     grown-none, grown-both             nothing marked; one pass after another
 --     Passing, pass-begins, pass-ends    the invariant of one pass, how it begins and how it ends
 --     AtReceipt, AtSend                  the pass at its next message: the receipt was read; the send was, too
---     skips-undelivered, skips-marked, skips-unreached, pass-marks    what its tests say of that message
---     grown-none, grown-both             nothing marked; one pass after another
+--     receiver-few, receipt-in, send-there, end-in, row-ready    what the code asks of that message and of its row
+--     skips-undelivered, skips-marked, skips-unreached, pass-marks    what its tests say of it
+--     IsMarked, marks-in, marks-are, marks-bit    the marks that a buffer holds, by its bits
 --     reached-all                        where no message leads to anything new, all that is reachable is marked
---     at-root, by-bit                    whether a state is at its root or marked
+--     Growing, passes-more, passes-end   the invariant of the passes, one pass more, the last one
+--     at-root, by-bit                    whether a state is its root or is marked
 -- Assumes nothing.
 use mathlib.Core.Bool.{Bool, true, false, _||_, false≢true, true≢false}
 use mathlib.Core.List.{List}
@@ -334,7 +337,7 @@ module _ {table first roots start buffer : List ℕ} {marked : Bool} {m : ℕ} {
         subst⁻¹ (λ (p : ℕ). Reachable t″ roots (state p r)) (i-is (x .receipt))
         (subst⁻¹ (λ (n : ℕ). Reachable t″ roots (state (here″ .receiver) n)) (r-is (x .receipt)) message-reachable)
 
-    module _ {e : ℕ} (e-is : e ≡ getD first (i + 1) 0 + 0) where
+    module _ {e : ℕ} (e-is : e ≡ getD first (i + 1) 0) where
       abbrev known : i < processCount t″
       known = receiver-known (x .receipt)
 

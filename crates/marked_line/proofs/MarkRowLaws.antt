@@ -1,9 +1,10 @@
 -- The bits of a process in a lent buffer, and a row of them that is set.
---     first-read, first-there, bit-in, row-room    the first bits as the code reads them; what it asks for and sets is in the buffer
+--     first-read, first-few, first-there, process-few, bit-in, row-end, row-room    the first bits as the code reads them; what it asks for and
+--         sets is in the buffer
 --     row-onwards                       in the row of a process, behind a set bit all are set
 --     row-here, row-below, row-other    the states whose bits were set, and the others
 --     row-stay, row-kept                what was set stays so, and no byte beyond the marks is changed
---     kept-none, kept-both              nothing changed; one change after another
+--     kept-none, kept-both, lent-kept   nothing changed; one change after another; there is room still
 -- Assumes nothing.
 use mathlib.Core.Bool.{true}
 use mathlib.Core.List.{List}
@@ -49,16 +50,14 @@ module _ {table first roots marks : List ℕ} (lent : Lent table first roots mar
         subst⁻¹ (λ (b : ℕ). (b + y) / 8 < marksSize t) (first-read p (omega (arith, process-few))) (state-inside t p known y l) in
         omega (arith, lent .room)
 
-    pub row-room : getD first (p + 1) 0 ≤ 8 * length marks
-    row-room =
-        let place : p + 1 ≡ suc p = omega arith in
-        omega (arith, first-read (p + 1) (omega (arith, process-few)), ap (firstBit (t .counts)) place, process-inside t p known, lent .room)
-
     -- where the row of a process ends
     pub row-end : getD first (p + 1) 0 ≡ firstBit (t .counts) (suc p)
     row-end =
         let place : p + 1 ≡ suc p = omega arith in
         first-read (p + 1) (omega (arith, process-few)) ∙ ap (firstBit (t .counts)) place
+
+    pub row-room : getD first (p + 1) 0 ≤ 8 * length marks
+    row-room = omega (arith, row-end, process-inside t p known, lent .room)
 
 -- ---- a row that is set
 module _ (t : Table) (p : ℕ) (known : p < processCount t) (r : ℕ) where

@@ -1,10 +1,11 @@
 -- The roots: the marks behind them, whether one is marked, and how they give way.
 --     root-in, root-bit, root-small                the bit of a root is in the buffer
+--     Over, over-none, over-more, over-known .. row-there    what each loop over the processes carries, and what it asks of a process
 --     Behind, behind-begins .. behind-ends         the invariant of the loop that marks the states behind the roots
 --     behind-ready, behind-reachable               these marks are ready for a marking, and of reachable states alone
---     Asking, asking-more, asking-found, asking-none    the invariant of the loop that looks for a marked root
---     Descending, descends, lands                  the invariant of the loop that looks for an unmarked state
---     Giving, giving-none, giving-more, giving-all the invariant of the loop over the roots
+--     rootMarked, Asking, asking-more, asking-found, asking-none    the invariant of the loop that looks for a marked root
+--     Descending, descends-from, descends, lands   the invariant of the loop that looks for an unmarked state
+--     Giving, giving-none, start-few, start-in, start-unset, giving-more, giving-all    the invariant of the loop over the roots
 -- Assumes nothing.
 use mathlib.Core.Bool.{Bool, true, false, false≢true}
 use mathlib.Core.List.{List}
@@ -16,18 +17,19 @@ use native.Mathlib.Nat.{le-refl}
 use native.Mathlib.Omega.{arith}
 use borrow.Author.Tests.{le-ltb, lt-ltb, ltb-true}
 use lib.Dec.{ltb}
-use lib.ListN.{getD, length, length-set, replicate, set, getD-replicate, List·getD-eq-default}
+use lib.ListN.{getD, length, length-set, replicate, set}
 use lib.Seq.{getD-set-other, getD-set-same}
 use Rattle.checkpoint_graph.proofs.GraphLaws.{leads-up, message-in}
 use Rattle.checkpoint_graph.specs.Graph.{received, state}
-use Rattle.marked_line.proofs.MarkRowLaws.{bit-in, first-few, first-read, kept-both, kept-none, lent-kept, process-few, row-below, row-end}
-use Rattle.marked_line.proofs.MarkRowLaws.{row-here, row-kept, row-other, row-room}
+use Rattle.marked_line.proofs.MarkRowLaws.{bit-in, first-few, first-read, first-there, kept-both, kept-none, lent-kept, process-few, row-below}
+use Rattle.marked_line.proofs.MarkRowLaws.{row-end, row-here, row-kept, row-other, row-room}
 use Rattle.marked_line.specs.Marking.{GaveWay, Kept, LatestUnset, Lent, OnlyBehind, Ready, Unmarked, ZeroUnmarked, markedIn}
 use Rattle.marking.proofs.ReachLaws.{reach-root}
 use Rattle.marking.specs.Procedure.{Reachable}
 use Rattle.marks.proofs.LayoutLaws.{first-more, first-small}
 use Rattle.marks.specs.Bits.{Onwards, SetFrom, bitAt, firstBit, mostBits}
 use Rattle.run_table.proofs.ListLaws.{anyBelow-found, anyBelow-more}
+use Rattle.run_table.proofs.ReadLaws.{processes-few}
 use Rattle.run_table.specs.Checks.{WellFormed}
 use Rattle.run_table.specs.Format.{decode}
 use Rattle.run_table.specs.Lists.{anyBelow}
@@ -54,25 +56,49 @@ module _ {table first roots marks : List ℕ} (lent : Lent table first roots mar
           process-few lent p known,
         )
 
--- ---- marks behind the roots
--- The states behind the roots of the processes before p are marked, and no others.
-pub record Behind (table first roots start buffer : List ℕ) (n p : ℕ) : Type 0 where
+-- ---- a loop over the processes
+-- It stands before process p of n.
+pub record Over (table first roots buffer : List ℕ) (n p : ℕ) : Type 0 where
   pub lent : Lent table first roots buffer
   pub n-is : n ≡ processCount (decode table)
   pub few : n ≤ 32
   pub within : p ≤ n
+
+pub over-none : {table first roots buffer : List ℕ} {n : ℕ} → Lent table first roots buffer → n ≡ processCount (decode table)
+    → Over table first roots buffer n 0
+over-none {table} lent n-is =
+    record { lent = lent; n-is = n-is; few = omega (arith, n-is, processes-few table (lent .accepted)); within = omega arith }
+
+module _ {table first roots buffer : List ℕ} {n p : ℕ} (w : Over table first roots buffer n p) where
+  pub over-more : p < n → {after : List ℕ} → Kept (decode table) buffer after → Over table first roots after n (p + 1)
+  over-more l k = record { lent = lent-kept (w .lent) k; n-is = w .n-is; few = w .few; within = omega arith }
+
+  pub over-known : p < n → p < processCount (decode table)
+  over-known l = omega (arith, w .n-is)
+
+  -- what reading its root and its first bit asks
+  pub root-there : p < n → p < length roots
+  root-there l = omega (arith, w .few, w .lent .for-each)
+
+  pub first-there-now : p < n → (p < length first) × (getD first p 0 ≤ mostBits)
+  first-there-now l = first-there (w .lent) p (omega (arith, w .few))
+
+  pub row-there : p < n → p + 1 < length first
+  row-there l = first-there (w .lent) (p + 1) (omega (arith, w .few)) .0
+
+-- ---- marks behind the roots
+-- The states behind the roots of the processes before p are marked, and no others.
+pub record Behind (table first roots start buffer : List ℕ) (n p : ℕ) : Type 0 where
+  pub over : Over table first roots buffer n p
   pub kept : Kept (decode table) start buffer
   pub done : (q y : ℕ) → q < p → y ≤ countOf (decode table) q → markedIn (decode table) buffer q y ≡ ltb (getD roots q 0) y
   pub left : (q y : ℕ) → p ≤ q → q < n → y ≤ countOf (decode table) q → markedIn (decode table) buffer q y ≡ false
 
-pub behind-begins : {table first roots start : List ℕ} {n : ℕ} → Lent table first roots start → n ≡ processCount (decode table) → n ≤ 32
+pub behind-begins : {table first roots start : List ℕ} {n : ℕ} → Lent table first roots start → n ≡ processCount (decode table)
     → Unmarked (decode table) start → Behind table first roots start start n 0
 unfolding Unmarked
-behind-begins lent n-is few none = record {
-  lent = lent;
-  n-is = n-is;
-  few = few;
-  within = omega arith;
+behind-begins lent n-is none = record {
+  over = over-none lent n-is;
   kept = kept-none;
   done = λ q y l. absurd (omega arith);
   left = λ q y l l′ there. none q y (omega (arith, n-is)) there;
@@ -83,25 +109,25 @@ module _ {table first roots start buffer : List ℕ} {n p : ℕ} (w : Behind tab
   t = decode table
 
   pub behind-ends : n ≤ p → OnlyBehind t roots buffer
-  behind-ends l = record { marked-just = λ q y known there. w .done q y (omega (arith, w .n-is)) there }
+  behind-ends l = record { marked-just = λ q y known there. w .done q y (omega (arith, w .over .n-is)) there }
 
   module _ (more : p < n) where
     pub behind-known : p < processCount t
-    behind-known = omega (arith, w .n-is)
+    behind-known = over-known (w .over) more
 
-    module _ {b e : ℕ} (b-is : b ≡ getD first p 0 + getD roots p 0) (e-is : e ≡ getD first (p + 1) 0 + 0) where
+    module _ {b e : ℕ} (b-is : b ≡ getD first p 0 + getD roots p 0) (e-is : e ≡ getD first (p + 1) 0) where
       r : ℕ
       r = suc (getD roots p 0)
 
       from-is : b + 1 ≡ firstBit (t .counts) p + r
       unfolding r
-      from-is = omega (arith, root-bit (w .lent) behind-known b-is)
+      from-is = omega (arith, root-bit (w .over .lent) behind-known b-is)
 
       end-is : e ≡ firstBit (t .counts) (suc p)
-      end-is = omega (arith, e-is, row-end (w .lent) p behind-known)
+      end-is = omega (arith, e-is, row-end (w .over .lent) p behind-known)
 
       pub behind-room : e ≤ 8 * length buffer
-      behind-room = omega (arith, e-is, row-room (w .lent) p behind-known)
+      behind-room = omega (arith, e-is, row-room (w .over .lent) p behind-known)
 
       -- nothing of the row is set
       pub behind-onwards : Onwards (b + 1) e buffer
@@ -117,10 +143,7 @@ module _ {table first roots start buffer : List ℕ} {n p : ℕ} (w : Behind tab
       pub behind-more : {after : List ℕ} → SetFrom (b + 1) e buffer after → Behind table first roots start after n (p + 1)
       unfolding r
       behind-more {after} raw = record {
-        lent = lent-kept (w .lent) keeps;
-        n-is = w .n-is;
-        few = w .few;
-        within = omega arith;
+        over = over-more (w .over) more keeps;
         kept = kept-both (w .kept) keeps;
         done = λ q y l there. by-place q y l there (ℕ-discrete q p);
         left = λ q y l l′ there. row-other t p behind-known r row q y (λ same. omega arith) there ∙ w .left q y (omega arith) l′ there;
@@ -172,32 +195,27 @@ abbrev pub rootMarked : Table → List ℕ → List ℕ → ℕ → Bool
 rootMarked t roots buffer p = markedIn t buffer p (getD roots p 0)
 
 pub record Asking (table first roots marks : List ℕ) (n p : ℕ) : Type 0 where
-  pub lent : Lent table first roots marks
-  pub n-is : n ≡ processCount (decode table)
-  pub few : n ≤ 32
-  pub within : p ≤ n
+  pub over : Over table first roots marks n p
   pub none : anyBelow p (rootMarked (decode table) roots marks) ≡ false
 
 module _ {table first roots marks : List ℕ} {n p : ℕ} (w : Asking table first roots marks n p) where
   pub asking-none : n ≤ p → false ≡ anyBelow (processCount (decode table)) (rootMarked (decode table) roots marks)
   asking-none l =
-      let all : p ≡ processCount (decode table) = omega (arith, w .within, w .n-is) in
+      let all : p ≡ processCount (decode table) = omega (arith, w .over .within, w .over .n-is) in
       sym (subst (λ (x : ℕ). anyBelow x (rootMarked (decode table) roots marks) ≡ false) all (w .none))
 
   module _ (more : p < n) {b : ℕ} (b-is : b ≡ getD first p 0 + getD roots p 0) where
     asked : bitAt marks b ≡ rootMarked (decode table) roots marks p
     unfolding markedIn
-    asked = ap (bitAt marks) (root-bit (w .lent) (omega (arith, w .n-is)) b-is)
+    asked = ap (bitAt marks) (root-bit (w .over .lent) (over-known (w .over) more) b-is)
 
     pub asking-found : bitAt marks b ≡ true → true ≡ anyBelow (processCount (decode table)) (rootMarked (decode table) roots marks)
-    asking-found e = sym (anyBelow-found (rootMarked (decode table) roots marks) (processCount (decode table)) p (omega (arith, w .n-is)) (sym asked ∙ e))
+    asking-found e = sym (anyBelow-found (rootMarked (decode table) roots marks) (processCount (decode table)) p
+        (over-known (w .over) more) (sym asked ∙ e))
 
     pub asking-more : bitAt marks b ≡ false → Asking table first roots marks n (p + 1)
     asking-more e = record {
-      lent = w .lent;
-      n-is = w .n-is;
-      few = w .few;
-      within = omega arith;
+      over = over-more (w .over) more kept-none;
       none = anyBelow-more (rootMarked (decode table) roots marks) p (w .none) (sym asked ∙ e);
     }
 
@@ -241,59 +259,34 @@ abbrev Latest : List ℕ → List ℕ → List ℕ → ℕ → ℕ → Type 0
 Latest table roots marks q y = LatestUnset marks (firstBit (decode table .counts) q) (getD roots q 0) y
 
 pub record Giving (table first roots marks next : List ℕ) (n p : ℕ) : Type 0 where
-  pub lent : Lent table first roots marks
+  pub over : Over table first roots marks n p
   pub zero-unmarked : ZeroUnmarked (decode table) marks
-  pub n-is : n ≡ processCount (decode table)
-  pub few : n ≤ 32
-  pub within : p ≤ n
   pub for-each : length next ≡ 32
   pub done : (q : ℕ) → q < p → Latest table roots marks q (getD next q 0)
-  pub left : (q : ℕ) → p ≤ q → getD next q 0 ≡ 0
 
 pub giving-none : {table first roots marks : List ℕ} {n : ℕ} → Lent table first roots marks → ZeroUnmarked (decode table) marks
-    → n ≡ processCount (decode table) → n ≤ 32 → Giving table first roots marks (replicate 32 0) n 0
-giving-none lent zero-unmarked n-is few = record {
-  lent = lent;
-  zero-unmarked = zero-unmarked;
-  n-is = n-is;
-  few = few;
-  within = omega arith;
-  for-each = refl;
-  done = λ q l. absurd (omega arith);
-  left = λ q l. zeros q (decLt q 32);
-}
-  where
-    none : List ℕ
-    none = replicate 32 0
-
-    zeros : (q : ℕ) → Dec (q < 32) → getD none q 0 ≡ 0
-    zeros q (yes l) = getD-replicate 32 q 0 0 l
-    zeros q (no l) =
-        let beyond : length none ≤ q = omega arith in
-        List·getD-eq-default none 0 beyond
+    → n ≡ processCount (decode table) → Giving table first roots marks (replicate 32 0) n 0
+giving-none lent zero-unmarked n-is =
+    record { over = over-none lent n-is; zero-unmarked = zero-unmarked; for-each = refl; done = λ q l. absurd (omega arith) }
 
 module _ {table first roots marks next : List ℕ} {n p : ℕ} (w : Giving table first roots marks next n p) where
   pub giving-all : n ≤ p → GaveWay (decode table) roots marks next
-  giving-all l = record {
-    for-each = w .for-each;
-    each = λ q known. w .done q (omega (arith, w .n-is));
-    none-beyond = λ q beyond. w .left q (omega (arith, w .within, w .n-is));
-  }
+  giving-all l = record { for-each = w .for-each; each = λ q known. w .done q (omega (arith, w .over .n-is)) }
 
   module _ (more : p < n) {start : ℕ} (start-is : start ≡ getD first p 0 + 0) where
     giving-known : p < processCount (decode table)
-    giving-known = omega (arith, w .n-is)
+    giving-known = over-known (w .over) more
 
     first-is : start ≡ firstBit (decode table .counts) p
-    first-is = omega (arith, start-is, first-read (w .lent) p (omega (arith, w .few)))
+    first-is = omega (arith, start-is, first-read (w .over .lent) p (omega (arith, w .over .few)))
 
     pub start-few : start ≤ mostBits
-    start-few = omega (arith, start-is, first-few (w .lent) p (omega (arith, w .few)))
+    start-few = omega (arith, start-is, first-few (w .over .lent) p (omega (arith, w .over .few)))
 
     pub start-in : (start + getD roots p 0) / 8 < length marks
     start-in =
         let same : start + getD roots p 0 ≡ getD first p 0 + getD roots p 0 = omega arith in
-        root-in (w .lent) giving-known same
+        root-in (w .over .lent) giving-known same
 
     pub start-unset : bitAt marks start ≡ false
     unfolding ZeroUnmarked markedIn
@@ -303,19 +296,15 @@ module _ {table first roots marks next : List ℕ} {n p : ℕ} (w : Giving table
 
     pub giving-more : {y : ℕ} → LatestUnset marks start (getD roots p 0) y → Giving table first roots marks (set next p y) n (p + 1)
     giving-more {y} latest = record {
-      lent = w .lent;
+      over = over-more (w .over) more kept-none;
       zero-unmarked = w .zero-unmarked;
-      n-is = w .n-is;
-      few = w .few;
-      within = omega arith;
       for-each = length-set next p y ∙ w .for-each;
       done = λ q l. by-place q l (ℕ-discrete q p);
-      left = λ q l. getD-set-other next p q y 0 (λ same. omega arith) ∙ w .left q (omega arith);
     }
       where
         here : Latest table roots marks p (getD (set next p y) p 0)
         here =
-            subst⁻¹ (Latest table roots marks p) (getD-set-same next p y 0 (omega (arith, w .for-each, w .few)))
+            subst⁻¹ (Latest table roots marks p) (getD-set-same next p y 0 (omega (arith, w .for-each, w .over .few)))
             (subst (λ (b : ℕ). LatestUnset marks b (getD roots p 0) y) first-is latest)
 
         by-place : (q : ℕ) → q < p + 1 → Dec (q ≡ p) → Latest table roots marks q (getD (set next p y) q 0)

@@ -10,7 +10,7 @@ use mathlib.Core.List.{List}
 use mathlib.Core.Logic.{inl, inr, ⊎-elim}
 use mathlib.Core.Path.{_≡_, refl, sym, ap, _∙_, subst, subst⁻¹}
 use Prim.Native.Nat.{ℕ, suc, _+_, _≤_, _<_}
-use native.Mathlib.Decide.{decLe, decLt, ℕ-discrete}
+use native.Mathlib.Decide.{decLe, decLt}
 use native.Mathlib.Omega.{arith}
 use lib.ListN.{getD, length, take}
 use lib.Seq.{getD-take, length-take-le}
@@ -21,15 +21,15 @@ use Rattle.marked_line.proofs.RootLaws.{behind-reachable, behind-ready,
 use Rattle.marked_line.proofs.MarkRowLaws.{kept-both, kept-none, lent-kept}
 use Rattle.marked_line.specs.Marking.{Closed, GaveWay, Given, Kept, Lent, OnlyBehind, Reached, Ready}
 use Rattle.marked_line.specs.Marking.{RoundMade, Running, Standing, Unmarked, ZeroUnmarked, markedIn, marksIn, stageOf}
-use Rattle.marking.proofs.RoundLaws.{zero-unmarked}
-use Rattle.marking.specs.Procedure.{After, EndsWith, LatestUnmarked, Marks, MarksReachable, NoneMarked, Reachable, Starts, root}
+use Rattle.marking.proofs.RoundLaws.{round-falls, zero-unmarked}
+use Rattle.marking.specs.Procedure.{After, EndsWith, LatestUnmarked, Marks, MarksReachable, NoneMarked, Reachable, Round, Starts, root}
 use Rattle.marks.proofs.BitLaws.{cleared-again, cleared-beyond, cleared-bit, cleared-length}
 use Rattle.marks.proofs.LayoutLaws.{state-inside}
 use Rattle.marks.specs.Bits.{bitAt, firstBit}
 use Rattle.marks.specs.Room.{cleared, marksSize}
 use Rattle.run_table.proofs.AcceptLaws.{facts}
 use Rattle.run_table.proofs.ArrayLaws.{array-at, array-front, array-length}
-use Rattle.run_table.proofs.ListLaws.{found-below, none-below, sum-lower}
+use Rattle.run_table.proofs.ListLaws.{found-below, none-below}
 use Rattle.run_table.proofs.ReadLaws.{processes-few}
 use Rattle.run_table.specs.Arrays.{arrayOf}
 use Rattle.run_table.specs.Checks.{tableRefusal}
@@ -82,15 +82,15 @@ stage-zero table ceilings rounds roots buffer accepted ceiling after p known =
 kept-cleared : (t : Table) (buffer : List ℕ) → marksSize t ≤ length buffer → Kept t buffer (cleared (marksSize t) buffer)
 kept-cleared t buffer fits = record { same-length = cleared-length (marksSize t) buffer fits; beyond = cleared-beyond (marksSize t) buffer fits }
 
+pub given-few : {table ceilings first roots start : List ℕ} → Given table ceilings first roots start → length ceilings ≤ 32
+given-few {table} g = omega (arith, g .ceiling .for-each, processes-few table (g .accepted))
+
 module _ {table ceilings first roots start : List ℕ} (g : Given table ceilings first roots start) where
   abbrev t : Table
   t = decode table
 
-  few : length ceilings ≤ 32
-  few = omega (arith, g .ceiling .for-each, processes-few table (g .accepted))
-
   at-ceiling : (p : ℕ) → getD roots p 0 ≡ getD ceilings p 0
-  at-ceiling p = ap (λ (l : List ℕ). getD l p 0) (g .roots-are) ∙ array-at ceilings few p
+  at-ceiling p = ap (λ (l : List ℕ). getD l p 0) (g .roots-are) ∙ array-at ceilings (given-few g) p
 
   -- the marks are cleared
   module _ {size : ℕ} {blank : List ℕ} (size-is : size ≡ marksSize t) (blank-is : blank ≡ cleared size start) where
@@ -98,7 +98,7 @@ module _ {table ceilings first roots start : List ℕ} (g : Given table ceilings
     cleared-is = blank-is ∙ ap (λ (n : ℕ). cleared n start) size-is
 
     kept-blank : Kept t start blank
-    kept-blank = subst⁻¹ (Kept t start) cleared-is (kept-cleared t start (g .fits))
+    kept-blank = subst⁻¹ (Kept t start) cleared-is (kept-cleared t start (g .room))
 
     pub starts-lent : Lent table first roots blank
     starts-lent = record {
@@ -106,11 +106,11 @@ module _ {table ceilings first roots start : List ℕ} (g : Given table ceilings
       first-are = g .first-are;
       for-each = ap length (g .roots-are) ∙ array-length ceilings;
       roots-there = λ p known. omega (arith, at-ceiling p, g .ceiling .within p);
-      room = omega (arith, g .fits, kept-blank .same-length);
+      room = omega (arith, g .room, kept-blank .same-length);
     }
 
     pub starts-unmarked : Unmarked t blank
-    starts-unmarked = subst⁻¹ (Unmarked t) cleared-is (cleared-unmarked t start (g .fits))
+    starts-unmarked = subst⁻¹ (Unmarked t) cleared-is (cleared-unmarked t start (g .room))
 
     -- and then the states behind the ceilings
     module _ {behind : List ℕ} (kept : Kept t blank behind) (only : OnlyBehind t roots behind) where
@@ -149,22 +149,18 @@ module _ {table ceilings first roots start : List ℕ} (g : Given table ceilings
           }
 
           starting : Starts t ceilings (stageOf t roots marked)
-          starting = record { at-ceilings = array-front ceilings roots (processCount t) (g .roots-are) (sym (g .ceiling .for-each)) few; marking = from-none }
+          starting = record {
+            at-ceilings = array-front ceilings roots (processCount t) (g .roots-are) (sym (g .ceiling .for-each))
+                (given-few g);
+            marking = from-none;
+          }
 
 -- ---- roots that gave way
 module _ {table first roots buffer next : List ℕ} (w : Standing table first roots buffer) (gave : GaveWay (decode table) roots buffer next) where
   abbrev t′ : Table
   t′ = decode table
 
-  -- a marked root gives way to a lower one, and an unmarked one stays
-  gives-lower : (p : ℕ) → p < processCount t′ → rootMarked t′ roots buffer p ≡ true → getD next p 0 < getD roots p 0
-  unfolding markedIn
-  gives-lower p known e = go (ℕ-discrete (getD next p 0) (getD roots p 0))
-    where
-      go : Dec (getD next p 0 ≡ getD roots p 0) → getD next p 0 < getD roots p 0
-      go (yes same) = absurd (false≢true (sym (gave .each p known .not-set) ∙ ap (λ (y : ℕ). bitAt buffer (firstBit (t′ .counts) p + y)) same ∙ e))
-      go (no other) = omega (arith, gave .each p known .no-later)
-
+  -- an unmarked root stays
   stays-there : (p : ℕ) → p < processCount t′ → rootMarked t′ roots buffer p ≡ false → getD next p 0 ≡ getD roots p 0
   unfolding markedIn
   stays-there p known e = go (decLt (getD next p 0) (getD roots p 0))
@@ -238,33 +234,28 @@ module _ {table ceilings first roots start buffer : List ℕ} (w : Running table
     few-processes : processCount t″ ≤ 32
     few-processes = processes-few table (lent .accepted)
 
-    pub running-falls : sum next < sum roots
-    running-falls =
-        sum-lower next roots (made .gave .for-each ∙ sym (lent .for-each)) (λ p _. by-place p (decLt p (processCount t″))) (found .0)
-        (omega (arith, lent .for-each, found .1, few-processes)) (gives-lower (w .stands) (made .gave) (found .0) (found .1) (found .2))
-      where
-        by-place : (p : ℕ) → Dec (p < processCount t″) → getD next p 0 ≤ getD roots p 0
-        by-place p (yes known) = made .gave .each p known .no-later
-        by-place p (no beyond) = omega (arith, made .gave .none-beyond p (omega arith))
-
     first-length : (l : List ℕ) → length l ≡ 32 → length (take (processCount t″) l) ≡ processCount t″
     first-length l e = length-take-le (processCount t″) l (omega (arith, few-processes))
 
+    round : Round t″ (stageOf t″ roots buffer) (stageOf t″ next after)
+    unfolding stageOf
+    round = record {
+      some-marked = (found .0, found .1, root-mark (found .0) (found .1) ∙ found .2);
+      for-each = first-length next (made .gave .for-each) ∙ sym (first-length roots (lent .for-each));
+      gives-way = λ p known e.
+          subst⁻¹ (LatestUnmarked t″ (marksIn t″ buffer) p) (root-of t″ next p known) (latest (w .stands) (made .gave) p known);
+      stays = λ p known e.
+          root-of t″ next p known ∙ stays-there (w .stands) (made .gave) p known (sym (root-mark p known) ∙ e) ∙ sym (root-of t″ roots p known);
+      marking = marking-first t″ next (made .reached .marking);
+    }
+
     next-after : After t″ ceilings (suc (w .rounds)) (stageOf t″ next after)
-    unfolding After stageOf
-    next-after = (
-      stageOf t″ roots buffer,
-      w .after,
-      record {
-        some-marked = (found .0, found .1, root-mark (found .0) (found .1) ∙ found .2);
-        for-each = first-length next (made .gave .for-each) ∙ sym (first-length roots (lent .for-each));
-        gives-way = λ p known e.
-            subst⁻¹ (LatestUnmarked t″ (marksIn t″ buffer) p) (root-of t″ next p known) (latest (w .stands) (made .gave) p known);
-        stays = λ p known e.
-            root-of t″ next p known ∙ stays-there (w .stands) (made .gave) p known (sym (root-mark p known) ∙ e) ∙ sym (root-of t″ roots p known);
-        marking = marking-first t″ next (made .reached .marking);
-      },
-    )
+    unfolding After
+    next-after = (stageOf t″ roots buffer, w .after, round)
+
+    pub running-falls : sum (take (processCount t″) next) < sum (take (processCount t″) roots)
+    unfolding stageOf
+    running-falls = round-falls t″ ceilings (w .ceiling) (w .rounds) (stageOf t″ roots buffer) (stageOf t″ next after) (w .after) round
 
     pub running-more : Running table ceilings first next start after
     running-more = record {
@@ -301,7 +292,4 @@ module _ {t : Table} {start buffer : List ℕ} (k : Kept t start buffer) (fits :
 -- the roots that were read off the ceilings
 pub given-roots : {table ceilings first roots start : List ℕ} → Given table ceilings first (arrayOf ceilings) start → roots ≡ arrayOf ceilings
     → Given table ceilings first roots start
-given-roots g e = record { accepted = g .accepted; ceiling = g .ceiling; first-are = g .first-are; roots-are = e; fits = g .fits }
-
-pub given-few : {table ceilings first roots start : List ℕ} → Given table ceilings first roots start → length ceilings ≤ 32
-given-few {table} g = omega (arith, g .ceiling .for-each, processes-few table (g .accepted))
+given-roots g e = record { accepted = g .accepted; ceiling = g .ceiling; first-are = g .first-are; roots-are = e; room = g .room }

@@ -66,7 +66,7 @@ pub record Ready (t : Table) (roots buffer : List ℕ) : Type 0 where
       → (markedIn t buffer (messageOf t k .receiver) (messageOf t k .received) ≡ true)
       ⊎ Reachable t roots (state (messageOf t k .receiver) (messageOf t k .received))
 
--- Nothing but the states behind the roots is marked.
+-- The states behind the roots are marked, and no others.
 pub record OnlyBehind (t : Table) (roots buffer : List ℕ) : Type 0 where
   pub marked-just : (p y : ℕ) → p < processCount t → y ≤ countOf t p
       → markedIn t buffer p y ≡ ltb (getD roots p 0) y
@@ -125,7 +125,6 @@ pub record GaveWay (t : Table) (roots buffer next : List ℕ) : Type 0 where
   pub for-each : length next ≡ 32
   pub each : (p : ℕ) → p < processCount t
       → LatestUnset buffer (firstBit (t .counts) p) (getD roots p 0) (getD next p 0)
-  pub none-beyond : (p : ℕ) → processCount t ≤ p → getD next p 0 ≡ 0
 
 -- ---- the procedure
 -- What it is given: an accepted table and its first bits, ceilings as the first roots, and a buffer with room.
@@ -134,9 +133,10 @@ pub record Given (table ceilings first roots buffer : List ℕ) : Type 0 where
   pub ceiling : Ceiling (decode table) ceilings
   pub first-are : first ≡ tabulate 33 (firstBit (decode table .counts))
   pub roots-are : roots ≡ arrayOf ceilings
-  pub fits : marksSize (decode table) ≤ length buffer
+  pub room : marksSize (decode table) ≤ length buffer
 
--- A stage that a round may follow: all that is reachable from the roots is marked, and no state 0 is.
+-- What a round may begin with: the states behind the roots are marked, what is marked is closed under edges, and no
+-- state 0 is marked.
 pub record Standing (table first roots buffer : List ℕ) : Type 0 where
   pub lent : Lent table first roots buffer
   pub ready : Ready (decode table) roots buffer

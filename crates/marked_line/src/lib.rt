@@ -7,6 +7,7 @@ use marks::first_bits;
 use marks::is_marked;
 use marks::mark_from;
 use marks::marks_size;
+use marks::row_end;
 use marks::state_bit;
 use run_table::numbers::u16_at;
 use run_table::parts;
@@ -39,14 +40,14 @@ fn mark_behind(table: &[u8], first: &[usize], roots: &[u16], marks: &mut [u8])
     let mut p = 0;
     while p < n {
         let root = state_bit(first, p, roots[p]);
-        let end = state_bit(first, p + 1, 0);
+        let end = row_end(first, p);
         mark_from(marks, root + 1, end);
         p += 1;
     }
 }
 
-// Whether state y of process p is at its root, or marked.
-fn is_reached(first: &[usize], roots: &[u16], marks: &[u8], p: usize, y: u16) -> bool
+// Whether state y of process p is its root, or is marked.
+fn is_root_or_marked(first: &[usize], roots: &[u16], marks: &[u8], p: usize, y: u16) -> bool
     requires { ⌜ BitThere (now first) (now roots) (now marks) p y ⌝ }
     ensures { λ r. ⌜ r ≡ (eqb y (getD (now (roots .entry)) p 0)
         || bitAt (now (marks .entry)) (getD (now (first .entry)) p 0 + y)) ⌝ }
@@ -83,10 +84,10 @@ fn pass(table: &[u8], first: &[usize], roots: &[u16], marks: &mut [u8]) -> bool
         }
         let sender = u16_at(sends, 4 * k) as usize;
         let sent = u16_at(sends, 4 * k + 2);
-        if !is_reached(first, roots, marks, sender, sent) {
+        if !is_root_or_marked(first, roots, marks, sender, sent) {
             continue;
         }
-        let end = state_bit(first, receiver + 1, 0);
+        let end = row_end(first, receiver);
         mark_from(marks, receipt, end);
         marked = true;
     }
@@ -139,7 +140,7 @@ fn latest_unmarked(marks: &[u8], start: usize, root: u16) -> u16
     }
 }
 
-// The roots, each given way to the latest unmarked state at or below it.
+// The roots after each gave way to the latest unmarked state at or below it.
 fn give_way(table: &[u8], first: &[usize], roots: &[u16], marks: &[u8]) -> [u16; 32]
     requires { ⌜ Lent (now table) (now first) (now roots) (now marks) ⌝ }
     requires { ⌜ ZeroUnmarked (decode (now table)) (now marks) ⌝ }
@@ -204,9 +205,10 @@ fn marked_line(table: &[u8], ceilings: &[u16], marks: &mut [u8]) -> [u16; 32]
     ensures { λ _. ⌜ now (marks .exit) ≡ cleared (marksSize (decode (now (table .entry)))) (now
         (marks .entry)) ⌝ }
 {
+    let size = marks_size(table);
     let first = first_bits(table);
     let roots = last_roots(table, ceilings, &first, marks);
-    clear(marks, marks_size(table));
+    clear(marks, size);
     roots
 }
 

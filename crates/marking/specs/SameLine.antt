@@ -12,7 +12,8 @@ use Rattle.run_table.specs.Table.{Table}
 
 -- It can start; whatever it has after some rounds, no root is marked or another round can follow; and there are no more
 -- rounds than the sum of the ceilings. So it always ends. However it went, its last roots are the latest consistent
--- line under the ceilings, which is the one that is computed by lowering, number by number.
+-- line under the ceilings, which is the one that is computed by lowering, number by number. This is claimed of every
+-- well formed table and every ceiling of it.
 pub record SameLine (t : Table) (ceilings : List ℕ) : Type 0 where
   pub starts : (s : Stage) × Starts t ceilings s
   pub goes-on : (n : ℕ) (s : Stage) → After t ceilings n s → NoneMarked t s ⊎ ((s′ : Stage) × Round t s s′)

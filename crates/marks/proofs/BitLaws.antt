@@ -3,7 +3,7 @@
 --     member-or                        the bits of a number that is or-ed with another
 --     with-here, with-elsewhere, with-length, with-beyond    a buffer with a bit set
 --     onwards-all                      behind a set bit of a row all are set
---     Rowing, row-none, row-more, row-ends, row-stops    the invariant of the loop that sets a row of bits
+--     Rowing, row-none, row-inside, row-more, row-ends, row-stops    the invariant of the loop that sets a row of bits
 --     cleared-length .. cleared-bit, filled-cleared, cleared-again    a buffer whose first bytes are cleared
 --     unset-fewer, unset-falls         how many bits are not set; none cleared, and one set
 -- Assumes nothing.

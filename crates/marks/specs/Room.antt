@@ -10,6 +10,6 @@ use Rattle.run_table.specs.Table.{Table, processCount}
 unfoldable pub marksSize : Table → ℕ
 marksSize t = (sum (t .counts) + processCount t + 7) / 8
 
--- A buffer whose first bytes are 0; those beyond keep their values.
+-- A buffer, of so many bytes at least, whose first bytes are 0; those beyond keep their values.
 unfoldable pub cleared : ℕ → List ℕ → List ℕ
 cleared size buffer = replicate size 0 ++ drop size buffer

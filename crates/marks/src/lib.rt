@@ -60,13 +60,21 @@ pub fn first_bits(table: &[u8]) -> [usize; 33]
     first
 }
 
-// The bit of state y of process p, of the first bits.
+// The bit of state y of process p, by the array of first bits.
 pub fn state_bit(first: &[usize], p: usize, y: u16) -> usize
     requires { ⌜ (p < length (now first)) × (getD (now first) p 0 ≤ mostBits) ⌝ }
     ensures { λ r. ⌜ r ≡ getD (now (first .entry)) p 0 + y ⌝ }
 {
     let start = first[p];
     start + (y as usize)
+}
+
+// The end of the bits of process p, by the array of first bits.
+pub fn row_end(first: &[usize], p: usize) -> usize
+    requires { ⌜ p + 1 < length (now first) ⌝ }
+    ensures { λ r. ⌜ r ≡ getD (now (first .entry)) (p + 1) 0 ⌝ }
+{
+    first[p + 1]
 }
 
 // The bytes that the marks of an accepted table take.

@@ -5,7 +5,7 @@ use denote.Ref.{now}
 use lib.ListN.{length}
 use Rattle.consistency.specs.Ceilings.{Ceiling}
 use Rattle.keeper.proofs.LineAnswers.{ceilings-accepted, line-room}
-use Rattle.keeper.proofs.MarkedAnswers.{marked-answered, marked-refused, marked-short}
+use Rattle.keeper.proofs.MarkingAnswers.{marked-answered, marked-refused, marked-short}
 use Rattle.refusals.proofs.RefusalLaws.{QuietCall, marks-long, quiet-ceilings, quiet-marking}
 use Rattle.refusals.specs.CallChecks.{markedLineChecks}
 use Rattle.run_table.specs.Format.{decode}

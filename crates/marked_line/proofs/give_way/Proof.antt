@@ -2,9 +2,8 @@
 -- Assumes nothing.
 use native.Mathlib.Omega.{arith}
 use Prim.Native.Nat.{_-_}
-use Rattle.marked_line.proofs.RootLaws.{Giving, giving-all, giving-more, giving-none, start-few, start-in, start-unset}
-use Rattle.marked_line.proofs.MarkRowLaws.{first-there}
-use Rattle.run_table.proofs.ReadLaws.{processes-few}
+use Rattle.marked_line.proofs.RootLaws.{Giving, first-there-now, giving-all, giving-more, giving-none, root-there, start-few}
+use Rattle.marked_line.proofs.RootLaws.{start-in, start-unset}
 use Rattle.marked_line.proofs.give_way.Statement.{statement}
 use Rattle.marked_line.proofs.give_way.Tie as tie
 
@@ -31,12 +30,10 @@ give-way-spec =
     (λ c κs. c .before .before .before .before .pre .0 .accepted)
     (λ c.
     let asked = entry c .pre in
-    giving-none (asked .0) (asked .1) (c .process-count .ensures) (omega (arith, c .process-count .ensures, processes-few _ (asked .0 .accepted))))
-    (λ c κs. first-there (c .before .loop .inv .lent) _ (omega (arith, c .before .loop .inv .few)))
+    giving-none (asked .0) (asked .1) (c .process-count .ensures))
+    (λ c κs. first-there-now (c .before .loop .inv .over) (c .loop-test .taken))
     (λ c. omega arith)
-    (λ c.
-    let inv = turn (c .before) .before .loop .inv in
-    omega (arith, inv .few, inv .lent .for-each))
+    (λ c. root-there (turn (c .before) .before .loop .inv .over) (turn (c .before) .loop-test .taken))
     (λ c κs.
     let here = turn (c .before) in
     let inv = here .before .loop .inv in (
@@ -44,7 +41,7 @@ give-way-spec =
       start-unset inv (here .loop-test .taken) (c .before .state-bit .ensures),
     ))
     (λ c. omega arith)
-    (λ c. omega (arith, turn (c .before .before) .before .loop .inv .few))
+    (λ c. omega (arith, turn (c .before .before) .before .loop .inv .over .few))
     (λ c. omega arith)
     (λ c. omega arith)
     (λ c.

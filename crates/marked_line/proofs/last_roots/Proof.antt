@@ -3,11 +3,13 @@
 use borrow.Author.Needs.{needs}
 use mathlib.Core.Path.{sym, _∙_}
 use denote.Ref.{now}
+use lib.ListN.{take}
 use Rattle.marked_line.proofs.MarkRowLaws.{kept-both}
 use Rattle.marked_line.proofs.StageLaws.{given-few, given-roots, running-ends, running-falls, running-more, running-since}
 use Rattle.marked_line.specs.Marking.{Kept, Running}
 use Rattle.run_table.specs.Format.{decode}
 use Rattle.run_table.specs.Lists.{sum}
+use Rattle.run_table.specs.Table.{processCount}
 use Rattle.marked_line.proofs.last_roots.Statement.{statement}
 use Rattle.marked_line.proofs.last_roots.Tie as tie
 
@@ -15,7 +17,7 @@ abbrev Inv-loop : tie.InvT-loop
 Inv-loop table ceilings first marks₀ roots₀ marks roots = Running table ceilings first roots marks₀ marks
 
 abbrev μ-loop : tie.MeasureT-loop
-μ-loop table ceilings first marks₀ roots₀ marks roots = sum roots
+μ-loop table ceilings first marks₀ roots₀ marks roots = sum (take (processCount (decode table)) roots)
 
 -- ---- the places: the entry, from where the ceilings were read; a round, from where it was asked whether a root is marked
 abbrev entry : tie.After-ceiling-array Inv-loop μ-loop → tie.Start Inv-loop μ-loop

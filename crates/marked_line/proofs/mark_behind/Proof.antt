@@ -2,9 +2,8 @@
 -- Assumes nothing.
 use native.Mathlib.Omega.{arith}
 use Prim.Native.Nat.{_-_}
-use Rattle.marked_line.proofs.RootLaws.{Behind, behind-begins, behind-ends, behind-known, behind-more, behind-onwards, behind-room, root-small}
-use Rattle.marked_line.proofs.MarkRowLaws.{first-there}
-use Rattle.run_table.proofs.ReadLaws.{processes-few}
+use Rattle.marked_line.proofs.RootLaws.{Behind, behind-begins, behind-ends, behind-known, behind-more, behind-onwards, behind-room, first-there-now}
+use Rattle.marked_line.proofs.RootLaws.{root-small, root-there, row-there}
 use Rattle.marked_line.proofs.mark_behind.Statement.{statement}
 use Rattle.marked_line.proofs.mark_behind.Tie as tie
 
@@ -18,7 +17,7 @@ abbrev μ-loop : tie.MeasureT-loop
 abbrev entry : tie.After-process-count Inv-loop μ-loop → tie.Start Inv-loop μ-loop
 entry c = c .before .before .before .before .before
 
-abbrev turn : tie.After-state-bit2 Inv-loop μ-loop → tie.In-loop Inv-loop μ-loop
+abbrev turn : tie.After-row-end Inv-loop μ-loop → tie.In-loop Inv-loop μ-loop
 turn c = c .before .before .before
 
 -- ---- the needs, in the code's course
@@ -31,28 +30,21 @@ mark-behind-spec =
     (λ c κs. c .before .before .before .before .pre .0 .accepted)
     (λ c.
     let asked = entry c .pre in
-    behind-begins (asked .0) (c .process-count .ensures) (omega (arith, c .process-count .ensures, processes-few _ (asked .0 .accepted))) (asked .1))
+    behind-begins (asked .0) (c .process-count .ensures) (asked .1))
     -- the row of a process
     (λ c. omega arith)
-    (λ c.
-    let inv = c .before .before .loop .inv in
-    omega (arith, inv .few, inv .lent .for-each))
-    (λ c κs.
-    let inv = c .before .before .loop .inv in
-    first-there (inv .lent) _ (omega (arith, inv .few)))
-    (λ c. omega arith)
-    (λ c κs.
-    let inv = c .before .before .before .loop .inv in
-    first-there (inv .lent) _ (omega (arith, inv .few)))
+    (λ c. root-there (c .before .before .loop .inv .over) (c .before .loop-test .taken))
+    (λ c κs. first-there-now (c .before .before .loop .inv .over) (c .before .loop-test .taken))
+    (λ c κs. row-there (c .before .before .before .loop .inv .over) (c .before .before .loop-test .taken))
     (λ c.
     let here = turn (c .before) in
     let inv = here .before .loop .inv in
-    omega (arith, root-small (inv .lent) (behind-known inv (here .loop-test .taken)) (c .before .before .state-bit .ensures)))
+    omega (arith, root-small (inv .over .lent) (behind-known inv (here .loop-test .taken)) (c .before .before .state-bit .ensures)))
     (λ c κs.
     let here = turn (c .before) in
     let inv = here .before .loop .inv in (
-      behind-room inv (here .loop-test .taken) (c .before .before .state-bit .ensures) (c .before .state-bit2 .ensures),
-      behind-onwards inv (here .loop-test .taken) (c .before .before .state-bit .ensures) (c .before .state-bit2 .ensures),
+      behind-room inv (here .loop-test .taken) (c .before .before .state-bit .ensures) (c .before .row-end .ensures),
+      behind-onwards inv (here .loop-test .taken) (c .before .before .state-bit .ensures) (c .before .row-end .ensures),
     ))
     (λ c. omega arith)
     (λ c. omega arith)
@@ -60,7 +52,7 @@ mark-behind-spec =
     let marked = c .before .before in
     let found = marked .before .before in
     let here = turn found in
-    behind-more (here .before .loop .inv) (here .loop-test .taken) (found .before .state-bit .ensures) (found .state-bit2 .ensures)
+    behind-more (here .before .loop .inv) (here .loop-test .taken) (found .before .state-bit .ensures) (found .row-end .ensures)
     (marked .mark-from .ensures))
     -- the end
     (λ c. c .before .loop .inv .kept .same-length)

@@ -6,9 +6,10 @@ use Rattle.marked_line.proofs.StageLaws.{end-cleared, end-fits, end-len
 use Rattle.marked_line.proofs.marked_line.Statement.{statement}
 use Rattle.marked_line.proofs.marked_line.Tie as tie
 
--- ---- the places: the entry, from where the first bits were read; that, from where the procedure had run
+-- ---- the places: the entry, from where the first bits were read; that, from where the procedure had run, and that, from where the marks
+-- were lent again
 abbrev entry : tie.After-first-bits → tie.Start
-entry c = c .before .before .before .before
+entry c = c .before .before .before .before .before
 
 abbrev first : tie.After-last-roots → tie.After-first-bits
 first c = c .before .before .before
@@ -22,6 +23,7 @@ marked-line-spec =
     tie.close
     (tie.spec
     (λ c κs. c .before .before .before .pre .0)
+    (λ c κs. c .before .before .before .before .pre .0)
     (λ c. search needs)
     (λ c κs.
     let read = c .before .before in
@@ -30,19 +32,16 @@ marked-line-spec =
       ceiling = entry read .pre .1 .0;
       first-are = read .first-bits .ensures;
       roots-are = refl;
-      fits = entry read .pre .1 .1;
+      room = entry read .pre .1 .1;
     })
-    (λ c κs. entry (first (ran c)) .pre .0)
     (λ c κs.
-    let before = ran (c .before) in
-    end-fits (before .last-roots .ensures .1) (entry (first before) .pre .1 .1) (c .marks-size .ensures))
+    let line = ran c in
+    end-fits (line .last-roots .ensures .1) (entry (first line) .pre .1 .1) (first line .before .marks-size .ensures))
     (λ c.
-    let sized = c .before .before .before in
-    let before = ran (sized .before) in
-    end-length (before .last-roots .ensures .1) (entry (first before) .pre .1 .1) (sized .marks-size .ensures) (c .before .before .clear .ensures))
+    let line = ran (c .before .before .before) in
+    end-length (line .last-roots .ensures .1) (entry (first line) .pre .1 .1) (first line .before .marks-size .ensures) (c .before .before .clear .ensures))
     (λ c.
-    let sized = c .before .before .before in
-    let before = ran (sized .before) in (
-      before .last-roots .ensures .0,
-      end-cleared (before .last-roots .ensures .1) (entry (first before) .pre .1 .1) (sized .marks-size .ensures) (c .before .before .clear .ensures),
+    let line = ran (c .before .before .before) in (
+      line .last-roots .ensures .0,
+      end-cleared (line .last-roots .ensures .1) (entry (first line) .pre .1 .1) (first line .before .marks-size .ensures) (c .before .before .clear .ensures),
     )))

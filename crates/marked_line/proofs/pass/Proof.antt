@@ -30,7 +30,7 @@ turn c = c .before .before .before
 abbrev receipt : tie.After-u16-at4 Inv-loop μ-loop → tie.After-state-bit Inv-loop μ-loop
 receipt c = c .before .before .before .before .before
 
-abbrev send : tie.After-is-reached Inv-loop μ-loop → tie.After-u16-at4 Inv-loop μ-loop
+abbrev send : tie.After-is-root-or-marked Inv-loop μ-loop → tie.After-u16-at4 Inv-loop μ-loop
 send c = c .before .before
 
 -- ---- what is known there: the pass is at the receipt of its next message, and at its send
@@ -105,23 +105,23 @@ pass-spec =
     (λ c κs. omega arith)
     (λ c κs. send-there (at-send (c .before)))
     (λ c. omega arith)
-    (λ c. skips-unreached (at-send (send (c .before))) (sym (c .before .is-reached .ensures) ∙ not-true _ (c .if3 .taken)))
+    (λ c. skips-unreached (at-send (send (c .before))) (sym (c .before .is-root-or-marked .ensures) ∙ not-true _ (c .if3 .taken)))
     -- the row
-    (λ c. omega (arith, receiver-few (at-send (send (c .before)) .receipt)))
     (λ c κs.
     let at = at-send (send (c .before)) .receipt in
-    first-there (at .passing .lent) _ (omega (arith, receiver-few at)))
+    first-there (at .passing .lent) _ (omega (arith, receiver-few at)) .0)
     (λ c κs.
     let judged = c .before .before in
     let at = at-send (send (judged .before)) in
-    let from-there = sym (judged .before .is-reached .ensures) ∙ not-false _ (judged .if3 .left) in
-    (end-in at from-there (c .before .state-bit2 .ensures), row-ready at from-there (c .before .state-bit2 .ensures)))
+    let from-there = sym (judged .before .is-root-or-marked .ensures) ∙ not-false _ (judged .if3 .left) in
+    (end-in at from-there (c .before .row-end .ensures), row-ready at from-there (c .before .row-end .ensures)))
     (λ c. omega arith)
     (λ c.
     let marked = c .before .before in
     let found = marked .before .before in
     let judged = found .before in
-    pass-marks (at-send (send (judged .before))) (sym (judged .before .is-reached .ensures) ∙ not-false _ (judged .if3 .left)) (found .state-bit2 .ensures)
+    pass-marks (at-send (send (judged .before))) (sym (judged .before .is-root-or-marked .ensures)
+    ∙ not-false _ (judged .if3 .left)) (found .row-end .ensures)
     (marked .mark-from .ensures))
     -- the end
     (λ c. c .before .loop .inv .grown .kept .same-length)

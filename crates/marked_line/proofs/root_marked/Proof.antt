@@ -3,9 +3,8 @@
 use native.Mathlib.Omega.{arith}
 use mathlib.Core.Path.{refl, sym, _∙_}
 use Prim.Native.Nat.{_-_}
-use Rattle.marked_line.proofs.RootLaws.{Asking, asking-found, asking-more, asking-none, root-in}
-use Rattle.marked_line.proofs.MarkRowLaws.{first-there}
-use Rattle.run_table.proofs.ReadLaws.{processes-few}
+use Rattle.marked_line.proofs.RootLaws.{Asking, asking-found, asking-more, asking-none, first-there-now, over-known, over-none}
+use Rattle.marked_line.proofs.RootLaws.{root-in, root-there}
 use Rattle.run_table.specs.Lists.{anyBelow}
 use Rattle.marked_line.proofs.root_marked.Statement.{statement}
 use Rattle.marked_line.proofs.root_marked.Tie as tie
@@ -32,26 +31,13 @@ root-marked-spec =
     Inv-loop
     μ-loop
     (λ c κs. c .before .before .before .before .pre .accepted)
-    (λ c.
-    let lent = entry c .pre in
-    record {
-      lent = lent;
-      n-is = c .process-count .ensures;
-      few = omega (arith, c .process-count .ensures, processes-few _ (lent .accepted));
-      within = omega arith;
-      none = refl;
-    })
+    (λ c. record { over = over-none (entry c .pre) (c .process-count .ensures); none = refl })
     (λ c. omega arith)
-    (λ c.
-    let inv = c .before .before .loop .inv in
-    omega (arith, inv .few, inv .lent .for-each))
+    (λ c. root-there (c .before .before .loop .inv .over) (c .before .loop-test .taken))
+    (λ c κs. first-there-now (c .before .before .loop .inv .over) (c .before .loop-test .taken))
     (λ c κs.
-    let inv = c .before .before .loop .inv in
-    first-there (inv .lent) _ (omega (arith, inv .few)))
-    (λ c κs.
-    let here = turn c in
-    let inv = here .before .loop .inv in
-    root-in (inv .lent) (omega (arith, inv .n-is)) (c .state-bit .ensures))
+    let over = turn c .before .loop .inv .over in
+    root-in (over .lent) (over-known over (turn c .loop-test .taken)) (c .state-bit .ensures))
     (λ c.
     let here = c .before .before in
     asking-found (turn here .before .loop .inv) (turn here .loop-test .taken) (here .state-bit .ensures) (sym (c .before .is-marked .ensures)

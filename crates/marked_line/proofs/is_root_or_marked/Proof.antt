@@ -1,18 +1,18 @@
--- `is_reached` meets its contract: the state is at the root, or its bit decides.
+-- `is_root_or_marked` meets its contract: the state is the root, or its bit decides.
 -- Assumes nothing.
 use borrow.Author.Needs.{needs}
 use native.Mathlib.Omega.{arith}
 use Rattle.marked_line.proofs.MarkPassLaws.{at-root, by-bit}
-use Rattle.marked_line.proofs.is_reached.Statement.{statement}
-use Rattle.marked_line.proofs.is_reached.Tie as tie
+use Rattle.marked_line.proofs.is_root_or_marked.Statement.{statement}
+use Rattle.marked_line.proofs.is_root_or_marked.Tie as tie
 
 -- ---- the places: the entry, from where the first bit was looked up
 abbrev entry : tie.After-state-bit → tie.Start
 entry c = c .before .before .before .before .before .before
 
 -- ---- the needs, in the code's course
-pub is-reached-spec : {M : Type 1} → statement M
-is-reached-spec =
+pub is-root-or-marked-spec : {M : Type 1} → statement M
+is-root-or-marked-spec =
     tie.close
     (tie.spec
     (λ c. omega arith)

@@ -1,5 +1,5 @@
 -- The answers of the line by marking.
---     Marked                 all that the call promises
+--     Promised               all that the call promises
 --     marked-refused, marked-short, marked-answered    where a check before 16 catches, where 16 does, and where none does
 --     marked-under           where the mark buffer is long enough, the answer is that of the line under ceilings, byte for byte, and refused alike
 -- Assumes nothing.
@@ -31,8 +31,8 @@ use Rattle.run_table.specs.Numbers.{putAt, u16s}
 use Rattle.run_table.specs.Table.{processCount}
 
 -- All that the call promises: what it yields, the mark buffer afterwards, the same by the line under ceilings, and that this is the latest one.
-abbrev pub Marked : List ℕ → List ℕ → ℕ → ℕ → List ℕ → List ℕ → List ℕ → List ℕ → ℕ → ℕ → Type 0
-Marked table ceilings room number marks marks′ buffer buffer′ written written′ =
+abbrev pub Promised : List ℕ → List ℕ → ℕ → ℕ → List ℕ → List ℕ → List ℕ → List ℕ → ℕ → ℕ → Type 0
+Promised table ceilings room number marks marks′ buffer buffer′ written written′ =
     YieldsByMarking table ceilings (length marks) room number buffer buffer′ written written′
     × ((marks′ ≡ marksAfter number table marks)
     × (Yields (markedLineAnswer table ceilings (length marks) room) number buffer buffer′ written written′
@@ -46,7 +46,7 @@ unchanged (suc n) table marks nonzero = refl
 
 pub marked-refused : (table ceilings : List ℕ) (room : ℕ) (marks : List ℕ) {r : ℕ} {buffer : List ℕ} {written : ℕ}
     → r ≡ firstCaught (markedLineChecks table ceilings (length marks)) → (r ≡ 0 → ⊥)
-    → Marked table ceilings room r marks marks buffer buffer written written
+    → Promised table ceilings room r marks marks buffer buffer written written
 unfolding markedLineAnswer
 marked-refused table ceilings room marks e nonzero = (
   record { roots = []; by-marking = λ none. absurd (nonzero (e ∙ none)); yields = refused _ _ room e nonzero },
@@ -64,7 +64,7 @@ module _ {table ceilings : List ℕ} (marks : List ℕ) (q : QuietCall table (ma
   root-count ends = ap length (agrees .same _ ends) ∙ under-length (decode table) ceilings c
 
   pub marked-short : {room : ℕ} {buffer : List ℕ} {written : ℕ} → room < size
-      → Marked table ceilings room 16 marks marks buffer buffer written written
+      → Promised table ceilings room 16 marks marks buffer buffer written written
   unfolding markedLineAnswer
   marked-short short =
       let ends = agrees .ends in (
@@ -74,7 +74,7 @@ module _ {table ceilings : List ℕ} (marks : List ℕ) (q : QuietCall table (ma
 
   pub marked-answered : {room : ℕ} {marks′ buffer buffer′ : List ℕ} {written : ℕ} → size ≤ room
       → marks′ ≡ cleared (marksSize (decode table)) marks → PutByMarking (decode table) ceilings buffer buffer′
-      → Marked table ceilings room 0 marks marks′ buffer buffer′ written size
+      → Promised table ceilings room 0 marks marks′ buffer buffer′ written size
   unfolding markedLineAnswer marksAfter
   marked-answered {buffer = buffer} enough clear put = (
     record {
