@@ -2,6 +2,7 @@
 -- Assumes nothing.
 use borrow.Author.Needs.{needs}
 use mathlib.Core.Path.{refl}
+use native.Mathlib.Omega.{arith}
 use Rattle.marked_line.proofs.StageLaws.{end-cleared, end-fits, end-length}
 use Rattle.marked_line.proofs.marked_line.Statement.{statement}
 use Rattle.marked_line.proofs.marked_line.Tie as tie
@@ -36,7 +37,7 @@ marked-line-spec =
     })
     (λ c κs.
     let line = ran c in
-    end-fits (line .last-roots .ensures .1) (entry (first line) .pre .1 .1) (first line .before .marks-size .ensures))
+    omega (arith, end-fits (line .last-roots .ensures .1) (entry (first line) .pre .1 .1) (first line .before .marks-size .ensures)))
     (λ c.
     let line = ran (c .before .before .before) in
     end-length (line .last-roots .ensures .1) (entry (first line) .pre .1 .1) (first line .before .marks-size .ensures) (c .before .before .clear .ensures))
