@@ -233,7 +233,7 @@ pub fn line(input: &Input, arguments: &Arguments) -> Result<Vec<u8>, Failure> {
         (Call::Under(ceilings), false) => table.line_under(ceilings),
         (Call::Under(ceilings), true) => marked_line(&table, ceilings),
         (Call::Hold(_), false) => table.line_of_set(set),
-        // Whether there are such processes, the call for sets says.
+        // 12 is left to the call for sets.
         (Call::Hold(_), true) => table
             .line_of_set(set)
             .and_then(|_| marked_line(&table, &ceilings_of_holders(&table, processes))),
