@@ -1,3 +1,3 @@
--- What the program's functions say of its buffers.
---     Places      what a call leaves there, and what is around it
+-- What the program's functions say of its scratch.
+--     Places      what a call leaves there
 pub mod Places

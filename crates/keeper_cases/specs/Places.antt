@@ -1,40 +1,14 @@
--- What a call leaves in the guarded buffers, and what is around it. Assumes nothing.
-use mathlib.Core.Bool.{Bool, true, false, cond, not, _&&_, _||_}
-use mathlib.Core.List.{List}
-use mathlib.Core.Logic.{_⊎_}
-use mathlib.Core.Path.{_≡_}
-use Prim.Native.Nat.{ℕ, _+_, _-_, _*_, _≤_, _<_}
-use lib.Dec.{eqb, leb, ltb}
-use lib.ListN.{length, getD}
+-- What a call leaves in the guarded scratch. Assumes nothing.
+use mathlib.Core.Bool.{Bool, cond, not, _||_}
+use Prim.Native.Nat.{ℕ, _*_}
+use lib.Dec.{eqb, ltb}
 use Rattle.run_table.specs.Table.{mostProcesses}
 
--- The guards in front of a room; the bytes of the guarded buffer, and of the largest room in it; the numbers of the
--- guarded scratch.
-abbrev pub guards : ℕ
-guards = 16
-
-abbrev pub spaceSize : ℕ
-spaceSize = 33000
-
-abbrev pub mostRoom : ℕ
-mostRoom = spaceSize - 2 * guards
-
+-- The numbers of the guarded scratch.
 abbrev pub scratchSize : ℕ
 scratchSize = 1216
-
--- Where the answer of a call that returned a number ends: there is none under a refusal, or if it were longer than its
--- room.
-unfoldable pub answerEnd : ℕ → ℕ → ℕ → ℕ
-answerEnd number written room = cond (eqb number 0 && leb written room) (guards + written) guards
 
 -- How many numbers of the scratch hold lines, of n processes, 32 at most: n of n numbers after a keep sheet, and after
 -- the refusal of its buffer; none after another call.
 unfoldable pub lineNumbers : Bool → ℕ → ℕ → ℕ
 lineNumbers sheet number n = cond (not sheet || ltb mostProcesses n) 0 (cond (eqb number 0 || eqb number 16) (n * n) 0)
-
--- The answer of a test whether every byte in front of a place and from another one on is a guard.
-pub record Guarded (buffer : List ℕ) (from to : ℕ) (answer : Bool) : Type 0 where
-  pub kept : answer ≡ true → (i : ℕ) → (i < from) ⊎ (to ≤ i) → i < length buffer
-      → getD buffer i 0 ≡ 165
-  pub changed : answer ≡ false
-      → (i : ℕ) × ((i < from) ⊎ (to ≤ i)) × (i < length buffer) × (getD buffer i 0 ≡ 165 → ⊥)

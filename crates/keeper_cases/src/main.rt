@@ -19,7 +19,6 @@ use libc::STDIN_FILENO;
 use run_table::format::MOST_PROCESSES;
 use table_writer::put_numbers;
 use test_kit::SPACE;
-use test_kit::all_are;
 use test_kit::asked;
 use test_kit::build;
 use test_kit::comment;
@@ -27,11 +26,19 @@ use test_kit::copy;
 use test_kit::end;
 use test_kit::fill;
 use test_kit::first;
+use test_kit::guards::GUARDS;
+use test_kit::guards::MOST_ROOM;
+use test_kit::guards::answer_end;
+use test_kit::guards::is_guarded;
 use test_kit::length_of;
 use test_kit::numbers;
 use test_kit::script::Line;
+use test_kit::script::MOST_CEILINGS;
+use test_kit::script::ceilings_of;
+use test_kit::script::lent;
 use test_kit::script::line_at;
 use test_kit::script::size;
+use test_kit::script::size_up_to;
 use test_kit::script::small;
 use test_kit::script::smalls;
 use test_kit::script::starts;
@@ -40,19 +47,13 @@ use test_kit::word;
 ghost use mathlib.Core.Path.{_≡_};
 ghost use Prim.Native.Nat.{_+_, _-_, _≤_};
 ghost use lib.ListN.{drop, length, take};
-ghost use Rattle.keeper_cases.specs.Places.{Guarded, answerEnd, lineNumbers};
-ghost use Rattle.keeper_cases.specs.Places.{guards, mostRoom, scratchSize, spaceSize};
+ghost use Rattle.keeper_cases.specs.Places.{lineNumbers, scratchSize};
+ghost use Rattle.test_kit.specs.Guards.{guards, mostRoom, spaceSize};
 
 // What `ask` answers of a line that asks for no call: no refusal has this number.
 const NO_CALL: u32 = 4294967295;
 
-// A guarded buffer has so many guards in front of the room that a call is lent, and at least as many
-// behind it. A guard is a byte 165, and in the scratch a number of two such bytes.
-const GUARDS: usize = 16;
-
-const MOST_ROOM: usize = SPACE - 2 * GUARDS;
-
-// The numbers of the scratch.
+// The numbers of the scratch, which is guarded too: a guard there is a number of two bytes 165.
 const SCRATCH: usize = 1216;
 
 const MOST_LENT: usize = SCRATCH - 2 * GUARDS;
@@ -68,45 +69,13 @@ fn behind_two(numbers: &[u16], count: usize) -> &[u16]
     &numbers[2..count]
 }
 
-// The most ceilings that a line lends.
-const MOST_CEILINGS: usize = 64;
-
-// Ceilings, from the numbers of a line behind its first two, of which it has so many: the last goes on to
-// the end, and without one they are 0.
-fn ceilings_of(numbers: &[u16; 16], count: usize) -> [u16; 64]
-    requires { ⌜ count ≤ 16 ⌝ }
-{
-    let mut ceilings = [0u16; MOST_CEILINGS];
-    let mut last = 0;
-    let mut k = 0;
-    while k < MOST_CEILINGS {
-        if k + 2 < count {
-            last = numbers[k + 2];
-        }
-        ceilings[k] = last;
-        k += 1;
-    }
-    ceilings
-}
-
-// How many ceilings a line lends.
-fn ceiling_count(list: &[u64; 16]) -> usize
-    ensures { λ r. ⌜ r ≤ 64 ⌝ }
-{
-    let count = size(list, 0);
-    if MOST_CEILINGS < count {
-        return MOST_CEILINGS;
-    }
-    count
-}
-
 // The line under the ceilings of a line.
 fn line_under(table: &[u8], line: Line, answer: &mut [u8], written: &mut usize) -> u32
     requires { ⌜ line .count ≤ 16 ⌝ }
 {
-    let ceilings = ceilings_of(&smalls(&line.numbers), line.count);
-    let count = ceiling_count(&line.numbers);
-    keeper::keeper_line_under(table, &ceilings[..count], answer, written)
+    let ceilings = ceilings_of(&smalls(&line.numbers), 2, line.count);
+    let count = size_up_to(&line.numbers, 0, MOST_CEILINGS);
+    keeper::keeper_line_under(table, lent(&ceilings, count), answer, written)
 }
 
 // Makes the call that a line asks for, and answers its number: the one place that knows the calls.
@@ -185,30 +154,6 @@ fn line_numbers(sheet: bool, number: u32, n: usize) -> usize
         }
     }
     n * n
-}
-
-// Where the answer ends in the guarded buffer: where its room starts, if there is none.
-fn answer_end(number: u32, written: usize, room: usize) -> usize
-    requires { ⌜ room ≤ mostRoom ⌝ }
-    ensures { λ r. ⌜ (guards ≤ r) × (r ≤ guards + room) × (r ≡ answerEnd number written room) ⌝ }
-{
-    if number != 0 {
-        return GUARDS;
-    }
-    if room < written {
-        return GUARDS;
-    }
-    GUARDS + written
-}
-
-// Whether a guarded buffer is as it was, in front of what a call wrote and behind it.
-fn is_guarded(buffer: &[u8], from: usize, to: usize) -> bool
-    ensures { λ r. ⌜ Guarded (now (buffer .entry)) from to r ⌝ }
-{
-    if all_are(buffer, 0, from, 165) {
-        return all_are(buffer, to, buffer.len(), 165);
-    }
-    false
 }
 
 // Prints the lines, if there are any: their numbers or a checksum of them.

@@ -2,7 +2,8 @@
 --     message-put, domino-put                    a message, and a domino
 --     Changing, changing-none .. changing-all    a loop of changes
 --     Summing, summing-none .. summing-all       a loop that sums its bytes up
---     Tested, tested-none .. tested-another      a loop that tests its bytes
+--     Tested, tested-none .. tested-end          a loop that tests its bytes
+--     ends-all, ends-another                     what its end says of all of them
 -- Assumes nothing.
 use mathlib.Core.Bool.{Bool, true, false, false≢true}
 use mathlib.Core.List.{List}
@@ -15,7 +16,7 @@ use native.Mathlib.Omega.{arith}
 use lib.ListN.{length, getD}
 use Rattle.run_table.proofs.FormatLaws.{ReadSizes}
 use Rattle.run_table.specs.Format.{messagesIn, processesIn, receiptsAt, sendsAt}
-use Rattle.test_kit.specs.Buffers.{AllAre, checksumOf}
+use Rattle.test_kit.specs.Buffers.{AllAre, ValuesEnd, checksumOf}
 use Rattle.test_kit.specs.Tables.{dominoMessage, each, withCount, withDomino, withEntry, withMessage, withSizes}
 
 -- ---- a message, by the sizes that were read and where its entries are put
@@ -76,26 +77,36 @@ module _ {bytes : List ℕ} {sum i : ℕ} (w : Summing bytes sum i) where
 
 -- ---- a loop that tests bytes
 -- Each byte from a place to the loop's has the value.
-pub record Tested (buffer : List ℕ) (from value i : ℕ) : Type 0 where
+pub record Tested (buffer : List ℕ) (from to value i : ℕ) : Type 0 where
   pub past : from ≤ i
+  pub within : from ≤ to → i ≤ to
   pub same : (k : ℕ) → from ≤ k → k < i → k < length buffer → getD buffer k 0 ≡ value
 
-module _ {buffer : List ℕ} {from value : ℕ} where
-  pub tested-none : Tested buffer from value from
-  tested-none = record { past = omega arith; same = λ k a b l. absurd (omega arith) }
+module _ {buffer : List ℕ} {from to value : ℕ} where
+  pub tested-none : Tested buffer from to value from
+  tested-none = record { past = omega arith; within = λ l. l; same = λ k a b l. absurd (omega arith) }
 
-  module _ {i : ℕ} (t : Tested buffer from value i) where
-    pub tested-more : getD buffer i 0 ≡ value → Tested buffer from value (i + 1)
-    tested-more e = record { past = omega (arith, t .past); same = λ k a b l. by-place k a b l (ℕ-discrete k i) }
+  module _ {i : ℕ} (t : Tested buffer from to value i) where
+    pub tested-more : i < to → getD buffer i 0 ≡ value → Tested buffer from to value (i + 1)
+    tested-more inside e = record {
+      past = omega (arith, t .past);
+      within = λ _. omega arith;
+      same = λ k a b l. by-place k a b l (ℕ-discrete k i);
+    }
       where
         by-place : (k : ℕ) → from ≤ k → k < i + 1 → k < length buffer → Dec (k ≡ i) → getD buffer k 0 ≡ value
         by-place k a b l (yes here) = ap (λ (x : ℕ). getD buffer x 0) here ∙ e
         by-place k a b l (no other) = t .same k a (omega arith) l
 
-    -- the loop has passed every byte
-    pub tested-all : {to : ℕ} → ((k : ℕ) → k < to → k < length buffer → k < i) → AllAre buffer from to value true
-    tested-all passed = record { all = λ _ k a b l. t .same k a (passed k b l) l; another = λ e. absurd (false≢true (sym e)) }
+    -- the loop stops
+    pub tested-end : (i < to → i < length buffer → getD buffer i 0 ≡ value → ⊥) → ValuesEnd buffer from to value i
+    tested-end stopped = record { past = t .past; within = t .within; same = t .same; stopped = stopped }
+
+  module _ {end : ℕ} (e : ValuesEnd buffer from to value end) where
+    -- it has passed every byte
+    pub ends-all : ((k : ℕ) → k < to → k < length buffer → k < end) → AllAre buffer from to value true
+    ends-all passed = record { all = λ _ k a b l. e .same k a (passed k b l) l; another = λ f. absurd (false≢true (sym f)) }
 
     -- it has found another value
-    pub tested-another : {to : ℕ} → i < to → i < length buffer → (getD buffer i 0 ≡ value → ⊥) → AllAre buffer from to value false
-    tested-another b l other = record { all = λ e. absurd (false≢true e); another = λ _. (i, t .past, b, l, other) }
+    pub ends-another : end < to → end < length buffer → AllAre buffer from to value false
+    ends-another b l = record { all = λ f. absurd (false≢true f); another = λ _. (end, e .past, b, l, e .stopped b l) }

@@ -9,6 +9,13 @@ use lib.ListN.{length, getD, set}
 unfoldable pub withNumber : List ℕ → ℕ → ℕ → List ℕ
 withNumber buffer at value = set (set buffer at (value % 256)) (at + 1) (value / 256 % 256)
 
+-- The answer of a search, from one place to another, for where the bytes of a value end.
+pub record ValuesEnd (buffer : List ℕ) (from to value end : ℕ) : Type 0 where
+  pub past : from ≤ end
+  pub within : from ≤ to → end ≤ to
+  pub same : (i : ℕ) → from ≤ i → i < end → i < length buffer → getD buffer i 0 ≡ value
+  pub stopped : end < to → end < length buffer → getD buffer end 0 ≡ value → ⊥
+
 -- The answer of a test whether every byte from one place to another has a value.
 pub record AllAre (buffer : List ℕ) (from to value : ℕ) (answer : Bool) : Type 0 where
   pub all : answer ≡ true → (i : ℕ) → from ≤ i → i < to → i < length buffer → getD buffer i 0 ≡ value

@@ -1,5 +1,6 @@
 // What the test programs build tables and print their lines with. A place beyond the end of a buffer
 // is left out, so that every function takes any buffer.
+pub mod guards;
 pub mod script;
 
 use libc::STDOUT_FILENO;
@@ -17,7 +18,7 @@ ghost use Prim.Native.Nat.{_<_};
 ghost use lib.ListN.{getD, length, set, take};
 ghost use Rattle.run_table.specs.Arrays.{Filled};
 ghost use Rattle.run_table.specs.Format.{messagesIn, processesIn, tableLength};
-ghost use Rattle.test_kit.specs.Buffers.{AllAre, checksumOf, withNumber};
+ghost use Rattle.test_kit.specs.Buffers.{AllAre, ValuesEnd, checksumOf, withNumber};
 ghost use Rattle.test_kit.specs.Tables.{dominoPlace, each, withCount, withDomino, withEntry};
 ghost use Rattle.test_kit.specs.Tables.{withMessage, withSizes};
 
@@ -172,21 +173,35 @@ pub fn copy(buffer: &mut [u8], bytes: &[u8])
     }
 }
 
-// Whether every byte from one place to another has a value.
-pub fn all_are(buffer: &[u8], from: usize, to: usize, value: u8) -> bool
-    ensures { λ r. ⌜ AllAre (now (buffer .entry)) from to value r ⌝ }
+// Where the bytes of a value that start at a place end, at `to` at the latest.
+pub fn values_end(buffer: &[u8], from: usize, to: usize, value: u8) -> usize
+    ensures { λ r. ⌜ ValuesEnd (now (buffer .entry)) from to value r ⌝ }
 {
     let mut i = from;
     while i < to {
         if buffer.len() <= i {
-            return true;
+            return i;
         }
         if buffer[i] != value {
-            return false;
+            return i;
         }
         i += 1;
     }
-    true
+    i
+}
+
+// Whether every byte from one place to another has a value.
+pub fn all_are(buffer: &[u8], from: usize, to: usize, value: u8) -> bool
+    ensures { λ r. ⌜ AllAre (now (buffer .entry)) from to value r ⌝ }
+{
+    let end = values_end(buffer, from, to, value);
+    if to <= end {
+        return true;
+    }
+    if buffer.len() <= end {
+        return true;
+    }
+    false
 }
 
 // Prints the 16-bit numbers of some bytes: each of them, or a checksum of more than 128 bytes.

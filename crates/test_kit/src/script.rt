@@ -2,11 +2,12 @@
 // first two letters.
 use run_table::numbers::u16_or_zero;
 ghost use mathlib.Core.Path.{_≡_};
-ghost use Prim.Native.Nat.{_+_, _*_, _%_, _<_, _≤_};
+ghost use Prim.Native.Nat.{_+_, _*_, _%_, _<_, _≤_, min};
 ghost use lib.Dec.{eqb};
-ghost use lib.ListN.{getD, length};
+ghost use lib.ListN.{getD, length, take};
 ghost use Rattle.run_table.specs.Lists.{tabulate};
 ghost use Rattle.run_table.specs.Numbers.{u16At};
+ghost use Rattle.test_kit.specs.Scripts.{ceilingAt};
 
 // A line: its word, its numbers, how many they are, and where the next line starts.
 pub struct Line {
@@ -123,6 +124,48 @@ pub fn size(numbers: &[u64; 16], i: usize) -> usize
     ensures { λ r. ⌜ r ≡ getD (now (numbers .entry)) i 0 ⌝ }
 {
     numbers[i] as usize
+}
+
+// Number i of a line, as a size: `most` where it is more.
+pub fn size_up_to(numbers: &[u64; 16], i: usize, most: usize) -> usize
+    requires { ⌜ i < 16 ⌝ }
+    ensures { λ r. ⌜ (r ≤ most) × (r ≡ min (getD (now (numbers .entry)) i 0) most) ⌝ }
+{
+    let number = size(numbers, i);
+    if most < number {
+        return most;
+    }
+    number
+}
+
+// The most ceilings that a line lends.
+pub const MOST_CEILINGS: usize = 64;
+
+// Ceilings, from the numbers of a line from a place on, of which it has so many: the last goes on to the
+// end, and without one they are 0.
+pub fn ceilings_of(numbers: &[u16; 16], from: usize, count: usize) -> [u16; 64]
+    requires { ⌜ (from ≤ 16) × (count ≤ 16) ⌝ }
+    ensures { λ r. ⌜ r ≡ tabulate 64 (ceilingAt (now (numbers .entry)) from count) ⌝ }
+{
+    let mut ceilings = [0u16; MOST_CEILINGS];
+    let mut last = 0;
+    let mut k = 0;
+    while k < MOST_CEILINGS {
+        if from + k < count {
+            last = numbers[from + k];
+        }
+        ceilings[k] = last;
+        k += 1;
+    }
+    ceilings
+}
+
+// The first ceilings, as many as a line lends.
+pub fn lent(ceilings: &[u16], count: usize) -> &[u16]
+    requires { ⌜ count ≤ length (now ceilings) ⌝ }
+    ensures { λ r. ⌜ now r ≡ take count (now (ceilings .entry)) ⌝ }
+{
+    &ceilings[..count]
 }
 
 // Whether a word's code is that of two letters: the 16-bit number that they are.

@@ -4,7 +4,7 @@ use borrow.Author.Needs.{needs}
 use mathlib.Core.Path.{_≡_}
 use Prim.Native.Nat.{_+_, _-_}
 use lib.ListN.{length}
-use Rattle.keeper_cases.specs.Places.{spaceSize}
+use Rattle.test_kit.specs.Guards.{spaceSize}
 use Rattle.keeper_cases.proofs.run.Statement.{statement}
 use Rattle.keeper_cases.proofs.run.Tie as tie
 

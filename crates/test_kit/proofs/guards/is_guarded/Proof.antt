@@ -1,4 +1,4 @@
--- `is_guarded` meets its contract: one test in front, and another one behind.
+-- `guards::is_guarded` meets its contract: one test in front, and another one behind.
 -- Assumes nothing.
 use borrow.Author.Needs.{needs}
 use mathlib.Core.Bool.{Bool, true, false, false≢true}
@@ -7,10 +7,10 @@ use mathlib.Core.Logic.{inl, inr, ⊎-elim}
 use mathlib.Core.Path.{_≡_}
 use Prim.Native.Nat.{ℕ, zero-le}
 use lib.ListN.{length}
-use Rattle.keeper_cases.specs.Places.{Guarded}
 use Rattle.test_kit.specs.Buffers.{AllAre}
-use Rattle.keeper_cases.proofs.is_guarded.Statement.{statement}
-use Rattle.keeper_cases.proofs.is_guarded.Tie as tie
+use Rattle.test_kit.specs.Guards.{Guarded}
+use Rattle.test_kit.proofs.guards.is_guarded.Statement.{statement}
+use Rattle.test_kit.proofs.guards.is_guarded.Tie as tie
 
 module _ {buffer : List ℕ} {from to : ℕ} {a : Bool} (front : AllAre buffer 0 from 165 a) where
   both : a ≡ true → {b : Bool} → AllAre buffer to (length buffer) 165 b → Guarded buffer from to b

@@ -1,11 +1,11 @@
--- `answer_end` meets its contract.
+-- `guards::answer_end` meets its contract.
 -- Assumes nothing.
 use borrow.Author.Needs.{needs}
 use native.Mathlib.Omega.{arith}
 use borrow.Author.Tests.{eq-eqb, le-leb, lt-leb, ne-eqb}
-use Rattle.keeper_cases.specs.Places.{answerEnd}
-use Rattle.keeper_cases.proofs.answer_end.Statement.{statement}
-use Rattle.keeper_cases.proofs.answer_end.Tie as tie
+use Rattle.test_kit.specs.Guards.{answerEnd}
+use Rattle.test_kit.proofs.guards.answer_end.Statement.{statement}
+use Rattle.test_kit.proofs.guards.answer_end.Tie as tie
 
 pub answer-end-spec : {M : Type 1} → statement M
 unfolding answerEnd
