@@ -1,0 +1,36 @@
+-- `run` ends: each line starts beyond the one before it.
+-- Assumes nothing.
+use borrow.Author.Needs.{needs}
+use mathlib.Core.Path.{_≡_}
+use Prim.Native.Nat.{_+_, _-_}
+use lib.ListN.{length}
+use Rattle.test_kit.specs.Guards.{spaceSize}
+use Rattle.marking_cases.proofs.run.Statement.{statement}
+use Rattle.marking_cases.proofs.run.Tie as tie
+
+abbrev Inv-loop : tie.InvT-loop
+Inv-loop text table₀ marks₀ space₀ at₀ table marks space at =
+    (length table ≡ length table₀) × (length marks ≡ spaceSize) × (length space ≡ spaceSize)
+
+abbrev μ-loop : tie.MeasureT-loop
+μ-loop text table₀ marks₀ space₀ at₀ table marks space at = length text + 1 - at
+
+pub run-spec : {M : Type 1} → statement M
+run-spec =
+    tie.close
+    (tie.spec
+    Inv-loop
+    μ-loop
+    (λ c. search needs)
+    -- a line
+    (λ c κs. search needs)
+    (λ c κs. search needs)
+    (λ c κs. search needs)
+    -- the next one
+    (λ c. search needs)
+    (λ c. search needs)
+    -- the buffers are as long as they were
+    (λ c. search needs)
+    (λ c. search needs)
+    (λ c. search needs)
+    (λ c. search needs))
