@@ -203,7 +203,7 @@ uint32_t keeper_line_under(const uint8_t *table, size_t length, const uint16_t *
    KEEPER_MARKS_SIZE(sum of the counts, N) bytes. The buffer may be longer. What stands in it before makes no
    difference. Under KEEPER_OK these first bytes are 0, and those beyond them are unchanged. Under a refusal,
    16 and 19 included, all are unchanged. Checks: the table's, 17, 18, 19, 16. The answer is N numbers by
-   process, 2N bytes. Stack: 1208. */
+   process, 2N bytes. Stack: 1224. */
 uint32_t keeper_marked_line(const uint8_t *table, size_t length, const uint16_t *ceilings,
                             size_t ceilings_length, uint8_t *marks, size_t marks_length, uint8_t *answer,
                             size_t room, size_t *written);
