@@ -23,8 +23,8 @@ pub record StateOf (t : Table) (s : State) : Type 0 where
 pub data Edge (t : Table) : State → State → Type 0 where
   to-next : (p y : ℕ) → p < processCount t → y < countOf t p → Edge t (state p y) (state p (suc y))
   received : (k : ℕ) → 0 < messageOf t k .received
-      → Edge t (state (messageOf t k .sender) (messageOf t k .sent)) (state (messageOf t k .receiver)
-      (messageOf t k .received))
+      → Edge t (state (messageOf t k .sender) (messageOf t k .sent))
+      (state (messageOf t k .receiver) (messageOf t k .received))
 
 -- One state leads to another: there is a path of one edge or more.
 pub data Leads (t : Table) : State → State → Type 0 where

@@ -137,9 +137,8 @@ pub extern "C" fn keeper_marked_line(
     answer: &mut [u8],
     written: &mut usize,
 ) -> u32
-    ensures outcome { λ r. ⌜ YieldsByMarking (now (table .entry)) (now (ceilings .entry)) (length (now
-        (marks .entry)))
-        (length (now (answer .entry))) r
+    ensures outcome { λ r. ⌜ YieldsByMarking (now (table .entry)) (now (ceilings .entry))
+        (length (now (marks .entry))) (length (now (answer .entry))) r
         (now (answer .entry)) (now (answer .exit)) (now (written .entry)) (now (written .exit)) ⌝ }
     ensures marks { λ r. ⌜ now (marks .exit) ≡ marksAfter r (now (table .entry)) (now (marks .entry)) ⌝ }
     ensures same { λ r. ⌜ Yields (markedLineAnswer (now (table .entry)) (now (ceilings .entry))
