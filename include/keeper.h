@@ -62,16 +62,16 @@ enum keeper_refusal {
     KEEPER_UNKNOWN_PROCESS_IN_MESSAGE = 6, /* a sender or receiver is N or above */
     KEEPER_MESSAGE_TO_ITS_SENDER = 7,      /* a message has the same sender and receiver */
     KEEPER_SEND_NUMBER_TOO_HIGH = 8,       /* a send number is not below the sender's count */
-    KEEPER_RECEIPT_NUMBER_TOO_HIGH = 9,    /* a receipt number is not below the receiver's count */
+    KEEPER_RECEIPT_NUMBER_TOO_HIGH = 9,    /* a receipt number is above the receiver's count */
     /* Of the other arguments, on an accepted table: */
-    KEEPER_UNKNOWN_PROCESS = 10,           /* a process named in a send or save is N or above */
+    KEEPER_UNKNOWN_PROCESS = 10,           /* a process named in a send, save or receipt is N or above */
     KEEPER_SEND_TO_ITSELF = 11,            /* a send names one process twice */
     KEEPER_UNKNOWN_PROCESS_IN_SET = 12,    /* a set has a bit at N or above */
     KEEPER_WRONG_CEILING_COUNT = 17,       /* the list of ceilings does not have N numbers */
     KEEPER_CEILING_TOO_HIGH = 18,          /* a ceiling is above its process's count */
-    KEEPER_BAD_LIST = 13,                  /* a save's list has a position of M or above, or not above
-                                              the one before it, or of a message not waiting for that
-                                              process */
+    KEEPER_BAD_LIST = 13,                  /* the list of a save or receipt has a position of M or above,
+                                              or not above the one before it, or of a message not waiting
+                                              for that process */
     KEEPER_TABLE_FULL = 14,                /* a send meets M = 4,096, or a save meets a count of 4,096 */
     KEEPER_MARKS_TOO_SHORT = 19,           /* the mark buffer is shorter than (sum of counts + N) / 8
                                               bytes, rounded up */
@@ -84,13 +84,13 @@ enum keeper_refusal {
 static inline const char *keeper_refusal_words(uint32_t refusal)
 {
     switch (refusal) {
-    case KEEPER_UNKNOWN_PROCESS: return "a process named in a send or save is N or above";
+    case KEEPER_UNKNOWN_PROCESS: return "a process named in a send, save or receipt is N or above";
     case KEEPER_SEND_TO_ITSELF: return "a send names one process twice";
     case KEEPER_UNKNOWN_PROCESS_IN_SET: return "a set has a bit at N or above";
     case KEEPER_WRONG_CEILING_COUNT: return "the list of ceilings does not have N numbers";
     case KEEPER_CEILING_TOO_HIGH: return "a ceiling is above its process's count";
     case KEEPER_BAD_LIST:
-        return "a save's list has a position of M or above, or not above the one before it, "
+        return "the list of a save or receipt has a position of M or above, or not above the one before it, "
                "or of a message not waiting for that process";
     case KEEPER_TABLE_FULL: return "a send meets M = 4,096, or a save meets a count of 4,096";
     case KEEPER_MARKS_TOO_SHORT:
@@ -224,6 +224,14 @@ uint32_t keeper_send(const uint8_t *table, size_t length, uint16_t from, uint16_
    Stack: 224. */
 uint32_t keeper_save(const uint8_t *table, size_t length, uint16_t process, const uint16_t *list,
                      size_t list_length, uint8_t *answer, size_t room, size_t *written);
+
+/* The table after a receipt: `process` receives the messages at the listed positions, and takes no
+   checkpoint. Their receipt number becomes its count, which says: received, and not saved yet. Nothing else
+   changes. The list is as that of keeper_save; a message that was received and is not saved yet does not wait
+   any more, and may not be listed again. Where the list is empty the answer is the table. Checks: the table's,
+   10, 13, 16. The answer is as long as the table. Stack: 224. */
+uint32_t keeper_receive(const uint8_t *table, size_t length, uint16_t process, const uint16_t *list,
+                        size_t list_length, uint8_t *answer, size_t room, size_t *written);
 
 /* The table after the run has fallen back to its recovery line L: each count becomes L + 1; a message
    stays where its send number is below L at its sender, and if its receipt number is above L at its

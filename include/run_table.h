@@ -10,8 +10,8 @@
                        from 0, so checkpoint c exists where c is below the count
        4 + 2N          M sends: the sender, and the number of its latest checkpoint before sending
        4 + 2N + 4M     M receipts: the receiver, and the number of its first checkpoint after receiving;
-                       0 says that the message is waiting: not received yet, or only since the
-                       receiver's latest checkpoint
+                       0 says that the message is waiting: not received yet; the receiver's count
+                       says that it was received since its latest checkpoint, and is not saved yet
 
    A table has exactly 4 + 2N + 8M bytes. Message k is entry k of sends and receipts; k, from 0, is its
    position. Two equal entries are two messages.
@@ -58,7 +58,7 @@ enum run_table_refusal {
     RUN_TABLE_UNKNOWN_PROCESS_IN_MESSAGE = 6, /* a sender or receiver is N or above */
     RUN_TABLE_MESSAGE_TO_ITS_SENDER = 7,      /* a message has the same sender and receiver */
     RUN_TABLE_SEND_NUMBER_TOO_HIGH = 8,       /* a send number is not below the sender's count */
-    RUN_TABLE_RECEIPT_NUMBER_TOO_HIGH = 9     /* a receipt number is not below the receiver's count */
+    RUN_TABLE_RECEIPT_NUMBER_TOO_HIGH = 9     /* a receipt number is above the receiver's count */
 };
 
 /* The check of a refusal in words, for a message to people. Any number may be given: of 0, and of one that
@@ -75,7 +75,7 @@ static inline const char *run_table_refusal_words(uint32_t refusal)
     case RUN_TABLE_UNKNOWN_PROCESS_IN_MESSAGE: return "a sender or receiver is N or above";
     case RUN_TABLE_MESSAGE_TO_ITS_SENDER: return "a message has the same sender and receiver";
     case RUN_TABLE_SEND_NUMBER_TOO_HIGH: return "a send number is not below the sender's count";
-    case RUN_TABLE_RECEIPT_NUMBER_TOO_HIGH: return "a receipt number is not below the receiver's count";
+    case RUN_TABLE_RECEIPT_NUMBER_TOO_HIGH: return "a receipt number is above the receiver's count";
     default: return "a refusal that this version does not know";
     }
 }

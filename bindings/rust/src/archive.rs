@@ -65,6 +65,16 @@ extern "C" {
         room: usize,
         written: *mut usize,
     ) -> u32;
+    pub fn keeper_receive(
+        table: *const u8,
+        length: usize,
+        process: u16,
+        list: *const u16,
+        list_length: usize,
+        answer: *mut u8,
+        room: usize,
+        written: *mut usize,
+    ) -> u32;
     pub fn keeper_fall_back(
         table: *const u8,
         length: usize,

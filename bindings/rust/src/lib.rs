@@ -418,6 +418,49 @@ pub fn save(table: &[u8], process: u16, list: &[u16], answer: &mut [u8]) -> Resu
     outcome(number, written)
 }
 
+/// The table after a receipt: `process` receives the waiting messages at the
+/// positions of `list`, strictly rising, and takes no checkpoint. Their receipt
+/// number becomes the count of the process: received, and not saved yet. Nothing
+/// else changes; an empty list gives the table. The answer is a table as long as
+/// the one given.
+///
+/// Checks: the table's, 10, 13, 16.
+///
+/// ```
+/// # let example_a: Vec<u8> = [2u16, 5, 3, 3, 0, 0, 1, 0, 1, 1, 0, 2, 1, 2, 1, 2, 0, 1, 0, 2, 1, 2, 0, 0]
+/// #     .iter().flat_map(|number| number.to_le_bytes()).collect();
+/// use keeper::{receive, Refusal};
+/// let mut next = vec![0; keeper::LARGEST_TABLE];
+/// // Message 4 waits for process 0.
+/// assert_eq!(receive(&example_a, 0, &[4], &mut next), Ok(48));
+/// assert_eq!(next[4..8], [3, 0, 3, 0]); // the counts, as they were
+/// assert_eq!(next[44..48], [0, 0, 3, 0]); // its receipt: the count of process 0
+/// // It waits no longer.
+/// assert_eq!(receive(&next[..48].to_vec(), 0, &[4], &mut next), Err(Refusal::BadList));
+/// ```
+pub fn receive(
+    table: &[u8],
+    process: u16,
+    list: &[u16],
+    answer: &mut [u8],
+) -> Result<usize, Refusal> {
+    let mut written = 0;
+    // SAFETY: see above `check_table`.
+    let number = unsafe {
+        archive::keeper_receive(
+            table.as_ptr(),
+            table.len(),
+            process,
+            list.as_ptr(),
+            list.len(),
+            answer.as_mut_ptr(),
+            answer.len(),
+            &mut written,
+        )
+    };
+    outcome(number, written)
+}
+
 /// The table after the whole run has fallen back to its recovery line L: each
 /// count becomes L + 1, a message not sent before the line is removed, and of
 /// the others one received after the line waits again. Order is kept. The

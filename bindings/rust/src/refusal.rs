@@ -94,13 +94,13 @@ refusals! {
     UnknownProcessInMessage = 6, table, "a sender or receiver is N or above";
     MessageToItsSender = 7, table, "a message has the same sender and receiver";
     SendNumberTooHigh = 8, table, "a send number is not below the sender's count";
-    ReceiptNumberTooHigh = 9, table, "a receipt number is not below the receiver's count";
-    UnknownProcess = 10, call, "a process named in a send or save is N or above";
+    ReceiptNumberTooHigh = 9, table, "a receipt number is above the receiver's count";
+    UnknownProcess = 10, call, "a process named in a send, save or receipt is N or above";
     SendToItself = 11, call, "a send names one process twice";
     UnknownProcessInSet = 12, call, "a set has a bit at N or above";
     WrongCeilingCount = 17, call, "the list of ceilings does not have N numbers";
     CeilingTooHigh = 18, call, "a ceiling is above its process's count";
-    BadList = 13, call, "a save's list has a position of M or above, or not above the one before it, \
+    BadList = 13, call, "the list of a save or receipt has a position of M or above, or not above the one before it, \
                          or of a message not waiting for that process";
     TableFull = 14, call, "a send meets M = 4,096, or a save meets a count of 4,096";
     MarksTooShort = 19, call, "the mark buffer is shorter than (sum of counts + N) / 8 bytes, rounded up";
