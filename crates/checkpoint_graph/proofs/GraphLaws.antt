@@ -57,7 +57,7 @@ module _ (t : Table) (w : WellFormed t) where
   edge-to (to-next p y known there) = record { known = known; there = there }
   edge-to (received k d) =
       let good = w .good-messages k (message-in t k d) in
-      record { known = good .receiver-known; there = omega (arith, good .received-below) }
+      record { known = good .receiver-known; there = good .received-within }
 
   pub leads-to : {a b : State} → Leads t a b → StateOf t b
   leads-to (edge e) = edge-to e

@@ -1,6 +1,6 @@
 -- Laws of futures: what a list of steps keeps of the run that it starts from.
 --     end-well-formed                  the table at the end is well formed
---     Grown, send-grown, checkpoint-grown    a send and a checkpoint keep every checkpoint and message, and receive late
+--     Grown, send-grown, receipt-grown, checkpoint-grown    all but a rollback keep every checkpoint and message, and receive late
 --     rolled-to, rolled-message        where a rollback moves a message, and what it makes of it
 --     moved-inside, moved-same, moved-order    the messages over one step
 --     still-there-count                a checkpoint that is still there is a checkpoint of the last table
@@ -23,14 +23,14 @@ use lib.Dec.{eqb}
 use lib.ListN.{length, take}
 use Rattle.consistency.specs.Ceilings.{recoveryLine}
 use Rattle.consistency.specs.Lines.{AtOrBelow, asLine}
-use Rattle.futures.proofs.StepLaws.{checkpoint-grows, checkpoint-known, checkpoint-message, checkpoint-messages, checkpoint-waiting, putBack-receiver}
-use Rattle.futures.proofs.StepLaws.{putBack-sender, putBack-sent, receivedAt-listed, receivedAt-unlisted, rollback-count, rollback-message}
+use Rattle.futures.proofs.StepLaws.{Receives, checkpoint-receives, putBack-receiver, putBack-sender, putBack-sent, receipt-receives, receipt-waiting}
+use Rattle.futures.proofs.StepLaws.{receivedAt-listed, receivedAt-unlisted, receives-message, receives-messages, rollback-count, rollback-message}
 use Rattle.futures.proofs.StepLaws.{rollback-order, rollback-place, send-count, send-message-new, send-message-old, send-messages, step-cases}
 use Rattle.futures.proofs.StepLaws.{step-well-formed}
 use Rattle.futures.specs.Futures.{FollowedTo, Future, NeedsCheckpoint, NeedsMessage, Place, StepKeeps, StillThere, at-position, endOf, gone, moved}
 use Rattle.futures.specs.Futures.{placeOf}
-use Rattle.futures.specs.Steps.{Step, afterCheckpoint, afterRollback, afterSend, checkpoint, checkpointChecks, putBack, receivedAt, remaining, rollback}
-use Rattle.futures.specs.Steps.{send, sendChecks, stays, step}
+use Rattle.futures.specs.Steps.{Step, afterCheckpoint, afterReceipt, afterRollback, afterSend, checkpoint, putBack, receiptChecks, receive, receivedAt}
+use Rattle.futures.specs.Steps.{remaining, rollback, send, sendChecks, stays, step}
 use Rattle.run_table.proofs.FormatLaws.{count-beyond, message-beyond}
 use Rattle.run_table.specs.Checks.{WellFormed, firstCaught}
 use Rattle.run_table.specs.Lists.{any}
@@ -59,13 +59,13 @@ pub record SameMessage (m m′ : Message) : Type 0 where
 pub same-refl : (m : Message) → SameMessage m m
 same-refl m = record { sender-same = refl; sent-same = refl; receiver-same = refl }
 
--- How a message goes on in a send or a checkpoint: it is received at most once, and after every checkpoint that there was.
+-- How a message goes on in a send, a receipt or a checkpoint: it is received at most once, and after every checkpoint that there was.
 pub record GoesOn (t : Table) (m m′ : Message) : Type 0 where
   pub same : SameMessage m m′
   pub received-stay : 0 < m .received → m′ ≡ m
   pub received-late : m .received ≡ 0 → 0 < m′ .received → countOf t (m′ .receiver) ≤ m′ .received
 
--- What a send and a checkpoint do: they keep every checkpoint, and every message at its position; new messages are undelivered.
+-- What these steps do: they keep every checkpoint, and every message at its position; new messages are undelivered.
 pub record Grown (t t′ : Table) : Type 0 where
   pub counts-grow : AtOrBelow (countOf t) (countOf t′)
   pub messages-grow : messageCount t ≤ messageCount t′
@@ -101,30 +101,42 @@ module _ (t : Table) where
       new k l (yes e) = ap (λ (m : Message). m .received) (ap (messageOf (afterSend t j i)) e ∙ send-message-new t j i)
       new k l (no e) = beyond-undelivered (afterSend t j i) k (omega (arith, send-messages t j i))
 
-  pub checkpoint-grown : (i : ℕ) (list : List ℕ) → Grown t (step t (checkpoint i list))
-  unfolding step
-  checkpoint-grown i list = step-cases (checkpointChecks t i list) (afterCheckpoint t i list) t (Grown t) (λ quiet. record {
-    counts-grow = λ p. checkpoint-grows t i list (checkpoint-known t i list quiet) p;
-    messages-grow = omega (arith, checkpoint-messages t i list);
-    messages-go-on = λ k l. subst⁻¹ (GoesOn t (messageOf t k)) (checkpoint-message t i list k l) (goes-on quiet k (any (eqb k) list) refl);
-    new-undelivered = λ k l. beyond-undelivered (afterCheckpoint t i list) k (omega (arith, checkpoint-messages t i list));
-  }) (table-grown t)
+  -- a listed message is received at the count, which no checkpoint has reached
+  receives-grown : (i : ℕ) (list : List ℕ) (t′ : Table) → Receives t i list t′ → firstCaught (receiptChecks t i list) ≡ 0 → Grown t t′
+  receives-grown i list t′ r quiet = record {
+    counts-grow = r .counts-grow;
+    messages-grow = omega (arith, receives-messages r);
+    messages-go-on = λ k l. subst⁻¹ (GoesOn t (messageOf t k)) (receives-message r k l) (goes-on k (any (eqb k) list) refl);
+    new-undelivered = λ k l. beyond-undelivered t′ k (omega (arith, receives-messages r));
+  }
     where
-      goes-on : firstCaught (checkpointChecks t i list) ≡ 0 → (k : ℕ) (listed : Bool) → any (eqb k) list ≡ listed
-          → GoesOn t (messageOf t k) (receivedAt t i list k)
-      goes-on quiet k true e =
-          let waits = checkpoint-waiting t i list quiet k e in
+      goes-on : (k : ℕ) (listed : Bool) → any (eqb k) list ≡ listed → GoesOn t (messageOf t k) (receivedAt t i list k)
+      goes-on k true e =
+          let waits = receipt-waiting t i list quiet k e in
           subst⁻¹ (GoesOn t (messageOf t k)) (receivedAt-listed t i list k e) (record {
             same = record { sender-same = refl; sent-same = refl; receiver-same = refl };
             received-stay = λ d. absurd (omega (arith, waits .undelivered));
             received-late = λ _ _. subst⁻¹ (λ (p : ℕ). countOf t p ≤ countOf t i) (waits .to-process) (le-refl (countOf t i));
           })
-      goes-on quiet k false e = subst⁻¹ (GoesOn t (messageOf t k)) (receivedAt-unlisted t i list k e) (unchanged t (messageOf t k))
+      goes-on k false e = subst⁻¹ (GoesOn t (messageOf t k)) (receivedAt-unlisted t i list k e) (unchanged t (messageOf t k))
+
+  pub receipt-grown : (i : ℕ) (list : List ℕ) → Grown t (step t (receive i list))
+  unfolding step
+  receipt-grown i list =
+      step-cases (receiptChecks t i list) (afterReceipt t i list) t (Grown t)
+      (receives-grown i list (afterReceipt t i list) (receipt-receives t i list)) (table-grown t)
+
+  pub checkpoint-grown : (i : ℕ) (list : List ℕ) → Grown t (step t (checkpoint i list))
+  unfolding step
+  checkpoint-grown i list =
+      step-cases (receiptChecks t i list) (afterCheckpoint t i list) t (Grown t)
+      (receives-grown i list (afterCheckpoint t i list) (checkpoint-receives t i list)) (table-grown t)
 
 -- a checkpoint that a step keeps is one of the table after it
 pub step-keeps-count : (t : Table) (s : Step) (i c : ℕ) → c < countOf t i → StepKeeps t s i c → c < countOf (step t s) i
 unfolding StepKeeps
 step-keeps-count t (send j i′) i c b keeps = omega (arith, send-grown t j i′ .counts-grow i)
+step-keeps-count t (receive i′ list) i c b keeps = omega (arith, receipt-grown t i′ list .counts-grow i)
 step-keeps-count t (checkpoint i′ list) i c b keeps = omega (arith, checkpoint-grown t i′ list .counts-grow i)
 step-keeps-count t rollback i c b keeps = unfold step in omega (arith, rollback-count t i (known-process t i c b))
 
@@ -166,6 +178,7 @@ module _ (t : Table) where
   pub moved-inside : (s : Step) (k n : ℕ) → k < messageCount t → MovedTo t s k n → n < messageCount (step t s)
   unfolding moved
   moved-inside (send j i) k n l e = kept-inside (step t (send j i)) (send-grown t j i) k n e l
+  moved-inside (receive i list) k n l e = kept-inside (step t (receive i list)) (receipt-grown t i list) k n e l
   moved-inside (checkpoint i list) k n l e = kept-inside (step t (checkpoint i list)) (checkpoint-grown t i list) k n e l
   moved-inside rollback k n l e =
       let to = rolled-to t k n e in
@@ -178,6 +191,7 @@ module _ (t : Table) where
   pub moved-same : (s : Step) (k n : ℕ) → k < messageCount t → MovedTo t s k n → SameMessage (messageOf t k) (messageOf (step t s) n)
   unfolding moved
   moved-same (send j i) k n l e = kept-same (step t (send j i)) (send-grown t j i) k n e l
+  moved-same (receive i list) k n l e = kept-same (step t (receive i list)) (receipt-grown t i list) k n e l
   moved-same (checkpoint i list) k n l e = kept-same (step t (checkpoint i list)) (checkpoint-grown t i list) k n e l
   moved-same rollback k n l e = subst⁻¹ (SameMessage m) (rolled-message k n l (rolled-to t k n e)) (record {
     sender-same = putBack-sender (recoveryLine t) m;
@@ -191,6 +205,7 @@ module _ (t : Table) where
   pub moved-order : (s : Step) (a b a′ b′ : ℕ) → a < b → b < messageCount t → MovedTo t s a a′ → MovedTo t s b b′ → a′ < b′
   unfolding moved
   moved-order (send j i) a b a′ b′ h l e f = omega (arith, same-position a a′ e, same-position b b′ f)
+  moved-order (receive i list) a b a′ b′ h l e f = omega (arith, same-position a a′ e, same-position b b′ f)
   moved-order (checkpoint i list) a b a′ b′ h l e f = omega (arith, same-position a a′ e, same-position b b′ f)
   moved-order rollback a b a′ b′ h l e f =
       let to = rolled-to t a a′ e in

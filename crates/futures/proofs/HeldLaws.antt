@@ -70,7 +70,7 @@ module _ (t : Table) (l : Line) (h : Held t l) where
       let one = minimum .one-of p in
       (one .0, one .1, one .3 ∙ sym (held-line p), λ q. omega (arith, held-line q, minimum .at-or-below (one .0) (one .1) (one .2) q))
 
--- ---- held lines before a send or a checkpoint
+-- ---- held lines before a send, a receipt or a checkpoint
 module _ (t t′ : Table) (w : WellFormed t) (g : Grown t t′) (l : Line) (h : Held t′ l) where
   -- what is consistent afterwards was so before
   consistent-before : (f : Line) → Consistent (t′ .messages) f → Consistent (t .messages) f

@@ -16,13 +16,13 @@ use native.Mathlib.Omega.{arith}
 use Rattle.consistency.specs.Ceilings.{recoveryLine, single}
 use Rattle.consistency.specs.Lines.{AtOrBelow, Line, asLine}
 use Rattle.futures.proofs.FutureLaws.{Grown, MovedTo, checkpoint-grown, followed-first, followed-here, moved-inside, rolled-message, rolled-to}
-use Rattle.futures.proofs.FutureLaws.{same-position, send-grown, step-keeps-count}
+use Rattle.futures.proofs.FutureLaws.{receipt-grown, same-position, send-grown, step-keeps-count}
 use Rattle.futures.proofs.HeldLaws.{Held, held-above, held-attained, held-before, set-held}
 use Rattle.futures.proofs.KeptLaws.{Across, HolderWith, keeps-checkpoint, keeps-message}
 use Rattle.futures.proofs.StepLaws.{putBack-before, recovery-latest, rollback-line, stays-sent, step-well-formed}
 use Rattle.futures.specs.Futures.{FollowedTo, Future, NeedsCheckpoint, NeedsMessage, StepKeeps, StillThere, at-position, endOf, moved}
 use Rattle.futures.specs.Sheet.{holderLine, keepsCheckpoint, keepsMessage}
-use Rattle.futures.specs.Steps.{Step, afterRollback, checkpoint, putBack, rollback, send, step}
+use Rattle.futures.specs.Steps.{Step, afterRollback, checkpoint, putBack, receive, rollback, send, step}
 use Rattle.run_table.specs.Checks.{WellFormed}
 use Rattle.run_table.specs.Table.{Message, Table, countOf, messageCount, messageOf}
 
@@ -70,15 +70,15 @@ module _ (t : Table) where
         let one = held-attained t (on .line) (on .held) w i (omega (arith, on .on-line)) in
         keeps-checkpoint t i c .1 (b, (one .0, one .1, one .2 ∙ on .on-line))
 
-    -- it was received before the count of its receiver, so the line there is below the count, and is some single holder's
+    -- it was received at the count of its receiver at the latest, so the line there is below the count, and is some single holder's
     pub open-kept : (k : ℕ) → k < messageCount t → Open t (messageOf t k) → keepsMessage t (messageOf t k) ≡ true
     open-kept k l (inl waits) = keeps-message t (messageOf t k) .1 (inl waits)
     open-kept k l (inr a) =
         let m = messageOf t k in
-        let one = held-attained t (a .line) (a .held) w (m .receiver) (omega (arith, a .across .1, w .good-messages k l .received-below)) in
+        let one = held-attained t (a .line) (a .held) w (m .receiver) (omega (arith, a .across .1, w .good-messages k l .received-within)) in
         keeps-message t m .1 (inr (one .0, one .1, (omega (arith, a .across .0, one .3 (m .sender)), omega (arith, a .across .1, one .2))))
 
--- ---- before a send or a checkpoint
+-- ---- before a send, a receipt or a checkpoint
 module _ (t t′ : Table) (w : WellFormed t) (g : Grown t t′) where
   grown-checkpoint : (i c : ℕ) → c < countOf t i → OnHeld t′ i c → OnHeld t i c
   grown-checkpoint i c b on = record {
@@ -134,6 +134,7 @@ module _ (t : Table) (w : WellFormed t) where
   pub checkpoint-back : (s : Step) (i c : ℕ) → c < countOf t i → StepKeeps t s i c → OnHeld (step t s) i c → OnHeld t i c
   unfolding StepKeeps
   checkpoint-back (send j i′) i c b keeps on = grown-checkpoint t (step t (send j i′)) w (send-grown t j i′) i c b on
+  checkpoint-back (receive i′ list) i c b keeps on = grown-checkpoint t (step t (receive i′ list)) w (receipt-grown t i′ list) i c b on
   checkpoint-back (checkpoint i′ list) i c b keeps on = grown-checkpoint t (step t (checkpoint i′ list)) w (checkpoint-grown t i′ list) i c b on
   checkpoint-back rollback i c b keeps on = unfold step in rolled-checkpoint t i c keeps on
 
@@ -144,6 +145,7 @@ module _ (t : Table) (w : WellFormed t) where
   pub message-back : (s : Step) (k n : ℕ) → k < messageCount t → MovedTo t s k n → Open (step t s) (messageOf (step t s) n) → Open t (messageOf t k)
   unfolding moved
   message-back (send j i) k n l e open′ = grown-back (step t (send j i)) (send-grown t j i) k n e l open′
+  message-back (receive i list) k n l e open′ = grown-back (step t (receive i list)) (receipt-grown t i list) k n e l open′
   message-back (checkpoint i list) k n l e open′ = grown-back (step t (checkpoint i list)) (checkpoint-grown t i list) k n e l open′
   message-back rollback k n l e open′ =
       let to = rolled-to t k n e in

@@ -3,12 +3,13 @@
 --     send-processes .. send-message-new               the table after a send
 --     send-each                                        what holds of the old messages and of the new one holds of all
 --     quiet-send, send-quiet                           what it means that nothing catches a send
---     Waiting, good-position, waiting-position         the positions that a checkpoint may list
+--     Waiting, good-position, waiting-position         the positions that a receipt or a checkpoint may list
 --     rising                                           the order of a list that is rising
---     checkpoint-processes .. checkpoint-message       the table after a checkpoint
---     receivedAt-listed .. receivedAt-receiver         its messages
---     checkpoint-each                                  what holds of the listed ones, received, and of the old ones holds of all
---     checkpoint-known .. checkpoint-quiet             what it means that nothing catches a checkpoint
+--     receivedAt-listed .. receivedAt-receiver         a message after it
+--     receipt-known .. receipt-quiet                   what it means that nothing catches it
+--     Receives, receipt-receives, checkpoint-receives  what both leave: the listed messages received, at no lower counts
+--     receives-messages .. receives-each               its messages; what holds of the listed ones, received, and of the old ones holds of all
+--     checkpoint-count-other, checkpoint-count-here    the counts after a checkpoint
 --     recovery-latest, recovery-length                 the recovery line
 --     putBack-after .. putBack-under, stays-sent       a message that is put back; one that stays
 --     rollback-processes .. rollback-fewer             the sizes and the counts after a rollback
@@ -25,7 +26,7 @@ use mathlib.Core.List.{List, [], _∷_, _++_, map}
 use mathlib.Core.Path.{_≡_, refl, ap, _∙_, subst, subst⁻¹}
 use Prim.Native.Nat.{ℕ, zero, suc, _+_, _-_, _≤_, _<_}
 use native.Mathlib.Decide.{decLt, ℕ-discrete}
-use native.Mathlib.Nat.{le-of-suc-le-suc, not-suc-le-zero}
+use native.Mathlib.Nat.{le-of-suc-le-suc, le-refl, not-suc-le-zero}
 use native.Mathlib.Omega.{arith}
 use borrow.Author.Tests.{eq-eqb, eqb-false, eqb-true, le-ltb, leb-false, lt-leb, lt-ltb, ltb-true, ne-eqb, not-false}
 use lib.Dec.{eqb, leb}
@@ -35,8 +36,8 @@ use Rattle.consistency.proofs.CeilingLaws.{ceiling-at, set-latest, set-length}
 use Rattle.consistency.proofs.LineLaws.{latest-same}
 use Rattle.consistency.specs.Ceilings.{ceilingOf, lineOf, recoveryLine}
 use Rattle.consistency.specs.Lines.{AtOrBelow, Latest, Orphan, asLine}
-use Rattle.futures.specs.Steps.{Step, afterCheckpoint, afterRollback, afterSend, badPosition, checkpoint, checkpointChecks, notRising, notRisingAfter}
-use Rattle.futures.specs.Steps.{putBack, receivedAt, remaining, rollback, send, sendChecks, stays, step, unlessCaught, waitsFor}
+use Rattle.futures.specs.Steps.{Step, afterCheckpoint, afterReceipt, afterRollback, afterSend, badPosition, checkpoint, notRising, notRisingAfter}
+use Rattle.futures.specs.Steps.{putBack, receiptChecks, receive, receivedAt, remaining, rollback, send, sendChecks, stays, step, unlessCaught, waitsFor}
 use Rattle.run_table.proofs.CheckLaws.{passed, quiet-cons, quiet-none}
 use Rattle.run_table.proofs.FormatLaws.{count-beyond, message-beyond}
 use Rattle.run_table.proofs.ListLaws.{and-left, and-right, any-none, getD-tabulate, length-tabulate, or-false-left, or-false-right}
@@ -98,7 +99,7 @@ module _ (t : Table) (j i : ℕ) where
       let known : (leb (processCount t) j || leb (processCount t) i) ≡ false = rw (lt-leb (processCount t) j lj) (lt-leb (processCount t) i li) in
       passed _ _ 0 known (passed _ _ 0 (ne-eqb j i two) quiet-none)
 
--- ---- the list of a checkpoint
+-- ---- the list of a receipt, or of a checkpoint
 -- The message at position k waits for process i.
 pub record Waiting (t : Table) (i k : ℕ) : Type 0 where
   pub a-message : k < messageCount t
@@ -154,29 +155,9 @@ rising (k ∷ rest) e a zero h l = absurd (not-suc-le-zero h)
 rising (k ∷ rest) e zero (suc b) h l = follows-above k rest e b (le-of-suc-le-suc l)
 rising (k ∷ rest) e (suc a) (suc b) h l = rising rest (follows-rising k rest e) a b (le-of-suc-le-suc h) (le-of-suc-le-suc l)
 
--- ---- checkpoint
+-- ---- receipt, and checkpoint
 module _ (t : Table) (i : ℕ) (list : List ℕ) where
-  pub checkpoint-processes : processCount (afterCheckpoint t i list) ≡ processCount t
-  unfolding afterCheckpoint processCount
-  checkpoint-processes = length-set (t .counts) i _
-
-  pub checkpoint-count-other : (p : ℕ) → (p ≡ i → ⊥) → countOf (afterCheckpoint t i list) p ≡ countOf t p
-  unfolding afterCheckpoint countOf
-  checkpoint-count-other p other = getD-set-other (t .counts) i p _ 0 other
-
-  pub checkpoint-count-here : i < processCount t → countOf (afterCheckpoint t i list) i ≡ countOf t i + 1
-  unfolding afterCheckpoint countOf processCount
-  checkpoint-count-here l = getD-set-same (t .counts) i _ 0 l
-
-  pub checkpoint-messages : messageCount (afterCheckpoint t i list) ≡ messageCount t
-  unfolding afterCheckpoint messageCount
-  checkpoint-messages = length-tabulate (length (t .messages)) (receivedAt t i list)
-
-  pub checkpoint-message : (k : ℕ) → k < messageCount t → messageOf (afterCheckpoint t i list) k ≡ receivedAt t i list k
-  unfolding afterCheckpoint messageOf
-  checkpoint-message k l = getD-tabulate (messageCount t) (receivedAt t i list) k noMessage l
-
-  -- a listed message is received at the old count, and any other stays as it is
+  -- a listed message is received at the count, and any other stays as it is
   module _ (k : ℕ) where
     pub receivedAt-listed : any (eqb k) list ≡ true → receivedAt t i list k ≡ withReceipt (messageOf t k) (countOf t i)
     unfolding receivedAt
@@ -203,44 +184,78 @@ module _ (t : Table) (i : ℕ) (list : List ℕ) where
     pub receivedAt-receiver : receivedAt t i list k .receiver ≡ messageOf t k .receiver
     receivedAt-receiver = receivedAt-cases (λ m. m .receiver ≡ messageOf t k .receiver) (λ _. refl) refl
 
-  pub checkpoint-each : (P : Message → Type 0)
-      → ((k : ℕ) → k < messageCount t → any (eqb k) list ≡ true → P (withReceipt (messageOf t k) (countOf t i)))
-      → ((k : ℕ) → k < messageCount t → P (messageOf t k)) → (k : ℕ) → k < messageCount (afterCheckpoint t i list)
-      → P (messageOf (afterCheckpoint t i list) k)
-  checkpoint-each P listed unlisted k l =
-      let b : k < messageCount t = omega (arith, checkpoint-messages) in
-      subst⁻¹ P (checkpoint-message k b) (receivedAt-cases k P (listed k b) (unlisted k b))
-
-  module _ (quiet : firstCaught (checkpointChecks t i list) ≡ 0) where
+  module _ (quiet : firstCaught (receiptChecks t i list) ≡ 0) where
     quiet-list : (leb (processCount t) i ≡ false) × ((any (badPosition t i) list || notRising list) ≡ false)
-    unfolding checkpointChecks
+    unfolding receiptChecks
     quiet-list =
         let known = quiet-cons _ _ (omega arith) quiet in
         (known .0, quiet-cons _ _ (omega arith) (known .1) .0)
 
-    pub checkpoint-known : i < processCount t
-    checkpoint-known = leb-false (processCount t) i (quiet-list .0)
+    pub receipt-known : i < processCount t
+    receipt-known = leb-false (processCount t) i (quiet-list .0)
 
-    pub checkpoint-positions : any (badPosition t i) list ≡ false
-    checkpoint-positions = or-false-left (any (badPosition t i) list) (notRising list) (quiet-list .1)
+    pub receipt-positions : any (badPosition t i) list ≡ false
+    receipt-positions = or-false-left (any (badPosition t i) list) (notRising list) (quiet-list .1)
 
-    pub checkpoint-waiting : (k : ℕ) → any (eqb k) list ≡ true → Waiting t i k
-    checkpoint-waiting k listed = good-position t i k (listed-fails (badPosition t i) list checkpoint-positions k listed)
+    pub receipt-waiting : (k : ℕ) → any (eqb k) list ≡ true → Waiting t i k
+    receipt-waiting k listed = good-position t i k (listed-fails (badPosition t i) list receipt-positions k listed)
 
-  pub checkpoint-quiet : i < processCount t → ((a : ℕ) → a < length list → Waiting t i (getD list a 0)) → notRising list ≡ false
-      → firstCaught (checkpointChecks t i list) ≡ 0
-  unfolding checkpointChecks
-  checkpoint-quiet known waiting up =
+  pub receipt-quiet : i < processCount t → ((a : ℕ) → a < length list → Waiting t i (getD list a 0)) → notRising list ≡ false
+      → firstCaught (receiptChecks t i list) ≡ 0
+  unfolding receiptChecks
+  receipt-quiet known waiting up =
       let good : any (badPosition t i) list ≡ false = any-none (badPosition t i) list 0 (λ a l. waiting-position t i (getD list a 0) (waiting a l)) in
       let good-list : (any (badPosition t i) list || notRising list) ≡ false = rw good up in
       passed _ _ 0 (lt-leb (processCount t) i known) (passed _ _ 0 good-list quiet-none)
 
-  pub checkpoint-grows : i < processCount t → (p : ℕ) → countOf t p ≤ countOf (afterCheckpoint t i list) p
-  checkpoint-grows known p = go (ℕ-discrete p i)
+-- What a receipt and a checkpoint leave: the messages of the receipt, as many processes, and no lower count.
+pub record Receives (t : Table) (i : ℕ) (list : List ℕ) (t′ : Table) : Type 0 where
+  pub same-processes : processCount t′ ≡ processCount t
+  pub counts-grow : (p : ℕ) → countOf t p ≤ countOf t′ p
+  pub messages-are : t′ .messages ≡ afterReceipt t i list .messages
+
+module _ {t : Table} {i : ℕ} {list : List ℕ} {t′ : Table} (r : Receives t i list t′) where
+  pub receives-messages : messageCount t′ ≡ messageCount t
+  unfolding messageCount afterReceipt
+  receives-messages = ap length (r .messages-are) ∙ length-tabulate (length (t .messages)) (receivedAt t i list)
+
+  pub receives-message : (k : ℕ) → k < messageCount t → messageOf t′ k ≡ receivedAt t i list k
+  unfolding messageOf afterReceipt
+  receives-message k l =
+      ap (λ (ms : List Message). getD ms k noMessage) (r .messages-are) ∙ getD-tabulate (messageCount t) (receivedAt t i list) k noMessage l
+
+  pub receives-each : (P : Message → Type 0)
+      → ((k : ℕ) → k < messageCount t → any (eqb k) list ≡ true → P (withReceipt (messageOf t k) (countOf t i)))
+      → ((k : ℕ) → k < messageCount t → P (messageOf t k)) → (k : ℕ) → k < messageCount t′ → P (messageOf t′ k)
+  receives-each P listed unlisted k l =
+      let b : k < messageCount t = omega (arith, receives-messages) in
+      subst⁻¹ P (receives-message k b) (receivedAt-cases t i list k P (listed k b) (unlisted k b))
+
+module _ (t : Table) (i : ℕ) (list : List ℕ) where
+  pub receipt-receives : Receives t i list (afterReceipt t i list)
+  unfolding afterReceipt processCount countOf
+  receipt-receives = record { same-processes = refl; counts-grow = λ p. le-refl (countOf t p); messages-are = refl }
+
+  pub checkpoint-count-other : (p : ℕ) → (p ≡ i → ⊥) → countOf (afterCheckpoint t i list) p ≡ countOf t p
+  unfolding afterCheckpoint countOf
+  checkpoint-count-other p other = getD-set-other (t .counts) i p _ 0 other
+
+  pub checkpoint-count-here : i < processCount t → countOf (afterCheckpoint t i list) i ≡ countOf t i + 1
+  unfolding afterCheckpoint countOf processCount
+  checkpoint-count-here l = getD-set-same (t .counts) i _ 0 l
+
+  pub checkpoint-receives : Receives t i list (afterCheckpoint t i list)
+  unfolding afterCheckpoint processCount
+  checkpoint-receives = record {
+    same-processes = length-set (t .counts) i _;
+    counts-grow = λ p. grows p (ℕ-discrete p i) (decLt i (processCount t));
+    messages-are = refl;
+  }
     where
-      go : Dec (p ≡ i) → countOf t p ≤ countOf (afterCheckpoint t i list) p
-      go (yes e) = subst⁻¹ (λ (q : ℕ). countOf t q ≤ countOf (afterCheckpoint t i list) q) e (omega (arith, checkpoint-count-here known))
-      go (no e) = omega (arith, checkpoint-count-other p e)
+      grows : (p : ℕ) → Dec (p ≡ i) → Dec (i < processCount t) → countOf t p ≤ countOf (afterCheckpoint t i list) p
+      grows p (yes e) (yes l) = subst⁻¹ (λ (q : ℕ). countOf t q ≤ countOf (afterCheckpoint t i list) q) e (omega (arith, checkpoint-count-here l))
+      grows p (yes e) (no l) = omega (arith, count-beyond t p (omega arith))
+      grows p (no e) l = omega (arith, checkpoint-count-other p e)
 
 -- ---- the recovery line
 module _ (t : Table) where
@@ -449,7 +464,7 @@ still-good t t′ m n c g = record {
   receiver-known = omega (arith, g .receiver-known);
   two-processes = g .two-processes;
   sent-below = omega (arith, g .sent-below, c (m .sender));
-  received-below = omega (arith, g .received-below, c (m .receiver));
+  received-within = omega (arith, g .received-within, c (m .receiver));
 }
 
 pub send-well-formed : (t : Table) (j i : ℕ) → WellFormed t → firstCaught (sendChecks t j i) ≡ 0 → WellFormed (afterSend t j i)
@@ -473,37 +488,29 @@ send-well-formed t j i w quiet = record {
           receiver-known = omega (arith, names .1, send-processes t j i);
           two-processes = names .2;
           sent-below = omega (arith, w .some-checkpoint j (names .0), same j);
-          received-below = omega (arith, w .some-checkpoint i (names .1), same i);
+          received-within = omega arith;
         }
 
-pub checkpoint-well-formed : (t : Table) (i : ℕ) (list : List ℕ) → WellFormed t → firstCaught (checkpointChecks t i list) ≡ 0
-    → WellFormed (afterCheckpoint t i list)
-checkpoint-well-formed t i list w quiet = record {
-  some-process = omega (arith, checkpoint-processes t i list, w .some-process);
-  some-checkpoint = λ p l. omega (arith, grows p, w .some-checkpoint p (omega (arith, checkpoint-processes t i list)));
-  good-messages = checkpoint-each t i list (GoodMessage after) listed good;
+-- a listed message is received at the count, and any other as before
+pub receives-well-formed : {t : Table} {i : ℕ} {list : List ℕ} {t′ : Table} → Receives t i list t′ → WellFormed t
+    → firstCaught (receiptChecks t i list) ≡ 0 → WellFormed t′
+receives-well-formed {t} {i} {list} {t′} r w quiet = record {
+  some-process = omega (arith, r .same-processes, w .some-process);
+  some-checkpoint = λ p l. omega (arith, r .counts-grow p, w .some-checkpoint p (omega (arith, r .same-processes)));
+  good-messages = receives-each r (GoodMessage t′) listed good;
 }
   where
-    after : Table
-    after = afterCheckpoint t i list
+    good : (k : ℕ) → k < messageCount t → GoodMessage t′ (messageOf t k)
+    good k l = still-good t t′ (messageOf t k) (r .same-processes) (r .counts-grow) (w .good-messages k l)
 
-    known : i < processCount t
-    known = checkpoint-known t i list quiet
-
-    grows : (p : ℕ) → countOf t p ≤ countOf after p
-    grows = checkpoint-grows t i list known
-
-    good : (k : ℕ) → k < messageCount t → GoodMessage after (messageOf t k)
-    good k l = still-good t after (messageOf t k) (checkpoint-processes t i list) grows (w .good-messages k l)
-
-    listed : (k : ℕ) → k < messageCount t → any (eqb k) list ≡ true → GoodMessage after (withReceipt (messageOf t k) (countOf t i))
+    listed : (k : ℕ) → k < messageCount t → any (eqb k) list ≡ true → GoodMessage t′ (withReceipt (messageOf t k) (countOf t i))
     listed k l e = record {
       sender-known = good k l .sender-known;
       receiver-known = good k l .receiver-known;
       two-processes = good k l .two-processes;
       sent-below = good k l .sent-below;
-      received-below = subst⁻¹ (λ (q : ℕ). countOf t i < countOf after q) (checkpoint-waiting t i list quiet k e .to-process)
-          (omega (arith, checkpoint-count-here t i list known));
+      received-within =
+          subst⁻¹ (λ (q : ℕ). countOf t i ≤ countOf t′ q) (receipt-waiting t i list quiet k e .to-process) (r .counts-grow i);
     }
 
 -- a message that remains was sent below the line, and is undelivered or was received at or below it
@@ -525,13 +532,16 @@ rollback-well-formed t w = record {
           receiver-known = omega (arith, g .receiver-known, rollback-processes t);
           two-processes = g .two-processes;
           sent-below = omega (arith, stays-sent (recoveryLine t) m e, rollback-count t (m .sender) (g .sender-known));
-          received-below = omega (arith, rollback-count t (m .receiver) (g .receiver-known));
+          received-within = omega (arith, rollback-count t (m .receiver) (g .receiver-known));
         }
 
 pub step-well-formed : (t : Table) → WellFormed t → (s : Step) → WellFormed (step t s)
 unfolding step
 step-well-formed t w (send j i) = step-cases (sendChecks t j i) (afterSend t j i) t WellFormed (send-well-formed t j i w) w
-step-well-formed t w (checkpoint i list) = step-cases (checkpointChecks t i list) (afterCheckpoint t i list) t WellFormed (checkpoint-well-formed t i list w) w
+step-well-formed t w (receive i list) =
+    step-cases (receiptChecks t i list) (afterReceipt t i list) t WellFormed (receives-well-formed (receipt-receives t i list) w) w
+step-well-formed t w (checkpoint i list) =
+    step-cases (receiptChecks t i list) (afterCheckpoint t i list) t WellFormed (receives-well-formed (checkpoint-receives t i list) w) w
 step-well-formed t w rollback = rollback-well-formed t w
 
 -- ---- limits
@@ -542,11 +552,20 @@ send-limits t j i limits room = record {
   counts-limit = λ p l. omega (arith, send-count t j i p, limits .counts-limit p (omega (arith, send-processes t j i)));
 }
 
+-- a receipt leaves the counts
+pub receipt-limits : (t : Table) (i : ℕ) (list : List ℕ) → Limits t → Limits (afterReceipt t i list)
+unfolding afterReceipt processCount countOf
+receipt-limits t i list limits = record {
+  processes-limit = limits .processes-limit;
+  messages-limit = omega (arith, receives-messages (receipt-receives t i list), limits .messages-limit);
+  counts-limit = limits .counts-limit;
+}
+
 pub checkpoint-limits : (t : Table) (i : ℕ) (list : List ℕ) → Limits t → countOf t i < mostCheckpoints → Limits (afterCheckpoint t i list)
 checkpoint-limits t i list limits room = record {
-  processes-limit = omega (arith, checkpoint-processes t i list, limits .processes-limit);
-  messages-limit = omega (arith, checkpoint-messages t i list, limits .messages-limit);
-  counts-limit = λ p l. by-place p (omega (arith, checkpoint-processes t i list)) (ℕ-discrete p i);
+  processes-limit = omega (arith, checkpoint-receives t i list .same-processes, limits .processes-limit);
+  messages-limit = omega (arith, receives-messages (checkpoint-receives t i list), limits .messages-limit);
+  counts-limit = λ p l. by-place p (omega (arith, checkpoint-receives t i list .same-processes)) (ℕ-discrete p i);
 }
   where
     by-place : (p : ℕ) → p < processCount t → Dec (p ≡ i) → countOf (afterCheckpoint t i list) p ≤ mostCheckpoints
@@ -589,16 +608,15 @@ module _ (t : Table) where
       no-higher (afterSend t j i) (λ p. omega (arith, recovery-latest t .under p, send-count t j i p))
       (send-each t j i NoOrphan (λ k _. no-orphan-of k) (λ o. omega (arith, o .delivered)))
 
-  -- a listed message is received at the old count, which is above the line
-  checkpoint-no-higher : (i : ℕ) (list : List ℕ) → firstCaught (checkpointChecks t i list) ≡ 0
-      → AtOrBelow (asLine (recoveryLine t)) (asLine (recoveryLine (afterCheckpoint t i list)))
-  checkpoint-no-higher i list quiet =
-      no-higher (afterCheckpoint t i list)
-      (λ p. omega (arith, recovery-latest t .under p, checkpoint-grows t i list (checkpoint-known t i list quiet) p))
-      (checkpoint-each t i list NoOrphan
+  -- a listed message is received at the count, which is above the line
+  receives-no-higher : (i : ℕ) (list : List ℕ) (t′ : Table) → Receives t i list t′ → firstCaught (receiptChecks t i list) ≡ 0
+      → AtOrBelow (asLine (recoveryLine t)) (asLine (recoveryLine t′))
+  receives-no-higher i list t′ r quiet =
+      no-higher t′ (λ p. omega (arith, recovery-latest t .under p, r .counts-grow p))
+      (receives-each r NoOrphan
       (λ k _ listed o.
       let here : countOf t i ≤ asLine (recoveryLine t) i =
-      subst (λ (q : ℕ). countOf t i ≤ asLine (recoveryLine t) q) (checkpoint-waiting t i list quiet k listed .to-process) (o .received-before)
+      subst (λ (q : ℕ). countOf t i ≤ asLine (recoveryLine t) q) (receipt-waiting t i list quiet k listed .to-process) (o .received-before)
       in
       omega (arith, o .delivered, recovery-latest t .under i))
       (λ k _. no-orphan-of k))
@@ -617,7 +635,10 @@ module _ (t : Table) where
   line-never-back (send j i) p =
       step-cases (sendChecks t j i) (afterSend t j i) t (λ t′. asLine (recoveryLine t) p ≤ asLine (recoveryLine t′) p)
       (λ _. send-no-higher j i p) (omega arith)
+  line-never-back (receive i list) p =
+      step-cases (receiptChecks t i list) (afterReceipt t i list) t (λ t′. asLine (recoveryLine t) p ≤ asLine (recoveryLine t′) p)
+      (λ quiet. receives-no-higher i list (afterReceipt t i list) (receipt-receives t i list) quiet p) (omega arith)
   line-never-back (checkpoint i list) p =
-      step-cases (checkpointChecks t i list) (afterCheckpoint t i list) t (λ t′. asLine (recoveryLine t) p ≤ asLine (recoveryLine t′) p)
-      (λ quiet. checkpoint-no-higher i list quiet p) (omega arith)
+      step-cases (receiptChecks t i list) (afterCheckpoint t i list) t (λ t′. asLine (recoveryLine t) p ≤ asLine (recoveryLine t′) p)
+      (λ quiet. receives-no-higher i list (afterCheckpoint t i list) (checkpoint-receives t i list) quiet p) (omega arith)
   line-never-back rollback p = rollback-no-higher p

@@ -23,12 +23,12 @@ use Rattle.consistency.specs.Ceilings.{Holders, ceilingOf, lineOf, recoveryLine
 use Rattle.consistency.specs.Lines.{asLine}
 use Rattle.consistency.specs.Lowering.{lineUnder}
 use Rattle.futures.proofs.KeptLaws.{Across, HolderWith, keeps-checkpoint, keeps-message}
-use Rattle.futures.proofs.StepLaws.{checkpoint-count-here, checkpoint-count-other, checkpoint-message, checkpoint-messages, checkpoint-processes}
-use Rattle.futures.proofs.StepLaws.{checkpoint-quiet, receivedAt-unlisted, step-taken}
+use Rattle.futures.proofs.StepLaws.{checkpoint-count-here, checkpoint-count-other, checkpoint-receives, receipt-quiet, receivedAt-unlisted}
+use Rattle.futures.proofs.StepLaws.{receives-message, receives-messages, step-taken}
 use Rattle.futures.specs.Futures.{CheckpointNeeded, FollowedTo, Future, MessageNeeded, NeedsCheckpoint, NeedsMessage, StepKeeps, StillThere, endOf}
 use Rattle.futures.specs.Futures.{moved, placeOf}
 use Rattle.futures.specs.Sheet.{holderLine, keepsCheckpoint, keepsMessage}
-use Rattle.futures.specs.Steps.{afterCheckpoint, checkpoint, checkpointChecks, notRising, step}
+use Rattle.futures.specs.Steps.{afterCheckpoint, checkpoint, notRising, receiptChecks, step}
 use Rattle.run_table.specs.Checks.{WellFormed}
 use Rattle.run_table.specs.Lists.{any}
 use Rattle.run_table.specs.Table.{Message, Table, countOf, messageCount, messageOf, noMessage, processCount}
@@ -43,15 +43,16 @@ module _ (t : Table) (i : ℕ) (known : i < processCount t) where
   alone : step t (checkpoint i []) ≡ afterCheckpoint t i []
   unfolding step notRising
   alone =
-      step-taken (checkpointChecks t i []) (afterCheckpoint t i []) t (checkpoint-quiet t i [] known (λ a l. absurd (not-suc-le-zero l)) refl)
+      step-taken (receiptChecks t i []) (afterCheckpoint t i []) t (receipt-quiet t i [] known (λ a l. absurd (not-suc-le-zero l)) refl)
 
   alone-messages : afterCheckpoint t i [] .messages ≡ t .messages
   unfolding messageCount messageOf any
   alone-messages =
-      ext-getD noMessage (afterCheckpoint t i [] .messages) (t .messages) (checkpoint-messages t i [])
+      let after = checkpoint-receives t i [] in
+      ext-getD noMessage (afterCheckpoint t i [] .messages) (t .messages) (receives-messages after)
       (λ k l.
-      let inside : k < messageCount t = omega (arith, checkpoint-messages t i []) in
-      checkpoint-message t i [] k inside ∙ receivedAt-unlisted t i [] k refl)
+      let inside : k < messageCount t = omega (arith, receives-messages after) in
+      receives-message after k inside ∙ receivedAt-unlisted t i [] k refl)
 
 -- ---- all of them
 -- A future after which each process below n outside the set has one checkpoint more, and everything else is as it was, in its place.
@@ -84,7 +85,7 @@ module _ (holds : Holders) where
       → Waited holds (suc n) t (checkpoint n [] ∷ future)
   unfolding endOf StepKeeps StillThere FollowedTo placeOf moved
   other-checkpoints n t future h known a = record {
-    same-processes = ap (λ (x : Table). processCount (endOf x future)) (alone t n known) ∙ a .same-processes ∙ checkpoint-processes t n [];
+    same-processes = ap (λ (x : Table). processCount (endOf x future)) (alone t n known) ∙ a .same-processes ∙ checkpoint-receives t n [] .same-processes;
     same-messages = ap (λ (x : Table). endOf x future .messages) (alone t n known) ∙ a .same-messages ∙ alone-messages t n known;
     counts-below = λ p l. count p ∙ go p l (ℕ-discrete p n);
     counts-beyond = λ p l. count p ∙ a .counts-beyond p (omega arith) ∙ checkpoint-count-other t n [] p (omega arith);
@@ -115,7 +116,7 @@ module _ (holds : Holders) where
     all-followed = λ k. refl;
   }
   others-end (suc n) t l =
-      go (holds n) refl (others-end n t (omega arith)) (others-end n (afterCheckpoint t n []) (omega (arith, checkpoint-processes t n [])))
+      go (holds n) refl (others-end n t (omega arith)) (others-end n (afterCheckpoint t n []) (omega (arith, checkpoint-receives t n [] .same-processes)))
     where
       go : (b : Bool) → holds n ≡ b → Waited holds n t (othersCheckpoint holds n) → Waited holds n (afterCheckpoint t n []) (othersCheckpoint holds n)
           → Waited holds (suc n) t (cond b (othersCheckpoint holds n) (checkpoint n [] ∷ othersCheckpoint holds n))

@@ -9,7 +9,7 @@ use Prim.Native.Nat.{ℕ, _≤_, _<_}
 use lib.ListN.{length, take}
 use Rattle.consistency.specs.Ceilings.{recoveryLine}
 use Rattle.consistency.specs.Lines.{asLine}
-use Rattle.futures.specs.Steps.{Step, checkpoint, remaining, rollback, send, stays, step}
+use Rattle.futures.specs.Steps.{Step, checkpoint, receive, remaining, rollback, send, stays, step}
 use Rattle.run_table.specs.Table.{Table, countOf, messageCount, messageOf}
 
 -- A future: any finite list of steps, the empty one included.
@@ -25,6 +25,7 @@ endOf t (s ∷ rest) = endOf (step t s) rest
 -- A rollback keeps checkpoint c of process i unless it goes to a line below c at i. Other steps keep every checkpoint.
 unfoldable pub StepKeeps : Table → Step → ℕ → ℕ → Type 0
 StepKeeps t (send j i′) i c = Unit {0}
+StepKeeps t (receive i′ list) i c = Unit {0}
 StepKeeps t (checkpoint i′ list) i c = Unit {0}
 StepKeeps t rollback i c = c ≤ asLine (recoveryLine t) i
 
@@ -43,6 +44,7 @@ pub data Place : Type 0 where
 -- leave it.
 unfoldable pub moved : Table → Step → ℕ → Place
 moved t (send j i) k = at-position k
+moved t (receive i list) k = at-position k
 moved t (checkpoint i list) k = at-position k
 moved t rollback k =
     cond (stays (recoveryLine t) (messageOf t k))

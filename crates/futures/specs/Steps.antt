@@ -1,6 +1,6 @@
--- Send, checkpoint (save) and rollback (fall back) on tables (docs/MANUAL.md, "Steps"). The same steps serve the calls
--- and the futures. They are total: a step that is caught gives the table back. Numbers have no upper bound. Assumes
--- nothing.
+-- Send, receive, checkpoint (save) and rollback (fall back) on tables (docs/MANUAL.md, "Steps"). The same steps serve
+-- the calls and the futures. They are total: a step that is caught gives the table back. Numbers have no upper bound.
+-- Assumes nothing.
 use mathlib.Core.Bool.{Bool, cond, false, not, _&&_, _||_}
 use mathlib.Core.List.{List, [], _∷_, _++_, map}
 use Prim.Native.Nat.{ℕ, _+_, _-_}
@@ -12,10 +12,11 @@ use Rattle.run_table.specs.Checks.{Check, firstCaught}
 use Rattle.run_table.specs.Lists.{any, tabulate}
 use Rattle.run_table.specs.Table.{Message, Table, countOf, messageCount, messageOf, processCount}
 
--- A step: a send from one process to another, a checkpoint of a process after receiving the messages at a list of
--- positions, or a rollback of the whole run to its recovery line.
+-- A step: a send from one process to another; a receipt, by a process, of the messages at a list of positions; a
+-- checkpoint of a process after it received such messages; or a rollback of the whole run to its recovery line.
 pub data Step : Type 0 where
   send : ℕ → ℕ → Step
+  receive : ℕ → List ℕ → Step
   checkpoint : ℕ → List ℕ → Step
   rollback : Step
 
@@ -34,8 +35,8 @@ afterSend t j i = record {
   messages = t .messages ++ (record { sender = j; sent = countOf t j - 1; receiver = i; received = 0 } ∷ []);
 }
 
--- ---- checkpoint
--- A message waits for a process: it goes there and is undelivered.
+-- ---- receive
+-- A message waits for a process: it goes there and is undelivered. One that was received waits no more, saved or not.
 unfoldable pub waitsFor : ℕ → Message → Bool
 waitsFor i m = eqb (m .receiver) i && eqb (m .received) 0
 
@@ -52,26 +53,35 @@ unfoldable pub notRising : List ℕ → Bool
 notRising [] = false
 notRising (k ∷ rest) = notRisingAfter k rest
 
--- 10. The process is N or above. 13. The list has a position of M or above, or not above the one before it, or of a
--- message not waiting for that process.
-unfoldable pub checkpointChecks : Table → ℕ → List ℕ → List Check
-checkpointChecks t i list =
+-- Of a receipt and of a checkpoint: 10. The process is N or above. 13. The list has a position of M or above, or not
+-- above the one before it, or of a message not waiting for that process.
+unfoldable pub receiptChecks : Table → ℕ → List ℕ → List Check
+receiptChecks t i list =
     record { caught = leb (processCount t) i; number = 10 }
     ∷ record { caught = any (badPosition t i) list || notRising list; number = 13 }
     ∷ []
 
--- A message after the checkpoint: the receipt number of a listed one becomes the old count of the process.
+-- A message after the receipt: the receipt number of a listed one becomes the count of the process.
 unfoldable pub receivedAt : Table → ℕ → List ℕ → ℕ → Message
 receivedAt t i list k =
     let m = messageOf t k in
     cond (any (eqb k) list)
     (record { sender = m .sender; sent = m .sent; receiver = m .receiver; received = countOf t i }) m
 
--- The listed messages are received, and the count grows by one.
+-- The listed messages are received, and unsaved as yet: nothing else changes.
+unfoldable pub afterReceipt : Table → ℕ → List ℕ → Table
+afterReceipt t i list = record {
+  counts = t .counts;
+  messages = tabulate (messageCount t) (receivedAt t i list);
+}
+
+-- ---- checkpoint
+-- The listed messages are received, and the count grows by one: what was received since the last checkpoint, with the
+-- old count as its receipt number, is saved thereby.
 unfoldable pub afterCheckpoint : Table → ℕ → List ℕ → Table
 afterCheckpoint t i list = record {
   counts = set (t .counts) i (countOf t i + 1);
-  messages = tabulate (messageCount t) (receivedAt t i list);
+  messages = afterReceipt t i list .messages;
 }
 
 -- ---- rollback
@@ -79,7 +89,7 @@ afterCheckpoint t i list = record {
 unfoldable pub stays : List ℕ → Message → Bool
 stays l m = ltb (m .sent) (asLine l (m .sender))
 
--- One that was received after the line is undelivered again.
+-- One that was received after the line, the unsaved ones among them, is undelivered again.
 unfoldable pub putBack : List ℕ → Message → Message
 putBack l m =
     cond (ltb (asLine l (m .receiver)) (m .received))
@@ -104,5 +114,6 @@ unlessCaught checks after before = cond (eqb (firstCaught checks) 0) after befor
 
 unfoldable pub step : Table → Step → Table
 step t (send j i) = unlessCaught (sendChecks t j i) (afterSend t j i) t
-step t (checkpoint i list) = unlessCaught (checkpointChecks t i list) (afterCheckpoint t i list) t
+step t (receive i list) = unlessCaught (receiptChecks t i list) (afterReceipt t i list) t
+step t (checkpoint i list) = unlessCaught (receiptChecks t i list) (afterCheckpoint t i list) t
 step t rollback = afterRollback t

@@ -222,7 +222,7 @@ module _ {table first roots start buffer : List ℕ} {marked : Bool} {m : ℕ} {
   receiver-few = process-few (x .passing .lent) i receiver-known
 
   received-there : r ≤ countOf t′ i
-  received-there = omega (arith, r-is, ap (countOf t′) i-is, good-here′ .received-below)
+  received-there = omega (arith, r-is, ap (countOf t′) i-is, good-here′ .received-within)
 
   -- the bit of its receipt
   module _ {b : ℕ} (b-is : b ≡ getD first i 0 + r) where

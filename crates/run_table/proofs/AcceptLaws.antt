@@ -45,7 +45,7 @@ module _ (t : Table) (m : Message) where
     receiver-known = leb-false (processCount t) (m .receiver) (or-false-right (leb (processCount t) (m .sender)) (leb (processCount t) (m .receiver)) e6);
     two-processes = eqb-false (m .sender) (m .receiver) e7;
     sent-below = leb-false (countOf t (m .sender)) (m .sent) e8;
-    received-below = leb-false (countOf t (m .receiver)) (m .received) e9;
+    received-within = ltb-false (countOf t (m .receiver)) (m .received) e9;
   }
 
   module _ (g : GoodMessage t m) where
@@ -63,7 +63,7 @@ module _ (t : Table) (m : Message) where
 
     good-receipt : badReceipt t m ≡ false
     unfolding badReceipt
-    good-receipt = lt-leb (countOf t (m .receiver)) (m .received) (g .received-below)
+    good-receipt = le-ltb (countOf t (m .receiver)) (m .received) (g .received-within)
 
 module _ (bytes : List ℕ) where
   abbrev t : Table
@@ -175,7 +175,7 @@ module _ (t : Table) (w : WellFormed t) (l : Limits t) where
     senders-fit = λ k b. omega (arith, w .good-messages k b, l .processes-limit);
     sent-fit = λ k b. omega (arith, w .good-messages k b .sent-below, count-small (messageOf t k .sender) (w .good-messages k b .sender-known));
     receivers-fit = λ k b. omega (arith, w .good-messages k b, l .processes-limit);
-    received-fit = λ k b. omega (arith, w .good-messages k b .received-below, count-small (messageOf t k .receiver) (w .good-messages k b .receiver-known));
+    received-fit = λ k b. omega (arith, w .good-messages k b .received-within, count-small (messageOf t k .receiver) (w .good-messages k b .receiver-known));
   }
 
   pub reread : decode (encode t) ≡ t

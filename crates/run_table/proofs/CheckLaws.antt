@@ -20,7 +20,7 @@ use Rattle.run_table.specs.Checks.{tableChecks, tableRefusal, toItself, 
 use Rattle.run_table.specs.Format.{checkpointAt, countAt, countsAt, countsPart, decode, messageAt, messagesIn}
 use Rattle.run_table.specs.Format.{processAt, processesIn, receiptsAt, receiptsPart, sendsAt, sendsPart, tableLength}
 use Rattle.run_table.specs.Lists.{any, anyBelow}
-use Rattle.run_table.specs.Parts.{badCountAt, notBelowAt, partsRefusal, toItselfAt, unknownAt}
+use Rattle.run_table.specs.Parts.{aboveAt, badCountAt, notBelowAt, partsRefusal, toItselfAt, unknownAt}
 use Rattle.run_table.specs.Table.{Message, Table, countOf, mostMessages, mostProcesses, processCount}
 
 -- a check that catches nothing is passed over; one that catches gives its number; a list that ends gives 0
@@ -167,25 +167,26 @@ module _ (bytes : List ℕ) where
 
   -- the count of a known process is that of the bytes
   count-at : (part : List ℕ) → anyBelow M (unknownAt N part) ≡ false → (k : ℕ) → k < M
-      → leb (countOf t (processAt part k)) (checkpointAt part k) ≡ notBelowAt (countsPart bytes) part k
-  unfolding notBelowAt unknownAt
+      → countOf t (processAt part k) ≡ countAt (countsPart bytes) (processAt part k)
+  unfolding unknownAt
   count-at part none k l =
-      ap (λ (n : ℕ). leb n (checkpointAt part k))
-      (decode-count bytes (processAt part k) (leb-false N (processAt part k) (none-below (unknownAt N part) M none k l)))
+      decode-count bytes (processAt part k) (leb-false N (processAt part k) (none-below (unknownAt N part) M none k l))
 
   check-8 : anyBelow M (unknownAt N (sendsPart bytes)) ≡ false
       → any (badSend t) (t .messages) ≡ anyBelow M (notBelowAt (countsPart bytes) (sendsPart bytes))
-  unfolding badSend messageAt
+  unfolding badSend messageAt notBelowAt
   check-8 none =
       any-message (badSend t)
-      ∙ anyBelow-ext (λ k. badSend t (message k)) (notBelowAt (countsPart bytes) (sendsPart bytes)) M (count-at (sendsPart bytes) none)
+      ∙ anyBelow-ext (λ k. badSend t (message k)) (notBelowAt (countsPart bytes) (sendsPart bytes)) M
+      (λ k l. ap (λ (c : ℕ). leb c (checkpointAt (sendsPart bytes) k)) (count-at (sendsPart bytes) none k l))
 
   check-9 : anyBelow M (unknownAt N (receiptsPart bytes)) ≡ false
-      → any (badReceipt t) (t .messages) ≡ anyBelow M (notBelowAt (countsPart bytes) (receiptsPart bytes))
-  unfolding badReceipt messageAt
+      → any (badReceipt t) (t .messages) ≡ anyBelow M (aboveAt (countsPart bytes) (receiptsPart bytes))
+  unfolding badReceipt messageAt aboveAt
   check-9 none =
       any-message (badReceipt t)
-      ∙ anyBelow-ext (λ k. badReceipt t (message k)) (notBelowAt (countsPart bytes) (receiptsPart bytes)) M (count-at (receiptsPart bytes) none)
+      ∙ anyBelow-ext (λ k. badReceipt t (message k)) (aboveAt (countsPart bytes) (receiptsPart bytes)) M
+      (λ k l. ap (λ (c : ℕ). ltb c (checkpointAt (receiptsPart bytes) k)) (count-at (receiptsPart bytes) none k l))
 
   -- where the sizes are right, the refusal is that of the parts
   parts-refusal : tooShort bytes ≡ false → badProcessCount bytes ≡ false → tooManyMessages bytes ≡ false → badLength bytes ≡ false

@@ -2,6 +2,7 @@
 --     outside-zero, outside-above, inside    a number and its limit
 --     Passed, passed-none .. passed-all      the loop's invariant: how it begins, goes on and ends
 --     process-known                          a message's process, as the code read it
+--     not-below .. not-above                 its number beside the count of that process, both as they were read
 -- Assumes nothing.
 use mathlib.Core.Bool.{true, false, or-true}
 use mathlib.Core.List.{List}
@@ -10,13 +11,13 @@ use Prim.Native.Nat.{ℕ, _+_, _*_, _<_, _≤_, zero-le}
 use native.Mathlib.Nat.{le-antisymm}
 use native.Mathlib.Omega.{arith}
 use lib.Dec.{eqb}
-use borrow.Author.Tests.{lt-ltb, le-ltb, leb-false, ne-eqb}
+use borrow.Author.Tests.{lt-ltb, le-leb, le-ltb, leb-false, lt-leb, ne-eqb}
 use Rattle.run_table.proofs.ListLaws.{anyBelow-found, anyBelow-more}
 use Rattle.run_table.specs.Checks.{badCount, outside}
-use Rattle.run_table.specs.Format.{countAt, processAt}
+use Rattle.run_table.specs.Format.{checkpointAt, countAt, processAt}
 use Rattle.run_table.specs.Lists.{anyBelow}
 use Rattle.run_table.specs.Numbers.{u16At}
-use Rattle.run_table.specs.Parts.{badCountAt, unknownAt}
+use Rattle.run_table.specs.Parts.{aboveAt, badCountAt, notBelowAt, unknownAt}
 use Rattle.run_table.specs.Table.{mostCheckpoints}
 
 -- ---- a number that is 0 or above a limit, and one that is neither
@@ -64,3 +65,25 @@ module _ {counts : List ℕ} {n : ℕ} where
 pub process-known : (n : ℕ) (part : List ℕ) (k : ℕ) → unknownAt n part k ≡ false → u16At part (4 * k) < n
 unfolding unknownAt processAt
 process-known n part k e = leb-false n (u16At part (4 * k)) e
+
+-- ---- an entry's number and the count of its process
+module _ (counts part : List ℕ) (k : ℕ) {c s : ℕ} (count : c ≡ countAt counts (processAt part k)) (number : s ≡ u16At part (4 * k + 2)) where
+  number-is : s ≡ checkpointAt part k
+  unfolding checkpointAt
+  number-is = number
+
+  pub not-below : c ≤ s → notBelowAt counts part k ≡ true
+  unfolding notBelowAt
+  not-below l = rw (← count, ← number-is) (le-leb c s l)
+
+  pub below : s < c → notBelowAt counts part k ≡ false
+  unfolding notBelowAt
+  below l = rw (← count, ← number-is) (lt-leb c s l)
+
+  pub above : c < s → aboveAt counts part k ≡ true
+  unfolding aboveAt
+  above l = rw (← count, ← number-is) (lt-ltb c s l)
+
+  pub not-above : s ≤ c → aboveAt counts part k ≡ false
+  unfolding aboveAt
+  not-above l = rw (← count, ← number-is) (le-ltb c s l)

@@ -59,9 +59,9 @@ toItself m = eqb (m .sender) (m .receiver)
 unfoldable pub badSend : Table → Message → Bool
 badSend t m = leb (countOf t (m .sender)) (m .sent)
 
--- 9. A receipt number is not below the receiver's count.
+-- 9. A receipt number is above the receiver's count.
 unfoldable pub badReceipt : Table → Message → Bool
-badReceipt t m = leb (countOf t (m .receiver)) (m .received)
+badReceipt t m = ltb (countOf t (m .receiver)) (m .received)
 
 -- The checks of a table, in checking order.
 unfoldable pub tableChecks : List ℕ → List Check
@@ -88,7 +88,7 @@ pub record GoodMessage (t : Table) (m : Message) : Type 0 where
   pub receiver-known : m .receiver < processCount t
   pub two-processes : m .sender ≡ m .receiver → ⊥
   pub sent-below : m .sent < countOf t (m .sender)
-  pub received-below : m .received < countOf t (m .receiver)
+  pub received-within : m .received ≤ countOf t (m .receiver)
 
 -- What an accepted table satisfies, the limits apart: a process at least, a checkpoint at least of each, and good
 -- messages.

@@ -4,7 +4,7 @@ use mathlib.Core.Bool.{Bool, cond}
 use mathlib.Core.List.{List, [], _∷_, map}
 use mathlib.Core.Path.{_≡_}
 use Prim.Native.Nat.{ℕ, suc, _+_, _*_, _≤_, _<_}
-use lib.Dec.{eqb, leb}
+use lib.Dec.{eqb, leb, ltb}
 use lib.ListN.{length}
 use Rattle.run_table.specs.Checks.{Check, badCount, firstCaught}
 use Rattle.run_table.specs.Format.{checkpointAt, countAt, processAt}
@@ -27,6 +27,10 @@ toItselfAt sends receipts k = eqb (processAt sends k) (processAt receipts k)
 unfoldable pub notBelowAt : List ℕ → List ℕ → ℕ → Bool
 notBelowAt counts part k = leb (countAt counts (processAt part k)) (checkpointAt part k)
 
+-- It names a number that is above its process's count.
+unfoldable pub aboveAt : List ℕ → List ℕ → ℕ → Bool
+aboveAt counts part k = ltb (countAt counts (processAt part k)) (checkpointAt part k)
+
 -- A check of messages: whether it catches message k, and its number.
 pub record MessageCheck : Type 0 where
   pub catches : ℕ → Bool
@@ -39,7 +43,7 @@ messageChecks n counts sends receipts =
     ∷ record { catches = unknownAt n receipts; number = 6 }
     ∷ record { catches = toItselfAt sends receipts; number = 7 }
     ∷ record { catches = notBelowAt counts sends; number = 8 }
-    ∷ record { catches = notBelowAt counts receipts; number = 9 }
+    ∷ record { catches = aboveAt counts receipts; number = 9 }
     ∷ []
 
 -- Such checks of message k alone.

@@ -5,7 +5,8 @@ use Prim.Native.Nat.{ℕ}
 use lib.ListN.{length, getD}
 
 -- A message: its sender and the latest checkpoint that the sender took before sending; its receiver and the first
--- checkpoint that the receiver took after receiving, where 0 says that the message is undelivered (waiting).
+-- checkpoint that the receiver took after receiving. 0 there says that the message is undelivered (waiting); the
+-- receiver's count, that it was received since the last checkpoint and is unsaved (received, not yet saved).
 pub record Message : Type 0 where
   pub sender : ℕ
   pub sent : ℕ

@@ -13,9 +13,10 @@ ghost use mathlib.Core.Bool.{false};
 ghost use Prim.Native.Nat.{_+_, _*_, _<_};
 ghost use lib.ListN.{length};
 ghost use Rattle.run_table.specs.Checks.{tableRefusal};
+ghost use Rattle.run_table.specs.Format.{countAt, processAt};
 ghost use Rattle.run_table.specs.Lists.{anyBelow};
 ghost use Rattle.run_table.specs.Parts.{FirstMessage, Sized, badCountAt, checksAt, checksBelow, firstPlace};
-ghost use Rattle.run_table.specs.Parts.{messageChecks, notBelowAt, partsRefusal, toItselfAt, unknownAt};
+ghost use Rattle.run_table.specs.Parts.{messageChecks, partsRefusal, toItselfAt, unknownAt};
 
 // The numbers of the checks of a message, in checking order; 0 behind the last, where none catches.
 const FAULTS: [u32; 6] = [6, 6, 7, 8, 9, 0];
@@ -59,17 +60,15 @@ fn to_itself_at(sends: &[u8], receipts: &[u8], k: usize) -> bool
     sender == receiver
 }
 
-// Whether entry k of a part, whose process has a count, names a checkpoint that is not below it.
-fn not_below_at(counts: &[u8], part: &[u8], n: usize, k: usize) -> bool
+// The count of the process of entry k of a part, where it has one.
+fn count_for(counts: &[u8], part: &[u8], n: usize, k: usize) -> u16
     requires { ⌜ length (now counts) ≡ 2 * n ⌝ }
-    requires { ⌜ 4 * k + 3 < length (now part) ⌝ }
+    requires { ⌜ 4 * k + 1 < length (now part) ⌝ }
     requires { ⌜ unknownAt n (now part) k ≡ false ⌝ }
-    ensures { λ r. ⌜ r ≡ notBelowAt (now (counts .entry)) (now (part .entry)) k ⌝ }
+    ensures { λ r. ⌜ r ≡ countAt (now (counts .entry)) (processAt (now (part .entry)) k) ⌝ }
 {
     let process = u16_at(part, 4 * k) as usize;
-    let checkpoint = u16_at(part, 4 * k + 2);
-    let count = u16_at(counts, 2 * process);
-    count <= checkpoint
+    u16_at(counts, 2 * process)
 }
 
 // The place, among the checks of a message, of the first that catches message k; 5 where none does. A
@@ -90,10 +89,12 @@ fn fault_at(counts: &[u8], sends: &[u8], receipts: &[u8], n: usize, k: usize) ->
     if to_itself_at(sends, receipts, k) {
         return 2;
     }
-    if not_below_at(counts, sends, n, k) {
+    let sent = u16_at(sends, 4 * k + 2);
+    if count_for(counts, sends, n, k) <= sent {
         return 3;
     }
-    if not_below_at(counts, receipts, n, k) {
+    let received = u16_at(receipts, 4 * k + 2);
+    if count_for(counts, receipts, n, k) < received {
         return 4;
     }
     5

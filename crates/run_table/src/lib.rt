@@ -69,7 +69,8 @@ pub extern "C" fn run_table_receiver(table: &[u8], k: usize) -> u16
     lookups::message_number(table, k, Field::Receiver)
 }
 
-// The first checkpoint that the receiver of message k took after receiving it; 0: undelivered.
+// The first checkpoint that the receiver of message k took after receiving it; 0: undelivered; its count:
+// received and unsaved.
 #[no_mangle]
 pub extern "C" fn run_table_received(table: &[u8], k: usize) -> u16
     ensures { λ r. ⌜ r ≡ messageOf (decode (now (table .entry))) k .received ⌝ }

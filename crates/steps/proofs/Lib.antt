@@ -1,7 +1,7 @@
--- The laws of the code of send and checkpoint.
+-- The laws of the code of send, receipt and checkpoint.
 --     SendLaws          what a step has read of a table; the bytes of the table after a send
---     CheckpointLaws    the bytes of the table after a checkpoint
---     PositionLaws      the list of a checkpoint, and what it changes
-mod CheckpointLaws
+--     PositionLaws      the list of a receipt or a checkpoint, and what it changes
+--     ReceiptLaws       the bytes of the table after a receipt or a checkpoint
 mod PositionLaws
+mod ReceiptLaws
 pub mod SendLaws

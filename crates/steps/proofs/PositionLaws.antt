@@ -1,10 +1,10 @@
--- The list of a checkpoint, as loops go over it, and the numbers that the checkpoint changes.
+-- The list of a receipt or a checkpoint, as loops go over it, and the numbers that it changes.
 --     Rising, rising-none, rises-all            a loop that looks for neighbours that do not rise
 --     falls-here, rises-here                    what its test says
 --     Positions, positions-none, positions-all  a loop that looks for a bad position
 --     bad-beyond, bad-receiver, bad-received, good-here   what its tests say of one
 --     Received, received-none, received-more, received-all     a loop that writes the listed receipts
---     positions-below                           the positions of a checkpoint that can be taken
+--     positions-below                           the positions of one that can be taken
 -- Assumes nothing.
 use mathlib.Core.Bool.{Bool, true, false, cond, _||_, or-true}
 use mathlib.Core.List.{List, [], _∷_, _++_, append-assoc}
@@ -30,7 +30,7 @@ use Rattle.run_table.specs.Lists.{any, tabulate}
 use Rattle.run_table.specs.Numbers.{putAt, u16At, u16Bytes, u16s}
 use Rattle.run_table.specs.Table.{Table, messageCount}
 use Rattle.steps.proofs.SendLaws.{copied}
-use Rattle.steps.specs.Checkpoint.{CanCheckpoint, newReceipt, receiptNumbers}
+use Rattle.steps.specs.Receipts.{CanReceive, newReceipt, receiptNumbers}
 
 -- a test that is not false
 else-true : (b : Bool) → (b ≡ false → ⊥) → b ≡ true
@@ -242,8 +242,8 @@ module _ {at : ℕ} {receipts : List ℕ} {m : ℕ} {list : List ℕ} {number : 
         w .contents before fits (e ∙ ap (λ (x : List ℕ). putAt before at (u16s x)) (numbers-copied receipts number m))
         ∙ ap (λ (x : List ℕ). putAt before at (u16s (receiptNumbers m receipts x number))) (take-all a list l)
 
--- the positions of a checkpoint that can be taken
-pub positions-below : {table : List ℕ} {i : ℕ} {list : List ℕ} → CanCheckpoint table i list → {m : ℕ} → m ≡ messageCount (decode table)
+-- the positions of a receipt that can be taken
+pub positions-below : {table : List ℕ} {i : ℕ} {list : List ℕ} → CanReceive table i list → {m : ℕ} → m ≡ messageCount (decode table)
     → (a : ℕ) → a < length list → getD list a 0 < m
 positions-below {table} {i} {list} can m-is a l =
     omega (arith, good-position (decode table) i (getD list a 0) (none-of (badPosition (decode table) i) list 0 (can .waiting) a l) .a-message)

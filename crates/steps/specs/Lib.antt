@@ -1,3 +1,3 @@
--- What the code of a checkpoint is given and writes.
---     Checkpoint    a checkpoint that can be taken, and the receipts after it
-pub mod Checkpoint
+-- What the code of a receipt and of a checkpoint is given and writes.
+--     Receipts    one that can be taken, and the table after it
+pub mod Receipts

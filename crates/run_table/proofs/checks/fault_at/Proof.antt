@@ -6,6 +6,7 @@ use mathlib.Core.List.{List}
 use mathlib.Core.Path.{refl, sym, _∙_}
 use denote.Ref.{now}
 use Rattle.run_table.proofs.FaultLaws.{Past, past-all, past-more, past-none, past-stops}
+use Rattle.run_table.proofs.ScanLaws.{above, below, not-above, not-below}
 use Rattle.run_table.specs.Checks.{Check}
 use Rattle.run_table.specs.Parts.{checksAt, messageChecks}
 use Rattle.run_table.proofs.checks.fault_at.Statement.{statement}
@@ -22,10 +23,10 @@ abbrev receiver : tie.Else3 → tie.Else2
 receiver c = c .before .before
 
 abbrev two : tie.Else4 → tie.Else3
-two c = c .before .before
+two c = c .before .before .before
 
 abbrev sent : tie.Else5 → tie.Else4
-sent c = c .before .before
+sent c = c .before .before .before
 
 -- ---- what is known there: the checks that catch nothing
 abbrev checks : tie.Else1 → List Check
@@ -43,10 +44,10 @@ past-3 : (c : tie.Else3) → Past (checks (sender (receiver c))) 3
 past-3 c = past-more (past-2 (receiver c)) refl (sym (c .before .to-itself-at .ensures) ∙ c .if3 .left)
 
 past-4 : (c : tie.Else4) → Past (checks (sender (receiver (two c)))) 4
-past-4 c = past-more (past-3 (two c)) refl (sym (c .before .not-below-at .ensures) ∙ c .if4 .left)
+past-4 c = past-more (past-3 (two c)) refl (below _ _ _ (c .before .count-for .ensures) (c .before .before .u16-at .ensures) (c .if4 .left))
 
 past-5 : (c : tie.Else5) → Past (checks (sender (receiver (two (sent c))))) 5
-past-5 c = past-more (past-4 (sent c)) refl (sym (c .before .not-below-at2 .ensures) ∙ c .if5 .left)
+past-5 c = past-more (past-4 (sent c)) refl (not-above _ _ _ (c .before .count-for2 .ensures) (c .before .before .u16-at2 .ensures) (c .if5 .left))
 
 -- ---- the needs, in the code's course
 pub fault-at-spec : {M : Type 1} → statement M
@@ -62,13 +63,23 @@ fault-at-spec =
     (λ c κs. search needs)
     (λ c. past-stops (past-2 (c .before .before)) refl (sym (c .before .to-itself-at .ensures) ∙ c .if3 .taken))
     -- the send
+    (λ c. omega arith)
+    (λ c. omega arith)
+    (λ c κs. omega arith)
     (λ c κs.
-    let known = sender (receiver c) in
+    let known = sender (receiver (c .before)) in
     (omega arith, (omega arith, sym (known .before .unknown-at .ensures) ∙ known .if1 .left)))
-    (λ c. past-stops (past-3 (c .before .before)) refl (sym (c .before .not-below-at .ensures) ∙ c .if4 .taken))
+    (λ c.
+    let read = c .before .before in
+    past-stops (past-3 (read .before)) refl (not-below _ _ _ (c .before .count-for .ensures) (read .u16-at .ensures) (c .if4 .taken)))
     -- the receipt
+    (λ c. omega arith)
+    (λ c. omega arith)
+    (λ c κs. omega arith)
     (λ c κs.
-    let known = receiver (two c) in
+    let known = receiver (two (c .before)) in
     (omega arith, (omega arith, sym (known .before .unknown-at2 .ensures) ∙ known .if2 .left)))
-    (λ c. past-stops (past-4 (c .before .before)) refl (sym (c .before .not-below-at2 .ensures) ∙ c .if5 .taken))
+    (λ c.
+    let read = c .before .before in
+    past-stops (past-4 (read .before)) refl (above _ _ _ (c .before .count-for2 .ensures) (read .u16-at2 .ensures) (c .if5 .taken)))
     (λ c. past-all (past-5 c) refl))

@@ -1,12 +1,12 @@
--- `checkpoint::put_receipts` meets its contract: the receipts are copied, and the loop writes the listed ones anew.
+-- `receipts::put_receipts` meets its contract: the receipts are copied, and the loop writes the listed ones anew.
 -- Assumes nothing.
 use borrow.Author.Needs.{needs}
 use native.Mathlib.Omega.{arith}
 use Prim.Native.Nat.{_-_}
 use lib.ListN.{length}
 use Rattle.steps.proofs.PositionLaws.{Received, received-all, received-more, received-none}
-use Rattle.steps.proofs.checkpoint.put_receipts.Statement.{statement}
-use Rattle.steps.proofs.checkpoint.put_receipts.Tie as tie
+use Rattle.steps.proofs.receipts.put_receipts.Statement.{statement}
+use Rattle.steps.proofs.receipts.put_receipts.Tie as tie
 
 abbrev Inv-loop : tie.InvT-loop
 Inv-loop buffer₀ at receipts m list number a₀ buffer a = Received at receipts m list number buffer₀ buffer a

@@ -1,12 +1,12 @@
--- `checkpoint::bad_position` meets its contract: the loop leaves at the first position that is not good.
+-- `receipts::bad_position` meets its contract: the loop leaves at the first position that is not good.
 -- Assumes nothing.
 use borrow.Author.Needs.{needs}
 use native.Mathlib.Omega.{arith}
 use Prim.Native.Nat.{_-_}
 use lib.ListN.{length}
 use Rattle.steps.proofs.PositionLaws.{Positions, bad-beyond, bad-received, bad-receiver, good-here, positions-all, positions-none}
-use Rattle.steps.proofs.checkpoint.bad_position.Statement.{statement}
-use Rattle.steps.proofs.checkpoint.bad_position.Tie as tie
+use Rattle.steps.proofs.receipts.bad_position.Statement.{statement}
+use Rattle.steps.proofs.receipts.bad_position.Tie as tie
 
 abbrev Inv-loop : tie.InvT-loop
 Inv-loop table process list m receipts a₀ a = Positions table process list m receipts a

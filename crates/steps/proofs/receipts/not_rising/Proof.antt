@@ -1,11 +1,11 @@
--- `checkpoint::not_rising` meets its contract: the loop leaves at the first neighbours that do not rise.
+-- `receipts::not_rising` meets its contract: the loop leaves at the first neighbours that do not rise.
 -- Assumes nothing.
 use native.Mathlib.Omega.{arith}
 use Prim.Native.Nat.{_-_}
 use lib.ListN.{length}
 use Rattle.steps.proofs.PositionLaws.{Rising, falls-here, rises-all, rises-here, rising-none}
-use Rattle.steps.proofs.checkpoint.not_rising.Statement.{statement}
-use Rattle.steps.proofs.checkpoint.not_rising.Tie as tie
+use Rattle.steps.proofs.receipts.not_rising.Statement.{statement}
+use Rattle.steps.proofs.receipts.not_rising.Tie as tie
 
 abbrev Inv-loop : tie.InvT-loop
 Inv-loop list a₀ a = Rising list a

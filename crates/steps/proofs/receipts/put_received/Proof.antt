@@ -1,4 +1,4 @@
--- `checkpoint::put_checkpoint` meets its contract: the head with the count that grows, the sends, the receipts.
+-- `receipts::put_received` meets its contract: the head with the count that may grow, the sends, the receipts.
 -- Assumes nothing.
 use borrow.Author.Needs.{needs}
 use native.Mathlib.Omega.{arith}
@@ -9,11 +9,11 @@ use denote.Ref.{now}
 use lib.ListN.{getD, length, set, take, length-set}
 use Rattle.run_table.proofs.ReadLaws.{messages-read}
 use Rattle.run_table.specs.Format.{tableLength}
-use Rattle.steps.proofs.CheckpointLaws.{checkpoint-put}
+use Rattle.steps.proofs.ReceiptLaws.{received-put}
 use Rattle.steps.proofs.PositionLaws.{positions-below}
 use Rattle.steps.proofs.SendLaws.{Read, count-small, front-size, table-read}
-use Rattle.steps.proofs.checkpoint.put_checkpoint.Statement.{statement}
-use Rattle.steps.proofs.checkpoint.put_checkpoint.Tie as tie
+use Rattle.steps.proofs.receipts.put_received.Statement.{statement}
+use Rattle.steps.proofs.receipts.put_received.Tie as tie
 
 -- ---- the places: where N was read; the entry; where the table was read; where the head was put; where the sends were
 abbrev sized : tie.After-count-array → tie.After-process-count
@@ -37,7 +37,8 @@ module _ (c : tie.After-count-array) where
   known = table-read (entry c .pre .0 .accepted) (sized c .process-count .ensures) (c .before .message-count .ensures) (c .count-array .ensures)
 
   abbrev grown : List ℕ
-  grown = set (c .count-array .result) (entry c .args .process) (getD (c .count-array .result) (entry c .args .process) 0 + 1)
+  grown =
+      set (c .count-array .result) (entry c .args .process) (getD (c .count-array .result) (entry c .args .process) 0 + entry c .args .taken)
 
   grown-size : length grown ≡ 32
   grown-size = length-set (c .count-array .result) (entry c .args .process) _ ∙ known .counts-size
@@ -49,8 +50,8 @@ module _ (c : tie.After-count-array) where
   room = omega (arith, known .n-is, known .m-is)
 
 -- ---- the needs, in the code's course
-pub put-checkpoint-spec : {M : Type 1} → statement M
-put-checkpoint-spec =
+pub put-received-spec : {M : Type 1} → statement M
+put-received-spec =
     tie.close
     (tie.spec
     (λ c κs. search needs)
@@ -94,7 +95,7 @@ put-checkpoint-spec =
     let placed = put .before .before in
     let here = read (head placed) in
     let messages = messages-read (known here .accepted) (known here .m-is) (put .before .sends .ensures) (last .before .receipts .ensures) in
-    checkpoint-put messages (entry here .pre .0) (known here) refl (record {
+    received-put messages (entry here .pre .0) (known here) refl _ (record {
       room = room here;
       head = head placed .put-head .ensures;
       sends-at = placed .sends-at .ensures;

@@ -1,42 +1,44 @@
--- The bytes of the table after a checkpoint.
---     sends-kept, receipts-new    its sends and receipts, as the code writes them
---     checkpoint-put              the three writes
+-- The bytes of the table after a receipt or a checkpoint.
+--     sends-kept, receipts-new         its sends and receipts, as the code writes them
+--     received-put                     the three writes
+--     after-receipt, after-checkpoint  the table after each, by the checkpoints taken
 -- Assumes nothing.
 use mathlib.Core.Bool.{Bool, true, false, cond}
 use mathlib.Core.List.{List, [], _∷_, _++_}
 use mathlib.Core.Path.{_≡_, refl, sym, ap, ap₂, _∙_}
 use Prim.Native.Nat.{ℕ, zero, suc, _+_, _*_, _≤_, _<_}
-use native.Mathlib.Nat.{le-refl}
+use native.Mathlib.Nat.{add-zero, le-refl}
 use native.Mathlib.Numerals.{add-one}
 use native.Mathlib.Omega.{arith}
 use lib.Dec.{eqb}
-use lib.ListN.{getD, set, take}
-use Rattle.futures.proofs.StepLaws.{checkpoint-messages, checkpoint-processes, receivedAt-listed, receivedAt-receiver, receivedAt-sender}
-use Rattle.futures.proofs.StepLaws.{receivedAt-sent, receivedAt-unlisted}
-use Rattle.futures.specs.Steps.{afterCheckpoint, receivedAt}
+use lib.ListN.{getD, set, take, length-set}
+use lib.Seq.{set-getD}
+use Rattle.futures.proofs.StepLaws.{receipt-receives, receivedAt-listed, receivedAt-receiver, receivedAt-sender, receivedAt-sent}
+use Rattle.futures.proofs.StepLaws.{receivedAt-unlisted, receives-messages}
+use Rattle.futures.specs.Steps.{afterCheckpoint, afterReceipt, receivedAt}
 use Rattle.run_table.proofs.CodingLaws.{entries-append, entries-tabulate, even-number, odd-number}
 use Rattle.run_table.proofs.ListLaws.{tabulate-more}
 use Rattle.run_table.proofs.ReadLaws.{ReadMessages, received-is, receiver-is, sender-is, sent-is}
 use Rattle.run_table.specs.Format.{checkpointAt, decode, encode, entriesOf, processAt, receiptsOf, sendsOf}
 use Rattle.run_table.specs.Lists.{any, tabulate}
 use Rattle.run_table.specs.Numbers.{putAt, u16At}
-use Rattle.run_table.specs.Table.{Message, Table, countOf}
+use Rattle.run_table.specs.Table.{Message, Table, countOf, messageCount, processCount}
 use Rattle.steps.proofs.SendLaws.{Read, Writes, copied, count-read, front-set, table-written}
-use Rattle.steps.specs.Checkpoint.{CanCheckpoint, newReceipt, receiptNumbers}
+use Rattle.steps.specs.Receipts.{CanReceive, afterReceiving, newReceipt, receiptNumbers}
 
 module _ {table : List ℕ} {m : ℕ} {sends receipts : List ℕ} (read : ReadMessages table m sends receipts)
-    {i : ℕ} {list : List ℕ} (can : CanCheckpoint table i list) where
+    {i : ℕ} {list : List ℕ} (can : CanReceive table i list) where
   abbrev t : Table
   t = decode table
 
   abbrev received : ℕ → Message
   received = receivedAt t i list
 
-  messages-after : afterCheckpoint t i list .messages ≡ tabulate m received
-  unfolding afterCheckpoint
+  messages-after : afterReceipt t i list .messages ≡ tabulate m received
+  unfolding afterReceipt
   messages-after = rw (read .m-is)
 
-  sends-kept : copied m sends ≡ sendsOf (afterCheckpoint t i list .messages)
+  sends-kept : copied m sends ≡ sendsOf (afterReceipt t i list .messages)
   sends-kept =
       sym (ap sendsOf messages-after ∙ entries-tabulate (λ x. x .sender) (λ x. x .sent) m received (λ e. u16At sends (2 * e))
       (λ k l. receivedAt-sender t i list k ∙ sym (sender-is read l refl) ∙ even-number sends k)
@@ -64,16 +66,29 @@ module _ {table : List ℕ} {m : ℕ} {sends receipts : List ℕ} (read : ReadMe
       ∙ sym (entries-append (λ x. x .receiver) (λ x. x .received) (tabulate k received) (received k ∷ []))
       ∙ ap receiptsOf (sym (tabulate-more k received) ∙ ap (λ (j : ℕ). tabulate j received) (add-one k))
 
-  receipts-new : receiptNumbers m receipts list (countOf t i) ≡ receiptsOf (afterCheckpoint t i list .messages)
+  receipts-new : receiptNumbers m receipts list (countOf t i) ≡ receiptsOf (afterReceipt t i list .messages)
   receipts-new = receipts-upto m (le-refl m) ∙ ap receiptsOf (sym messages-after)
 
-  pub checkpoint-put : {n : ℕ} {counts : List ℕ} → Read table n m counts → {number : ℕ} → number ≡ getD counts i 0
+  pub received-put : {n : ℕ} {counts : List ℕ} → Read table n m counts → {number : ℕ} → number ≡ getD counts i 0 → (taken : ℕ)
       → {a z : ℕ} {before headed sent after : List ℕ}
-      → Writes n m (take n (set counts i (number + 1))) (copied m sends) (receiptNumbers m receipts list number) a z before headed sent after
-      → after ≡ putAt before 0 (encode (afterCheckpoint t i list))
-  unfolding afterCheckpoint
-  checkpoint-put r {number} number-is w =
+      → Writes n m (take n (set counts i (number + taken))) (copied m sends) (receiptNumbers m receipts list number) a z before headed sent after
+      → after ≡ putAt before 0 (encode (afterReceiving t i list taken))
+  unfolding afterReceiving processCount messageCount
+  received-put r {number} number-is taken w =
       let count = number-is ∙ count-read r i in
-      table-written w (afterCheckpoint t i list) (r .n-is ∙ sym (checkpoint-processes t i list)) (r .m-is ∙ sym (checkpoint-messages t i list))
-      (front-set r i (number + 1) (can .known) ∙ ap (λ (c : ℕ). set (t .counts) i (c + 1)) count) sends-kept
+      table-written w (afterReceiving t i list taken) (r .n-is ∙ sym (length-set (t .counts) i (countOf t i + taken)))
+      (r .m-is ∙ sym (receives-messages (receipt-receives t i list)))
+      (front-set r i (number + taken) (can .known) ∙ ap (λ (c : ℕ). set (t .counts) i (c + taken)) count) sends-kept
       (ap (λ (x : ℕ). receiptNumbers m receipts list x) count ∙ receipts-new)
+
+-- ---- the table after each
+module _ (t : Table) (i : ℕ) (list : List ℕ) where
+  pub after-receipt : afterReceiving t i list 0 ≡ afterReceipt t i list
+  unfolding afterReceiving afterReceipt countOf
+  after-receipt =
+      ap (λ (counts : List ℕ). record { counts = counts; messages = afterReceipt t i list .messages })
+      (ap (set (t .counts) i) (add-zero (countOf t i)) ∙ set-getD (t .counts) i 0)
+
+  pub after-checkpoint : afterReceiving t i list 1 ≡ afterCheckpoint t i list
+  unfolding afterReceiving afterCheckpoint
+  after-checkpoint = refl

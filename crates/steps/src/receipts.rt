@@ -1,4 +1,5 @@
-// Checkpoint (docs/MANUAL.md, "Steps": save): the listed messages are received, and the count of the process grows.
+// Receipt and checkpoint (docs/MANUAL.md, "Steps": receive, save): the listed messages are received, and at a
+// checkpoint the count of the process grows.
 use run_table::format::receipts_at;
 use run_table::format::sends_at;
 use run_table::numbers::put_u16;
@@ -9,13 +10,13 @@ use table_writer::put_head;
 ghost use mathlib.Core.Path.{_≡_};
 ghost use Prim.Native.Nat.{ℕ, _+_, _*_, _<_, _≤_};
 ghost use lib.ListN.{getD, length};
-ghost use Rattle.futures.specs.Steps.{afterCheckpoint, badPosition, notRising};
+ghost use Rattle.futures.specs.Steps.{afterCheckpoint, afterReceipt, badPosition, notRising};
 ghost use Rattle.run_table.specs.Checks.{tableRefusal};
 ghost use Rattle.run_table.specs.Format.{decode, encode, tableLength};
 ghost use Rattle.run_table.specs.Lists.{any};
 ghost use Rattle.run_table.specs.Numbers.{putAt, u16s};
 ghost use Rattle.run_table.specs.Table.{messageCount, processCount};
-ghost use Rattle.steps.specs.Checkpoint.{CanCheckpoint, receiptNumbers};
+ghost use Rattle.steps.specs.Receipts.{CanReceive, afterReceiving, receiptNumbers};
 
 // Whether a position of the list is not above the one before it.
 pub fn not_rising(list: &[u16]) -> bool
@@ -73,20 +74,21 @@ fn put_receipts(buffer: &mut [u8], at: usize, receipts: &[u8], m: usize, list: &
     }
 }
 
-// Writes the table after a checkpoint of a known process, with a list of messages that wait for it, to
-// the front of a buffer that has room for it.
-pub fn put_checkpoint(table: &[u8], process: u16, list: &[u16], answer: &mut [u8])
-    requires { ⌜ CanCheckpoint (now table) process (now list) ⌝ }
+// Writes the table after a known process received a list of messages that wait for it, with its count grown
+// by the checkpoints that it took, none or one, to the front of a buffer that has room for it.
+fn put_received(table: &[u8], process: u16, list: &[u16], taken: u16, answer: &mut [u8])
+    requires { ⌜ CanReceive (now table) process (now list) ⌝ }
+    requires { ⌜ taken ≤ 1 ⌝ }
     requires { ⌜ tableLength (processCount (decode (now table))) (messageCount (decode (now table)))
         ≤ length (now answer) ⌝ }
     ensures { λ _. ⌜ now (answer .exit) ≡ putAt (now (answer .entry)) 0
-        (encode (afterCheckpoint (decode (now (table .entry))) process (now (list .entry)))) ⌝ }
+        (encode (afterReceiving (decode (now (table .entry))) process (now (list .entry)) taken)) ⌝ }
 {
     let n = parts::process_count(table);
     let m = parts::message_count(table);
     let mut counts = parts::count_array(table);
     let number = counts[process as usize];
-    counts[process as usize] = number + 1;
+    counts[process as usize] = number + taken;
     put_head(answer, &counts[..n], m);
     copy_numbers(answer, sends_at(n), parts::sends(table), 2 * m);
     put_receipts(
@@ -97,4 +99,26 @@ pub fn put_checkpoint(table: &[u8], process: u16, list: &[u16], answer: &mut [u8
         list,
         number,
     );
+}
+
+// Writes the table after a receipt.
+pub fn put_receipt(table: &[u8], process: u16, list: &[u16], answer: &mut [u8])
+    requires { ⌜ CanReceive (now table) process (now list) ⌝ }
+    requires { ⌜ tableLength (processCount (decode (now table))) (messageCount (decode (now table)))
+        ≤ length (now answer) ⌝ }
+    ensures { λ _. ⌜ now (answer .exit) ≡ putAt (now (answer .entry)) 0
+        (encode (afterReceipt (decode (now (table .entry))) process (now (list .entry)))) ⌝ }
+{
+    put_received(table, process, list, 0, answer);
+}
+
+// Writes the table after a checkpoint.
+pub fn put_checkpoint(table: &[u8], process: u16, list: &[u16], answer: &mut [u8])
+    requires { ⌜ CanReceive (now table) process (now list) ⌝ }
+    requires { ⌜ tableLength (processCount (decode (now table))) (messageCount (decode (now table)))
+        ≤ length (now answer) ⌝ }
+    ensures { λ _. ⌜ now (answer .exit) ≡ putAt (now (answer .entry)) 0
+        (encode (afterCheckpoint (decode (now (table .entry))) process (now (list .entry)))) ⌝ }
+{
+    put_received(table, process, list, 1, answer);
 }

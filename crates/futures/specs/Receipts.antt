@@ -1,0 +1,29 @@
+-- Messages that were received and are unsaved (docs/MANUAL.md, "Steps"): how they come to be so, and what the other
+-- steps and the sheet make of them. Assumes nothing.
+use mathlib.Core.Bool.{true}
+use mathlib.Core.List.{List, [], _∷_}
+use mathlib.Core.Path.{_≡_}
+use Prim.Native.Nat.{ℕ, _<_}
+use Rattle.consistency.specs.Lines.{asLine}
+use Rattle.futures.specs.Sheet.{crosses, holderLine, keepsMessage}
+use Rattle.futures.specs.Steps.{checkpoint, receiptChecks, receive, rollback, step, waitsFor}
+use Rattle.run_table.specs.Checks.{firstCaught}
+use Rattle.run_table.specs.Lists.{anyBelow}
+use Rattle.run_table.specs.Table.{Table, countOf, messageCount, messageOf, processCount}
+
+-- The message at a position is unsaved: its receiver received it since its last checkpoint.
+unfoldable pub Unsaved : Table → ℕ → Type 0
+Unsaved t k = (k < messageCount t) × (messageOf t k .received ≡ countOf t (messageOf t k .receiver))
+
+-- A message that waits for a process of the table can be received, and is unsaved then. One that is unsaved stays as it
+-- is in a checkpoint of its receiver, and lies below the count then: it is saved. A rollback leaves none. The sheet
+-- keeps one just where it crosses the line of some single holder.
+pub record Receipts (t : Table) : Type 0 where
+  pub received : (i k : ℕ) → i < processCount t → k < messageCount t → waitsFor i (messageOf t k) ≡ true
+      → Unsaved (step t (receive i (k ∷ []))) k
+  pub saved : (i : ℕ) (list : List ℕ) → firstCaught (receiptChecks t i list) ≡ 0 → (k : ℕ) → Unsaved t k
+      → messageOf t k .receiver ≡ i → (messageOf (step t (checkpoint i list)) k ≡ messageOf t k)
+      × (messageOf t k .received < countOf (step t (checkpoint i list)) i)
+  pub rolled-back : (k : ℕ) → Unsaved (step t rollback) k → ⊥
+  pub kept : (k : ℕ) → Unsaved t k → keepsMessage t (messageOf t k)
+      ≡ anyBelow (processCount t) (λ h. crosses (asLine (holderLine t h)) (messageOf t k))
