@@ -1,25 +1,25 @@
 -- The answers of the steps.
---     send-bytes, checkpoint-bytes, rollback-bytes    the length of the table that a step leaves
---     send-room, checkpoint-room                      a buffer with room for it
---     send-taken, checkpoint-taken, rollback-taken    where no check of the call catches, the step is taken, within the limits
---     sender-known, can-checkpoint                    and what is written stands on known processes and messages
---     table-holds                                     the answer is an accepted table, the step's
+--     send-bytes, received-bytes, rollback-bytes    the length of the table that a step leaves
+--     send-room, received-room                      a buffer with room for it
+--     send-taken .. rollback-taken                  where no check of the call catches, the step is taken, within the limits
+--     sender-known, can-receive                     and what is written stands on known processes and messages
+--     table-holds                                   the answer is an accepted table, the step's
 -- Assumes nothing.
-use mathlib.Core.List.{List, []}
+use mathlib.Core.List.{List}
 use mathlib.Core.Path.{_≡_, refl, sym, ap, _∙_, subst, subst⁻¹}
 use Prim.Native.Nat.{ℕ, _+_, _≤_, _<_}
 use native.Mathlib.Omega.{arith}
 use borrow.Author.Tests.{leb-false}
 use lib.ListN.{length, take, drop}
 use lib.Seq.{take-at}
-use Rattle.futures.proofs.StepLaws.{checkpoint-known, checkpoint-limits, checkpoint-messages, checkpoint-positions, checkpoint-processes}
-use Rattle.futures.proofs.StepLaws.{quiet-send, rollback-limits, rollback-processes, send-limits, send-messages, send-processes}
-use Rattle.futures.proofs.StepLaws.{step-taken, step-well-formed}
-use Rattle.futures.specs.Steps.{Step, afterCheckpoint, afterRollback, afterSend, checkpoint, checkpointChecks, rollback, send, sendChecks, step}
+use Rattle.futures.proofs.StepLaws.{Receives, checkpoint-limits, quiet-send, receipt-known, receipt-limits, receipt-positions, receives-messages}
+use Rattle.futures.proofs.StepLaws.{rollback-limits, rollback-processes, send-limits, send-messages, send-processes, step-taken, step-well-formed}
+use Rattle.futures.specs.Steps.{Step, afterCheckpoint, afterReceipt, afterRollback, afterSend, checkpoint, receiptChecks, receive, rollback, send}
+use Rattle.futures.specs.Steps.{sendChecks, step}
 use Rattle.keeper.proofs.AnswerLaws.{put-in-front}
 use Rattle.refusals.proofs.RefusalLaws.{QuietCall, quiet-by}
 use Rattle.keeper.specs.Calls.{HoldsTable}
-use Rattle.refusals.specs.CallChecks.{checkpointCallChecks, sendCallChecks}
+use Rattle.refusals.specs.CallChecks.{checkpointCallChecks, receiptCallChecks, sendCallChecks}
 use Rattle.run_table.proofs.AcceptLaws.{accepted-encode, facts, reread}
 use Rattle.run_table.proofs.CheckLaws.{caughtBy, passed, quiet-none}
 use Rattle.run_table.proofs.FormatLaws.{encode-length}
@@ -27,27 +27,27 @@ use Rattle.run_table.specs.Checks.{Accepted, Limits, WellFormed, firstCaught, t
 use Rattle.run_table.specs.Format.{decode, encode, tableLength}
 use Rattle.run_table.specs.Numbers.{putAt}
 use Rattle.run_table.specs.Table.{Table, messageCount, mostCheckpoints, mostMessages, processCount}
-use Rattle.steps.specs.Checkpoint.{CanCheckpoint}
+use Rattle.steps.specs.Receipts.{CanReceive}
 
 -- ---- the length of the answer
 module _ (t : Table) where
   pub send-bytes : (j i : ℕ) → length (encode (afterSend t j i)) ≡ tableLength (processCount t) (messageCount t + 1)
   send-bytes j i = omega (arith, encode-length (afterSend t j i), send-processes t j i, send-messages t j i)
 
-  pub checkpoint-bytes : (i : ℕ) (list : List ℕ) → length (encode (afterCheckpoint t i list)) ≡ tableLength (processCount t) (messageCount t)
-  checkpoint-bytes i list = omega (arith, encode-length (afterCheckpoint t i list), checkpoint-processes t i list, checkpoint-messages t i list)
-
   pub rollback-bytes : length (encode (afterRollback t)) ≡ tableLength (processCount t) (messageCount (afterRollback t))
   rollback-bytes = omega (arith, encode-length (afterRollback t), rollback-processes t)
 
-  module _ {size room : ℕ} where
-    pub send-room : ((j i : ℕ) → size ≡ length (encode (afterSend t j i))) → size ≤ room
-        → tableLength (processCount t) (messageCount t + 1) ≤ room
-    send-room sized enough = omega (arith, sized 0 0, send-bytes 0 0)
+  pub send-room : {size room : ℕ} → ((j i : ℕ) → size ≡ length (encode (afterSend t j i))) → size ≤ room
+      → tableLength (processCount t) (messageCount t + 1) ≤ room
+  send-room sized enough = omega (arith, sized 0 0, send-bytes 0 0)
 
-    pub checkpoint-room : ((i : ℕ) (list : List ℕ) → size ≡ length (encode (afterCheckpoint t i list))) → size ≤ room
-        → tableLength (processCount t) (messageCount t) ≤ room
-    checkpoint-room sized enough = omega (arith, sized 0 [], checkpoint-bytes 0 [])
+  -- as many processes and messages
+  module _ {size : ℕ} (sized : (x : Table) → processCount x ≡ processCount t → messageCount x ≡ messageCount t → size ≡ length (encode x)) where
+    pub received-bytes : {i : ℕ} {list : List ℕ} {t′ : Table} → Receives t i list t′ → size ≡ length (encode t′)
+    received-bytes r = sized _ (r .same-processes) (receives-messages r)
+
+    pub received-room : {room : ℕ} → size ≤ room → tableLength (processCount t) (messageCount t) ≤ room
+    received-room enough = omega (arith, sized t refl refl, encode-length t)
 
 -- ---- a step that is taken
 -- The table is accepted, the step leaves this table, and it is within the limits.
@@ -56,7 +56,7 @@ pub record Taken (table : List ℕ) (s : Step) (after : Table) : Type 0 where
   pub gives : step (decode table) s ≡ after
   pub limits : Limits after
 
--- a send and a checkpoint of which no check catches
+-- a send, a receipt and a checkpoint of which no check catches
 module _ {table : List ℕ} where
   module _ (j i : ℕ) (q : QuietCall table (sendCallChecks table j i)) where
     send-quiet : firstCaught (sendChecks (decode table) j i) ≡ 0
@@ -74,24 +74,32 @@ module _ {table : List ℕ} where
       limits = send-limits (decode table) j i (facts table (q .accepted) .limits) (leb-false mostMessages _ (quiet-by q 14));
     }
 
-  module _ (i : ℕ) (list : List ℕ) (q : QuietCall table (checkpointCallChecks table i list)) where
-    checkpoint-quiet : firstCaught (checkpointChecks (decode table) i list) ≡ 0
-    unfolding checkpointCallChecks checkpointChecks tableChecks caughtBy
-    checkpoint-quiet = passed _ _ 0 (quiet-by q 10) (passed _ _ 0 (quiet-by q 13) quiet-none)
+  module _ (i : ℕ) (list : List ℕ) (q : QuietCall table (receiptCallChecks table i list)) where
+    receipt-quiet : firstCaught (receiptChecks (decode table) i list) ≡ 0
+    unfolding receiptCallChecks receiptChecks tableChecks caughtBy
+    receipt-quiet = passed _ _ 0 (quiet-by q 10) (passed _ _ 0 (quiet-by q 13) quiet-none)
 
-    pub can-checkpoint : CanCheckpoint table i list
-    can-checkpoint = record {
+    pub can-receive : CanReceive table i list
+    can-receive = record {
       accepted = q .accepted;
-      known = checkpoint-known (decode table) i list checkpoint-quiet;
-      waiting = checkpoint-positions (decode table) i list checkpoint-quiet;
+      known = receipt-known (decode table) i list receipt-quiet;
+      waiting = receipt-positions (decode table) i list receipt-quiet;
     }
 
-    pub checkpoint-taken : Taken table (checkpoint i list) (afterCheckpoint (decode table) i list)
-    unfolding checkpointCallChecks checkpointChecks tableChecks caughtBy step
-    checkpoint-taken = record {
+    pub receipt-taken : Taken table (receive i list) (afterReceipt (decode table) i list)
+    unfolding step
+    receipt-taken = record {
       accepted = q .accepted;
-      gives = step-taken _ _ _ checkpoint-quiet;
-      limits = checkpoint-limits (decode table) i list (facts table (q .accepted) .limits) (leb-false mostCheckpoints _ (quiet-by q 14));
+      gives = step-taken _ _ _ receipt-quiet;
+      limits = receipt-limits (decode table) i list (facts table (q .accepted) .limits);
+    }
+
+    pub checkpoint-taken : QuietCall table (checkpointCallChecks table i list) → Taken table (checkpoint i list) (afterCheckpoint (decode table) i list)
+    unfolding checkpointCallChecks receiptCallChecks receiptChecks tableChecks caughtBy step
+    checkpoint-taken all = record {
+      accepted = q .accepted;
+      gives = step-taken _ _ _ receipt-quiet;
+      limits = checkpoint-limits (decode table) i list (facts table (q .accepted) .limits) (leb-false mostCheckpoints _ (quiet-by all 14));
     }
 
 pub rollback-taken : (table : List ℕ) → tableRefusal table ≡ 0 → Taken table rollback (afterRollback (decode table))

@@ -11,13 +11,13 @@ use Rattle.consistency.specs.Lines.{Latest, asLine}
 use Rattle.consistency.specs.Lowering.{lineUnder}
 use Rattle.futures.specs.Futures.{CheckpointNeeded, MessageNeeded}
 use Rattle.futures.specs.Sheet.{holderLines, sheet}
-use Rattle.futures.specs.Steps.{afterCheckpoint, afterRollback, afterSend}
+use Rattle.futures.specs.Steps.{afterCheckpoint, afterReceipt, afterRollback, afterSend}
 use Rattle.keeper.specs.Answers.{Answer, Yields, answer}
 use Rattle.marking.specs.Procedure.{EndsWith}
 use Rattle.marks.specs.Room.{cleared, marksSize}
 use Rattle.process_set.specs.Sets.{member}
 use Rattle.refusals.specs.CallChecks.{checkpointCallChecks, keepSheetChecks, lineOfSetChecks, lineUnderChecks}
-use Rattle.refusals.specs.CallChecks.{markedLineChecks, sendCallChecks}
+use Rattle.refusals.specs.CallChecks.{markedLineChecks, receiptCallChecks, sendCallChecks}
 use Rattle.run_table.specs.Checks.{Accepted, Check, firstCaught, tableChecks}
 use Rattle.run_table.specs.Format.{decode, encode}
 use Rattle.run_table.specs.Lists.{tabulate}
@@ -74,6 +74,11 @@ markedLineAnswer table ceilings bytes room = lineAnswer (markedLineChecks table 
 -- The table after a send: its checks, 16.
 unfoldable pub sendAnswer : List ℕ → ℕ → ℕ → ℕ → Answer
 sendAnswer table from to room = answer (sendCallChecks table from to) (encode (afterSend (decode table) from to)) room
+
+-- The table after a receipt: its checks, 16.
+unfoldable pub receiptAnswer : List ℕ → ℕ → List ℕ → ℕ → Answer
+receiptAnswer table process list room =
+    answer (receiptCallChecks table process list) (encode (afterReceipt (decode table) process list)) room
 
 -- The table after a checkpoint: its checks, 16.
 unfoldable pub checkpointAnswer : List ℕ → ℕ → List ℕ → ℕ → Answer

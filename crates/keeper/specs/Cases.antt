@@ -27,11 +27,11 @@ tableC = u16s (2 ∷ 0 ∷ 1 ∷ 4 ∷ [])
 unfoldable pub tableD : List ℕ
 tableD = u16s (2 ∷ 2 ∷ 2 ∷ 2 ∷ 0 ∷ 1 ∷ 1 ∷ 0 ∷ 1 ∷ 1 ∷ 0 ∷ 1 ∷ [])
 
--- A, with (1, 2) to (0, 3), and with (1, 3) to (0, 0), as its last message.
+-- A, with (1, 2) to (0, 4), and with (1, 3) to (0, 0), as its last message.
 unfoldable pub lateReceipt : List ℕ
 lateReceipt =
     u16s (2 ∷ 5 ∷ 3 ∷ 3 ∷ 0 ∷ 0 ∷ 1 ∷ 0 ∷ 1 ∷ 1 ∷ 0 ∷ 2 ∷ 1 ∷ 2
-    ∷ 1 ∷ 2 ∷ 0 ∷ 1 ∷ 0 ∷ 2 ∷ 1 ∷ 2 ∷ 0 ∷ 3 ∷ [])
+    ∷ 1 ∷ 2 ∷ 0 ∷ 1 ∷ 0 ∷ 2 ∷ 1 ∷ 2 ∷ 0 ∷ 4 ∷ [])
 
 unfoldable pub lateSend : List ℕ
 lateSend =
@@ -120,7 +120,7 @@ markedCases =
     ∷ record { table = 2 ∷ 0 ∷ 0 ∷ []; call = checkTable; expected = refused 1 }
     ∷ record { table = u16s (33 ∷ 0 ∷ []); call = checkTable; expected = refused 2 }
     ∷ record { table = u16s (2 ∷ 4097 ∷ []); call = checkTable; expected = refused 3 }
-    -- F: A with one byte more; with receipt (0, 3) in its last entry; with send (1, 3) there
+    -- F: A with one byte more; with receipt (0, 4) in its last entry; with send (1, 3) there
     ∷ record { table = tableA ++ (0 ∷ []); call = checkTable; expected = refused 4 }
     ∷ record { table = lateReceipt; call = checkTable; expected = refused 9 }
     ∷ record { table = lateSend; call = checkTable; expected = refused 8 }

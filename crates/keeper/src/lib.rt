@@ -12,6 +12,7 @@ use marked_line::put_marked_line;
 use refusals::ceilings_refusal;
 use refusals::checkpoint_refusal;
 use refusals::marking_refusal;
+use refusals::receipt_refusal;
 use refusals::send_refusal;
 use refusals::set_refusal;
 use refusals::sheet_refusal;
@@ -22,24 +23,25 @@ use sheet_writer::count_checkpoints;
 use sheet_writer::count_messages;
 use sheet_writer::fill_lines;
 use sheet_writer::put_sheet;
-use sizes::checkpoint_size;
 use sizes::line_size;
 use sizes::rollback_size;
+use sizes::same_size;
 use sizes::send_size;
 use sizes::sheet_size;
-use steps::checkpoint::put_checkpoint;
+use steps::receipts::put_checkpoint;
+use steps::receipts::put_receipt;
 use steps::send::put_send;
 ghost use mathlib.Core.Bool.{true};
 ghost use mathlib.Core.Path.{_≡_};
 ghost use Prim.Native.Nat.{ℕ};
 ghost use lib.ListN.{length};
 ghost use Rattle.consistency.specs.Ceilings.{ceilingOf};
-ghost use Rattle.futures.specs.Steps.{checkpoint, rollback, send, step};
+ghost use Rattle.futures.specs.Steps.{checkpoint, receive, rollback, send, step};
 ghost use Rattle.keeper.specs.Answers.{Yields};
 ghost use Rattle.keeper.specs.Calls.{HoldsLatest, HoldsSheet, HoldsTable, YieldsByMarking, scratchAfter};
 ghost use Rattle.keeper.specs.Calls.{checkpointAnswer, keepSheetAnswer, lineOfSetAnswer, lineUnderAnswer};
-ghost use Rattle.keeper.specs.Calls.{markedLineAnswer, marksAfter, recoveryLineAnswer, rollbackAnswer};
-ghost use Rattle.keeper.specs.Calls.{sendAnswer};
+ghost use Rattle.keeper.specs.Calls.{markedLineAnswer, marksAfter, receiptAnswer, recoveryLineAnswer};
+ghost use Rattle.keeper.specs.Calls.{rollbackAnswer, sendAnswer};
 ghost use Rattle.process_set.specs.Sets.{member};
 ghost use Rattle.run_table.specs.Checks.{tableRefusal};
 ghost use Rattle.run_table.specs.Format.{decode};
@@ -187,6 +189,36 @@ pub extern "C" fn keeper_send(
     0
 }
 
+// The table after a receipt: a process receives the messages at the listed positions, and takes no
+// checkpoint.
+#[no_mangle]
+pub extern "C" fn keeper_receive(
+    table: &[u8],
+    process: u16,
+    list: &[u16],
+    answer: &mut [u8],
+    written: &mut usize,
+) -> u32
+    ensures outcome { λ r. ⌜ Yields
+        (receiptAnswer (now (table .entry)) process (now (list .entry)) (length (now (answer .entry)))) r
+        (now (answer .entry)) (now (answer .exit)) (now (written .entry)) (now (written .exit)) ⌝ }
+    ensures table { λ (r : ℕ). ⌜ (r ≡ 0 → HoldsTable
+        (step (decode (now (table .entry))) (receive process (now (list .entry))))
+        (now (answer .exit)) (now (written .exit))) ⌝ }
+{
+    let refusal = receipt_refusal(table, process, list);
+    if refusal != 0 {
+        return refusal;
+    }
+    let size = same_size(table);
+    if answer.len() < size {
+        return 16;
+    }
+    put_receipt(table, process, list, answer);
+    *written = size;
+    0
+}
+
 // The table after a checkpoint (save) of a process, which first receives the messages at the listed
 // positions.
 #[no_mangle]
@@ -208,7 +240,7 @@ pub extern "C" fn keeper_save(
     if refusal != 0 {
         return refusal;
     }
-    let size = checkpoint_size(table);
+    let size = same_size(table);
     if answer.len() < size {
         return 16;
     }

@@ -7,7 +7,7 @@ ghost use mathlib.Core.Path.{_≡_};
 ghost use Prim.Native.Nat.{ℕ, _<_};
 ghost use lib.ListN.{length};
 ghost use Rattle.futures.specs.Sheet.{keptCheckpoints, keptMessages, sheet};
-ghost use Rattle.futures.specs.Steps.{afterCheckpoint, afterRollback, afterSend};
+ghost use Rattle.futures.specs.Steps.{afterRollback, afterSend};
 ghost use Rattle.run_table.specs.Checks.{tableRefusal};
 ghost use Rattle.run_table.specs.Format.{decode, encode};
 ghost use Rattle.run_table.specs.Numbers.{u16s};
@@ -31,11 +31,11 @@ pub fn send_size(table: &[u8]) -> usize
     table_length(process_count(table), message_count(table) + 1)
 }
 
-// The table after a checkpoint, whichever it is: as long as it was.
-pub fn checkpoint_size(table: &[u8]) -> usize
+// A table with as many processes and messages, as a receipt and a checkpoint leave it.
+pub fn same_size(table: &[u8]) -> usize
     requires { ⌜ tableRefusal (now table) ≡ 0 ⌝ }
-    ensures { λ (r : ℕ). ⌜ ((process : ℕ) (list : List ℕ)
-        → r ≡ length (encode (afterCheckpoint (decode (now (table .entry))) process list))) ⌝ }
+    ensures { λ (r : ℕ). ⌜ ((t : Table) → processCount t ≡ processCount (decode (now (table .entry)))
+        → messageCount t ≡ messageCount (decode (now (table .entry))) → r ≡ length (encode t)) ⌝ }
 {
     table.len()
 }

@@ -5,20 +5,24 @@
 --     Quiet                       none of a call's checks before 16 catches
 --     QuietCall, quiet-call       so it is, of a call on a table, by the refusal that was found
 --     quiet-by                    then the check of any number is quiet
+--     last-caught, last-quiet     one check more behind a call's, which is quiet
+--     quiet-longer, quiet-front-call    where none of a longer list catches, none of its front does
 --     first-of, second-of, neither    a check of two tests
---     read-le, read-lt, le-read, lt-read    a test of a number, by what was read
---     short-marks, long-marks, quiet-marking, quiet-ceilings, marks-long    19, by the length of the mark buffer
+--     read-le .. read-long        a test of a number, by what was read
+--     quiet-marking, quiet-ceilings, marks-long    19, by the length of the mark buffer
+--     quiet-checkpoint, quiet-receipt              14, behind the checks of a receipt
 --     short-scratch, long-scratch, scratch-long    15, by the scratch's length
 -- Assumes nothing.
 use mathlib.Core.Bool.{Bool, true, false, _||_}
-use mathlib.Core.List.{List, _++_}
+use mathlib.Core.List.{List, [], _∷_, _++_}
 use mathlib.Core.Path.{_≡_, refl, sym, _∙_}
 use Prim.Native.Nat.{ℕ, _*_, _≤_, _<_}
 use native.Mathlib.Omega.{arith}
 use borrow.Author.Tests.{le-leb, le-ltb, lt-leb, lt-ltb, ltb-false}
-use lib.Dec.{leb}
+use lib.Dec.{leb, ltb}
 use Rattle.marks.specs.Room.{marksSize}
-use Rattle.refusals.specs.CallChecks.{keepSheetChecks, lineUnderChecks, markedLineChecks, onTable}
+use Rattle.futures.specs.Steps.{receiptChecks}
+use Rattle.refusals.specs.CallChecks.{checkpointCallChecks, keepSheetChecks, lineUnderChecks, markedLineChecks, onTable, receiptCallChecks}
 use Rattle.run_table.proofs.CheckLaws.{append-alike, append-passed, areRefusals, caught-first, caughtBy, passed, quiet-front, quiet-none, quiet-number}
 use Rattle.run_table.proofs.CheckLaws.{stopped, table-refusals}
 use Rattle.run_table.specs.Checks.{Check, firstCaught, tableChecks, tableRefusal}
@@ -61,6 +65,25 @@ quiet-call table own refusals e none =
 pub quiet-by : {table : List ℕ} {checks : List Check} → QuietCall table checks → (n : ℕ) → caughtBy n checks ≡ false
 quiet-by {checks = checks} q = quiet-number checks (q .quiet .refusals) (q .quiet .quiet)
 
+-- ---- one check more behind those of a call
+module _ {table : List ℕ} {checks : List Check} (q : QuietCall table checks) (last : Check) where
+  past : {n : ℕ} → firstCaught (last ∷ []) ≡ n → n ≡ firstCaught (checks ++ (last ∷ []))
+  past e = sym (append-passed checks (last ∷ []) (q .quiet .refusals) (q .quiet .quiet) ∙ e)
+
+  pub last-caught : last .caught ≡ true → last .number ≡ firstCaught (checks ++ (last ∷ []))
+  last-caught e = past (stopped last [] e)
+
+  pub last-quiet : last .caught ≡ false → 0 ≡ firstCaught (checks ++ (last ∷ []))
+  last-quiet e = past (passed last [] 0 e quiet-none)
+
+pub quiet-front-call : (table : List ℕ) (own last : List Check) {r : ℕ} → r ≡ firstCaught (onTable table own ++ last) → r ≡ 0
+    → areRefusals own ≡ true → QuietCall table (onTable table own)
+quiet-front-call table own last e none refusals = quiet-call table own refusals refl (quiet-front (onTable table own) last (sym e ∙ none))
+
+pub quiet-longer : {table : List ℕ} {checks : List Check} → QuietCall table checks → (last : List Check) {r : ℕ} → r ≡ firstCaught (checks ++ last)
+    → r ≡ 0 → areRefusals (checks ++ last) ≡ true → QuietCall table (checks ++ last)
+quiet-longer front last e none refusals = record { accepted = front .accepted; quiet = record { refusals = refusals; quiet = sym e ∙ none } }
+
 module _ (a b : Bool) where
   pub first-of : a ≡ true → (a || b) ≡ true
   first-of e = rw e
@@ -85,38 +108,36 @@ module _ {n m i : ℕ} (read : n ≡ m) where
   pub lt-read : n < i → leb i m ≡ false
   lt-read h = lt-leb i m (omega arith)
 
+  pub read-short : i < n → ltb i m ≡ true
+  read-short h = lt-ltb i m (omega arith)
+
+  pub read-long : n ≤ i → ltb i m ≡ false
+  read-long h = le-ltb i m (omega arith)
+
 -- ---- the mark buffer of the line by marking
-module _ (table ceilings : List ℕ) (q : QuietCall table (lineUnderChecks table ceilings)) where
-  abbrev marks : ℕ
-  marks = marksSize (decode table)
-
-  past-ceilings : {n : ℕ} (last : List Check) → firstCaught last ≡ n → n ≡ firstCaught (lineUnderChecks table ceilings ++ last)
-  past-ceilings last e = sym (append-passed (lineUnderChecks table ceilings) last (q .quiet .refusals) (q .quiet .quiet) ∙ e)
-
-  pub short-marks : (bytes : ℕ) → bytes < marks → _≡_ {A = ℕ} 19 (firstCaught (markedLineChecks table ceilings bytes))
-  unfolding markedLineChecks
-  short-marks bytes short = past-ceilings _ (stopped _ _ (lt-ltb bytes marks short))
-
-  pub long-marks : (bytes : ℕ) → marks ≤ bytes → _≡_ {A = ℕ} 0 (firstCaught (markedLineChecks table ceilings bytes))
-  unfolding markedLineChecks
-  long-marks bytes long = past-ceilings _ (passed _ _ 0 (le-ltb bytes marks long) quiet-none)
-
 -- where no check of the call catches, none of the line under ceilings does, and the buffer is long enough
 module _ (table ceilings : List ℕ) (bytes : ℕ) {r : ℕ} (e : r ≡ firstCaught (markedLineChecks table ceilings bytes)) (none : r ≡ 0) where
-  pub quiet-marking : QuietCall table (markedLineChecks table ceilings bytes)
-  unfolding markedLineChecks lineUnderChecks tableChecks areRefusals
-  quiet-marking = record {
-    accepted = table-accepted table _ (quiet-front (lineUnderChecks table ceilings) _ (sym e ∙ none));
-    quiet = record { refusals = refl; quiet = sym e ∙ none };
-  }
-
   pub quiet-ceilings : QuietCall table (lineUnderChecks table ceilings)
   unfolding markedLineChecks lineUnderChecks areRefusals
-  quiet-ceilings = quiet-call table _ refl refl (quiet-front (lineUnderChecks table ceilings) _ (sym e ∙ none))
+  quiet-ceilings = quiet-front-call table _ _ e none refl
+
+  pub quiet-marking : QuietCall table (markedLineChecks table ceilings bytes)
+  unfolding markedLineChecks lineUnderChecks tableChecks areRefusals
+  quiet-marking = quiet-longer quiet-ceilings _ e none refl
 
   pub marks-long : marksSize (decode table) ≤ bytes
   unfolding markedLineChecks lineUnderChecks tableChecks caughtBy
   marks-long = ltb-false bytes (marksSize (decode table)) (quiet-by quiet-marking 19)
+
+-- ---- a checkpoint, behind a receipt
+module _ (table : List ℕ) (i : ℕ) (list : List ℕ) {r : ℕ} (e : r ≡ firstCaught (checkpointCallChecks table i list)) (none : r ≡ 0) where
+  pub quiet-receipt : QuietCall table (receiptCallChecks table i list)
+  unfolding checkpointCallChecks receiptCallChecks receiptChecks areRefusals
+  quiet-receipt = quiet-front-call table _ _ e none refl
+
+  pub quiet-checkpoint : QuietCall table (checkpointCallChecks table i list)
+  unfolding checkpointCallChecks receiptCallChecks receiptChecks tableChecks areRefusals
+  quiet-checkpoint = quiet-longer quiet-receipt _ e none refl
 
 -- ---- the scratch of a keep sheet
 module _ (table : List ℕ) where

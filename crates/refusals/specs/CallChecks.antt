@@ -6,7 +6,7 @@ use Prim.Native.Nat.{ℕ, _*_}
 use lib.Dec.{eqb, leb, ltb}
 use lib.ListN.{length}
 use Rattle.consistency.specs.Ceilings.{aboveCounts}
-use Rattle.futures.specs.Steps.{checkpointChecks, sendChecks}
+use Rattle.futures.specs.Steps.{receiptChecks, sendChecks}
 use Rattle.marks.specs.Room.{marksSize}
 use Rattle.process_set.specs.Sets.{highBit}
 use Rattle.run_table.specs.Checks.{Check, tableChecks}
@@ -43,11 +43,15 @@ sendCallChecks table from to =
     onTable table (sendChecks (decode table) from to
     ++ (record { caught = leb mostMessages (messageCount (decode table)); number = 14 } ∷ []))
 
--- A checkpoint: the table's; 10 and 13; 14, that the count of the process is 4,096 already.
+-- A receipt: the table's; 10 and 13.
+unfoldable pub receiptCallChecks : List ℕ → ℕ → List ℕ → List Check
+receiptCallChecks table process list = onTable table (receiptChecks (decode table) process list)
+
+-- A checkpoint: those of a receipt; 14, that the count of the process is 4,096 already.
 unfoldable pub checkpointCallChecks : List ℕ → ℕ → List ℕ → List Check
 checkpointCallChecks table process list =
-    onTable table (checkpointChecks (decode table) process list
-    ++ (record { caught = leb mostCheckpoints (countOf (decode table) process); number = 14 } ∷ []))
+    receiptCallChecks table process list
+    ++ (record { caught = leb mostCheckpoints (countOf (decode table) process); number = 14 } ∷ [])
 
 -- The keep sheet, by the length of the scratch: the table's; 15, that it is shorter than N × N numbers.
 unfoldable pub keepSheetChecks : List ℕ → ℕ → List Check

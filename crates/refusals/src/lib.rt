@@ -8,11 +8,11 @@ use run_table::format::MOST_CHECKPOINTS;
 use run_table::format::MOST_MESSAGES;
 use run_table::lookups;
 use run_table::parts;
-use steps::checkpoint::bad_position;
-use steps::checkpoint::not_rising;
+use steps::receipts::bad_position;
+use steps::receipts::not_rising;
 ghost use mathlib.Core.Path.{_≡_};
 ghost use Rattle.refusals.specs.CallChecks.{checkpointCallChecks, keepSheetChecks, lineOfSetChecks};
-ghost use Rattle.refusals.specs.CallChecks.{lineUnderChecks, markedLineChecks, sendCallChecks};
+ghost use Rattle.refusals.specs.CallChecks.{lineUnderChecks, markedLineChecks, receiptCallChecks, sendCallChecks};
 ghost use Rattle.run_table.specs.Checks.{firstCaught};
 
 // The line of a set: the table's checks, 12.
@@ -84,9 +84,9 @@ pub fn send_refusal(table: &[u8], from: u16, to: u16) -> u32
     0
 }
 
-// A checkpoint: the table's checks, 10, 13, 14.
-pub fn checkpoint_refusal(table: &[u8], process: u16, list: &[u16]) -> u32
-    ensures { λ r. ⌜ r ≡ firstCaught (checkpointCallChecks (now (table .entry)) process (now (list .entry))) ⌝ }
+// A receipt: the table's checks, 10, 13.
+pub fn receipt_refusal(table: &[u8], process: u16, list: &[u16]) -> u32
+    ensures { λ r. ⌜ r ≡ firstCaught (receiptCallChecks (now (table .entry)) process (now (list .entry))) ⌝ }
 {
     let refusal = check(table);
     if refusal != 0 {
@@ -100,6 +100,17 @@ pub fn checkpoint_refusal(table: &[u8], process: u16, list: &[u16]) -> u32
     }
     if not_rising(list) {
         return 13;
+    }
+    0
+}
+
+// A checkpoint: the table's checks, 10, 13, 14.
+pub fn checkpoint_refusal(table: &[u8], process: u16, list: &[u16]) -> u32
+    ensures { λ r. ⌜ r ≡ firstCaught (checkpointCallChecks (now (table .entry)) process (now (list .entry))) ⌝ }
+{
+    let refusal = receipt_refusal(table, process, list);
+    if refusal != 0 {
+        return refusal;
     }
     if MOST_CHECKPOINTS <= lookups::count(table, process as usize) {
         return 14;

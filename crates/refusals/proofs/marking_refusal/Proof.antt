@@ -2,9 +2,8 @@
 -- Assumes nothing.
 use borrow.Author.Needs.{needs}
 use mathlib.Core.Path.{refl}
-use native.Mathlib.Omega.{arith}
 use denote.Ref.{now}
-use Rattle.refusals.proofs.RefusalLaws.{QuietCall, long-marks, quiet-call, short-marks}
+use Rattle.refusals.proofs.RefusalLaws.{QuietCall, last-caught, last-quiet, quiet-call, read-long, read-short}
 use Rattle.refusals.specs.CallChecks.{lineUnderChecks, markedLineChecks}
 use Rattle.run_table.proofs.CheckLaws.{areRefusals, caught-first}
 use Rattle.refusals.proofs.marking_refusal.Statement.{statement}
@@ -32,6 +31,6 @@ marking-refusal-spec =
     (λ c. caught-first _ _ _ (c .before .ceilings-refusal .ensures) (c .if1 .taken))
     (λ c κs. quiet c .accepted)
     -- 19
-    (λ c. short-marks _ _ (quiet (c .before .before)) _ (omega (arith, c .if2 .taken, c .before .marks-size .ensures)))
+    (λ c. last-caught (quiet (c .before .before)) _ (read-short (c .before .marks-size .ensures) (c .if2 .taken)))
     -- none
-    (λ c. long-marks _ _ (quiet (c .before .before)) _ (omega (arith, c .if2 .left, c .before .marks-size .ensures))))
+    (λ c. last-quiet (quiet (c .before .before)) _ (read-long (c .before .marks-size .ensures) (c .if2 .left))))

@@ -1,0 +1,60 @@
+-- `keeper_receive` meets its contract, at each return.
+-- Assumes nothing.
+use borrow.Author.Needs.{needs}
+use mathlib.Core.Path.{refl}
+use denote.Ref.{now}
+use Rattle.futures.proofs.StepLaws.{receipt-receives}
+use Rattle.futures.specs.Steps.{receiptChecks}
+use Rattle.keeper.proofs.AnswerLaws.{answered, refused, sixteen, too-short}
+use Rattle.refusals.proofs.RefusalLaws.{QuietCall, quiet-call}
+use Rattle.keeper.proofs.StepAnswers.{can-receive, receipt-taken, received-bytes, received-room, table-holds}
+use Rattle.keeper.specs.Calls.{receiptAnswer}
+use Rattle.refusals.specs.CallChecks.{receiptCallChecks}
+use Rattle.run_table.proofs.CheckLaws.{areRefusals}
+use Rattle.keeper.proofs.keeper_receive.Statement.{statement}
+use Rattle.keeper.proofs.keeper_receive.Tie as tie
+
+-- ---- the places: the entry; where no check before 16 caught; where the size was found
+abbrev entry : tie.Else1 → tie.Start
+entry c = c .before .before .before .before .before
+
+abbrev judged : tie.After-same-size → tie.Else1
+judged c = c .before
+
+abbrev sized : tie.After-put-receipt → tie.After-same-size
+sized c = c .before .before .before
+
+-- ---- what is known there: no check before 16 catches
+quiet : (c : tie.Else1)
+    → (let args = entry c .args in
+    QuietCall (now (args .table)) (receiptCallChecks (now (args .table)) (args .process) (now (args .list))))
+unfolding receiptCallChecks receiptChecks areRefusals
+quiet c = quiet-call _ _ refl (c .before .receipt-refusal .ensures) (c .if1 .left)
+
+-- ---- the needs, in the code's course
+pub keeper-receive-spec : {M : Type 1} → statement M
+unfolding receiptAnswer
+keeper-receive-spec =
+    tie.close
+    (tie.spec
+    (λ c κs. search needs)
+    -- a check before 16
+    (λ c. (refused _ _ _ (c .before .receipt-refusal .ensures) (c .if1 .taken), λ e. absurd (c .if1 .taken e)))
+    -- asked by `same_size`
+    (λ c κs. quiet c .accepted)
+    -- 16
+    (λ c.
+    let size = received-bytes _ (c .before .same-size .ensures) (receipt-receives _ _ _) in
+    (too-short _ _ _ (quiet (judged (c .before)) .quiet) size (c .if2 .taken), sixteen))
+    -- asked by `put_receipt`
+    (λ c κs.
+    let size = c .before .before in
+    (can-receive _ _ (quiet (judged size)), received-room _ (size .same-size .ensures) (c .before .if2 .left)))
+    (λ c. search needs)
+    -- the answer
+    (λ c.
+    let put = c .before .before in
+    let here = quiet (judged (sized put)) in
+    let size = received-bytes _ (sized put .same-size .ensures) (receipt-receives _ _ _) in
+    let table = put .put-receipt .ensures in
+    (answered _ _ _ (here .quiet) size (put .before .before .if2 .left) table, λ _. table-holds (receipt-taken _ _ here) _ table size)))
