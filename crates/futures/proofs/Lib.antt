@@ -5,6 +5,7 @@
 --     KeptLaws       what the sheet's lists hold, and their order
 --     NeedLaws       what a future needs is on the sheet
 --     WitnessLaws    what is on the sheet some future needs
+--     UnsavedLaws    messages that were received and are unsaved
 --     Demand3        the two together, and what follows for whoever discards
 pub mod Demand3
 pub mod FutureLaws
@@ -12,4 +13,5 @@ pub mod HeldLaws
 pub mod KeptLaws
 pub mod NeedLaws
 pub mod StepLaws
+pub mod UnsavedLaws
 pub mod WitnessLaws

@@ -9,7 +9,7 @@
 --     receipt-known .. receipt-quiet                   what it means that nothing catches it
 --     Receives, receipt-receives, checkpoint-receives  what both leave: the listed messages received, at no lower counts
 --     receives-messages .. receives-each               its messages; what holds of the listed ones, received, and of the old ones holds of all
---     checkpoint-count-other, checkpoint-count-here    the counts after a checkpoint
+--     receipt-count .. checkpoint-count-here           the counts after a receipt, and after a checkpoint
 --     recovery-latest, recovery-length                 the recovery line
 --     putBack-after .. putBack-under, stays-sent       a message that is put back; one that stays
 --     rollback-processes .. rollback-fewer             the sizes and the counts after a rollback
@@ -235,6 +235,10 @@ module _ (t : Table) (i : ℕ) (list : List ℕ) where
   pub receipt-receives : Receives t i list (afterReceipt t i list)
   unfolding afterReceipt processCount countOf
   receipt-receives = record { same-processes = refl; counts-grow = λ p. le-refl (countOf t p); messages-are = refl }
+
+  pub receipt-count : (p : ℕ) → countOf (afterReceipt t i list) p ≡ countOf t p
+  unfolding afterReceipt countOf
+  receipt-count p = refl
 
   pub checkpoint-count-other : (p : ℕ) → (p ≡ i → ⊥) → countOf (afterCheckpoint t i list) p ≡ countOf t p
   unfolding afterCheckpoint countOf
@@ -554,12 +558,13 @@ send-limits t j i limits room = record {
 
 -- a receipt leaves the counts
 pub receipt-limits : (t : Table) (i : ℕ) (list : List ℕ) → Limits t → Limits (afterReceipt t i list)
-unfolding afterReceipt processCount countOf
-receipt-limits t i list limits = record {
-  processes-limit = limits .processes-limit;
-  messages-limit = omega (arith, receives-messages (receipt-receives t i list), limits .messages-limit);
-  counts-limit = limits .counts-limit;
-}
+receipt-limits t i list limits =
+    let after = receipt-receives t i list in
+    record {
+      processes-limit = omega (arith, after .same-processes, limits .processes-limit);
+      messages-limit = omega (arith, receives-messages after, limits .messages-limit);
+      counts-limit = λ p l. omega (arith, receipt-count t i list p, limits .counts-limit p (omega (arith, after .same-processes)));
+    }
 
 pub checkpoint-limits : (t : Table) (i : ℕ) (list : List ℕ) → Limits t → countOf t i < mostCheckpoints → Limits (afterCheckpoint t i list)
 checkpoint-limits t i list limits room = record {

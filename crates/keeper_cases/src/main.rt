@@ -8,6 +8,7 @@
 //     under COUNT LEN C ...    the line under a list of COUNT ceilings, 64 at most: the numbers C, of which
 //                         the last goes on to the end of a longer list
 //     send FROM TO LEN    the table after a send
+//     deliver P LEN K ...    the table after a receipt of P: of the messages at positions K
 //     save P LEN K ...    the table after a save of P, which receives the messages at positions K
 //     fall LEN            the table after a fall back
 //     sheet SCRATCH LEN   the keep sheet, with a scratch of SCRATCH numbers, 1,184 at most
@@ -100,6 +101,11 @@ fn ask(table: &[u8], line: Line, scratch: &mut [u16], answer: &mut [u8], written
             answer,
             written,
         );
+    }
+    if starts(line.code, b'd', b'e') {
+        let numbers = smalls(&line.numbers);
+        let received = behind_two(&numbers, line.count);
+        return keeper::keeper_receive(table, small(&line.numbers, 0), received, answer, written);
     }
     if starts(line.code, b's', b'a') {
         let numbers = smalls(&line.numbers);
@@ -290,7 +296,7 @@ fn run(text: &[u8], table: &mut [u8], space: &mut [u8], kept: &mut [u8])
 }
 
 fn main() {
-    let mut text = [0u8; 32768];
+    let mut text = [0u8; 65536];
     let len = io::read_full(STDIN_FILENO, &mut text);
     let mut table = [0u8; SPACE];
     let mut space = [0u8; SPACE];
