@@ -1,5 +1,5 @@
--- The marked cases hold of the definitions, and so do the cases of lines under ceilings and by marking: a statement each, by
--- computation.
+-- The marked cases hold of the definitions, and so do the cases of lines under ceilings and by marking, and of receipts: a statement
+-- each, by computation.
 -- Assumes nothing.
 use mathlib.Core.Bool.{true}
 use mathlib.Core.List.{List, [], _∷_}
@@ -19,15 +19,16 @@ use Rattle.run_table.specs.Table.{countOf, messageCount, messageOf, processCoun
 use Rattle.consistency.specs.Ceilings.{aboveCounts, ceilingOf, lineOf, recoveryLine, single}
 use Rattle.consistency.specs.Lowering.{isOrphan, lineUnder, lower, pass, passes}
 use Rattle.process_set.specs.Sets.{highBit, member}
-use Rattle.futures.specs.Steps.{afterRollback, putBack, remaining, stays}
+use Rattle.futures.specs.Steps.{afterCheckpoint, afterReceipt, afterRollback, badPosition, notRising, notRisingAfter, putBack, receiptChecks, receivedAt}
+use Rattle.futures.specs.Steps.{remaining, stays, waitsFor}
 use Rattle.futures.specs.Sheet.{crosses, holderLine, keepsCheckpoint, keepsMessage, keptCheckpoints, keptMessages, sheet}
 use Rattle.keeper.specs.Answers.{answer, unless}
-use Rattle.keeper.specs.Calls.{keepSheetAnswer, lineAnswer, lineOfSetAnswer, lineUnderAnswer, markedLineAnswer, recoveryLineAnswer}
-use Rattle.keeper.specs.Calls.{rollbackAnswer}
+use Rattle.keeper.specs.Calls.{checkpointAnswer, keepSheetAnswer, lineAnswer, lineOfSetAnswer, lineUnderAnswer, markedLineAnswer, receiptAnswer}
+use Rattle.keeper.specs.Calls.{recoveryLineAnswer, rollbackAnswer}
 use Rattle.marks.specs.Room.{marksSize}
-use Rattle.refusals.specs.CallChecks.{keepSheetChecks, lineOfSetChecks, lineUnderChecks, markedLineChecks}
+use Rattle.refusals.specs.CallChecks.{checkpointCallChecks, keepSheetChecks, lineOfSetChecks, lineUnderChecks, markedLineChecks, receiptCallChecks}
 use Rattle.keeper.specs.Cases.{MarkingExample, allHold, answerOf, ceilingCases, lateReceipt, lateSend, markedCases, markingCases, nineMarks, sameAnswer}
-use Rattle.keeper.specs.Cases.{sameBytes, tableA, tableB, tableC, tableD, tenMarks}
+use Rattle.keeper.specs.Cases.{crossing, full, oneMessage, receiptCases, sameBytes, savedA, tableA, tableB, tableC, tableD, tenMarks, unsavedA}
 
 pub marked-cases : allHold markedCases ≡ true
 unfolding firstCaught outside tooShort badProcessCount tooManyMessages badLength badCount unknownProcess toItself badSend badReceipt tableChecks
@@ -52,6 +53,17 @@ unfolding firstCaught outside tooShort badProcessCount tooManyMessages badLength
     tableB tableD nineMarks tenMarks lateReceipt answerOf sameBytes sameAnswer allHold aboveCounts lineUnderChecks marksSize markedLineChecks
     markedLineAnswer markingCases
 marking-cases = refl
+
+pub receipt-cases : allHold receiptCases ≡ true
+unfolding firstCaught outside tooShort badProcessCount tooManyMessages badLength badCount unknownProcess toItself badSend badReceipt tableChecks
+    tableRefusal processesIn messagesIn countsPart sendsPart receiptsPart countAt processAt checkpointAt messageAt decode entriesOf encode u16At
+    u16Bytes u16s tabulate any anyBelow processCount messageCount countOf messageOf ceilingOf lineOf recoveryLine single isOrphan lower pass passes
+    sum lineUnder member highBit stays putBack remaining afterRollback holderLine keepsCheckpoint crosses keepsMessage select rows keptCheckpoints
+    keptMessages sheet unless answer lineAnswer lineOfSetChecks lineOfSetAnswer keepSheetChecks keepSheetAnswer rollbackAnswer aboveCounts
+    lineUnderChecks marksSize markedLineChecks markedLineAnswer waitsFor badPosition notRisingAfter notRising receiptChecks receivedAt afterReceipt
+    afterCheckpoint receiptCallChecks checkpointCallChecks receiptAnswer checkpointAnswer tableA lateReceipt unsavedA savedA crossing oneMessage full
+    answerOf sameBytes sameAnswer allHold receiptCases
+receipt-cases = refl
 
 -- by the theorem: the procedure ends, and with the computed line
 pub marking-example : MarkingExample

@@ -5,8 +5,8 @@ use mathlib.Core.List.{List, [], _∷_, _++_}
 use Prim.Native.Nat.{ℕ}
 use lib.Dec.{eqb}
 use Rattle.keeper.specs.Answers.{Answer, answered, refused, unless}
-use Rattle.keeper.specs.Calls.{keepSheetAnswer, lineOfSetAnswer, lineUnderAnswer, recoveryLineAnswer}
-use Rattle.keeper.specs.Calls.{markedLineAnswer, rollbackAnswer}
+use Rattle.keeper.specs.Calls.{checkpointAnswer, keepSheetAnswer, lineOfSetAnswer, lineUnderAnswer}
+use Rattle.keeper.specs.Calls.{markedLineAnswer, receiptAnswer, recoveryLineAnswer, rollbackAnswer}
 use Rattle.marking.specs.Procedure.{EndsWith}
 use Rattle.run_table.specs.Checks.{tableRefusal}
 use Rattle.run_table.specs.Format.{decode}
@@ -45,6 +45,8 @@ pub data Call : Type 0 where
   hold : ℕ → Call
   under : List ℕ → Call
   marking : List ℕ → ℕ → ℕ → Call
+  receive : ℕ → List ℕ → ℕ → Call
+  save : ℕ → List ℕ → Call
   fallBack : Call
   keepSheet : Call
 
@@ -54,13 +56,16 @@ pub record Case : Type 0 where
   pub expected : Answer
 
 -- The answer of a call by the definitions, with a buffer of 1,000 bytes and a scratch of 4 numbers; of the line by
--- marking, with the bytes of its mark buffer and of its answer buffer that the case gives.
+-- marking, with the bytes of its mark buffer and of its answer buffer that the case gives, and of a receipt, with those
+-- of its answer buffer.
 unfoldable pub answerOf : List ℕ → Call → Answer
 answerOf table checkTable = unless (tableRefusal table) []
 answerOf table recoveryLine = recoveryLineAnswer table 1000
 answerOf table (hold set) = lineOfSetAnswer table set 1000
 answerOf table (under ceilings) = lineUnderAnswer table ceilings 1000
 answerOf table (marking ceilings bytes room) = markedLineAnswer table ceilings bytes room
+answerOf table (receive process list room) = receiptAnswer table process list room
+answerOf table (save process list) = checkpointAnswer table process list 1000
 answerOf table fallBack = rollbackAnswer table 1000
 answerOf table keepSheet = keepSheetAnswer table 4 1000
 
@@ -185,4 +190,78 @@ markingCases =
     ∷ record { table = tableA; call = marking (4 ∷ 0 ∷ []) 0 0; expected = refused 18 }
     ∷ record { table = tableA; call = marking (3 ∷ 0 ∷ []) 0 0; expected = refused 19 }
     ∷ record { table = tableA; call = marking (3 ∷ 0 ∷ []) 1 3; expected = refused 16 }
+    ∷ []
+
+-- ---- receipts since the last save (docs/MANUAL.md, "Steps")
+-- A, after process 0 received its last message, which is unsaved; and after process 0 saved.
+unfoldable pub unsavedA : List ℕ
+unsavedA =
+    u16s (2 ∷ 5 ∷ 3 ∷ 3 ∷ 0 ∷ 0 ∷ 1 ∷ 0 ∷ 1 ∷ 1 ∷ 0 ∷ 2 ∷ 1 ∷ 2
+    ∷ 1 ∷ 2 ∷ 0 ∷ 1 ∷ 0 ∷ 2 ∷ 1 ∷ 2 ∷ 0 ∷ 3 ∷ [])
+
+unfoldable pub savedA : List ℕ
+savedA =
+    u16s (2 ∷ 5 ∷ 4 ∷ 3 ∷ 0 ∷ 0 ∷ 1 ∷ 0 ∷ 1 ∷ 1 ∷ 0 ∷ 2 ∷ 1 ∷ 2
+    ∷ 1 ∷ 2 ∷ 0 ∷ 1 ∷ 0 ∷ 2 ∷ 1 ∷ 2 ∷ 0 ∷ 3 ∷ [])
+
+-- Two processes with one checkpoint each, and a message each way that is received at r.
+unfoldable pub crossing : ℕ → List ℕ
+crossing r = u16s (2 ∷ 2 ∷ 1 ∷ 1 ∷ 0 ∷ 0 ∷ 1 ∷ 0 ∷ 1 ∷ r ∷ 0 ∷ r ∷ [])
+
+-- Counts 2 and 1, and a message from checkpoint 0 of process 0 to process 1 that is received at r.
+unfoldable pub oneMessage : ℕ → List ℕ
+oneMessage r = u16s (2 ∷ 1 ∷ 2 ∷ 1 ∷ 0 ∷ 0 ∷ 1 ∷ r ∷ [])
+
+-- One process with all the checkpoints that it may have.
+unfoldable pub full : List ℕ
+full = u16s (1 ∷ 0 ∷ 4096 ∷ [])
+
+unfoldable pub receiptCases : List Case
+receiptCases =
+    -- a receipt number that is the count is accepted, and one above it is not
+    record { table = unsavedA; call = checkTable; expected = answered [] }
+    ∷ record { table = lateReceipt; call = checkTable; expected = refused 9 }
+    -- A: its last message is received, with room just enough and one byte short; nothing is received
+    ∷ record { table = tableA; call = receive 0 (4 ∷ []) 48; expected = answered unsavedA }
+    ∷ record { table = tableA; call = receive 0 (4 ∷ []) 47; expected = refused 16 }
+    ∷ record { table = tableA; call = receive 0 [] 48; expected = answered tableA }
+    -- the order: the table's, 10, 13, 16
+    ∷ record { table = lateReceipt; call = receive 2 (5 ∷ []) 0; expected = refused 9 }
+    ∷ record { table = tableA; call = receive 2 (5 ∷ []) 0; expected = refused 10 }
+    ∷ record { table = tableA; call = receive 0 (5 ∷ []) 0; expected = refused 13 }
+    -- 13: a position that comes twice; a message for another process; a received one; an unsaved one, in a save too
+    ∷ record { table = tableA; call = receive 0 (4 ∷ 4 ∷ []) 48; expected = refused 13 }
+    ∷ record { table = tableA; call = receive 1 (4 ∷ []) 48; expected = refused 13 }
+    ∷ record { table = tableA; call = receive 0 (1 ∷ []) 48; expected = refused 13 }
+    ∷ record { table = unsavedA; call = receive 0 (4 ∷ []) 48; expected = refused 13 }
+    ∷ record { table = unsavedA; call = save 0 (4 ∷ []); expected = refused 13 }
+    -- 14 is of a save, and not of a receipt
+    ∷ record { table = full; call = save 0 []; expected = refused 14 }
+    ∷ record { table = full; call = receive 0 [] 6; expected = answered full }
+    -- a save saves what was received before it, and what it receives itself, alike
+    ∷ record { table = unsavedA; call = save 0 []; expected = answered savedA }
+    ∷ record { table = tableA; call = save 0 (4 ∷ []); expected = answered savedA }
+    -- lines: process 1 holds, and process 0 has received what it sent since; nobody holds
+    ∷ record { table = unsavedA; call = hold 2; expected = answered (u16s (1 ∷ 1 ∷ [])) }
+    ∷ record { table = unsavedA; call = marking (3 ∷ 2 ∷ []) 1 4; expected = answered (u16s (1 ∷ 1 ∷ [])) }
+    ∷ record { table = unsavedA; call = hold 0; expected = answered (u16s (3 ∷ 3 ∷ [])) }
+    -- a fall back: its send remains, and it waits again; its send is undone, and it is gone
+    ∷ record { table = oneMessage 1; call = fallBack; expected = answered (oneMessage 0) }
+    ∷ record { table = crossing 1; call = fallBack; expected = answered (u16s (2 ∷ 0 ∷ 1 ∷ 1 ∷ [])) }
+    -- the sheet: an unsaved message that crosses a holder's line; two that cross none, and the same two as they waited
+    ∷ record {
+      table = oneMessage 1;
+      call = keepSheet;
+      expected = answered (u16s (2 ∷ 1 ∷ 0 ∷ 1 ∷ 1 ∷ 0 ∷ 0 ∷ []));
+    }
+    ∷ record {
+      table = crossing 1;
+      call = keepSheet;
+      expected = answered (u16s (2 ∷ 0 ∷ 0 ∷ 1 ∷ 0 ∷ 0 ∷ []));
+    }
+    ∷ record {
+      table = crossing 0;
+      call = keepSheet;
+      expected = answered (u16s (2 ∷ 2 ∷ 0 ∷ 1 ∷ 0 ∷ 0 ∷ 0 ∷ 1 ∷ []));
+    }
     ∷ []
