@@ -1,13 +1,11 @@
 -- The laws of a listing's text.
 --     TextLaws      text over a buffer, decimal numbers, rows
---     RoundingLaws  a quotient as a whole number
 --     ShareLaws     the share
 --     ShareCases    cases of it, by computation
 --     RowLaws       the rows as the code reads them
 --     SizeLaws      how long a listing can be
 --     ListingLaws   what the code reads is the listing of the table
 pub mod ListingLaws
-pub mod RoundingLaws
 mod RowLaws
 pub mod ShareCases
 pub mod ShareLaws

@@ -7,7 +7,7 @@ use Rattle.consistency.specs.Lowering.{isOrphan, lineUnder, lower, pass, passes
 use Rattle.futures.specs.Sheet.{holderLine, keepsCheckpoint, keptCheckpoints}
 use Rattle.keeper.specs.Cases.{tableA, tableB, tableC, tableD}
 use Rattle.listing_text.specs.Listing.{share}
-use Rattle.listing_text.specs.Rounding.{evenOf, roundedQuotient}
+use Rattle.rounding.specs.Rounding.{evenOf, roundedQuotient}
 use Rattle.listing_text.specs.ShareCases.{allPortions, allShares, portions, shareCases}
 use Rattle.run_table.specs.Format.{checkpointAt, countAt, countsPart, decode, messageAt, messagesIn, processAt, processesIn, receiptsPart, sendsPart}
 use Rattle.run_table.specs.Lists.{anyBelow, rows, select, sum, tabulate}

@@ -12,9 +12,9 @@ use native.Mathlib.Omega.{arith}
 use lib.ListN.{length, getD}
 use Rattle.consistency.proofs.LoweringLaws.{sum-zero}
 use Rattle.futures.specs.Sheet.{keptCheckpoints}
-use Rattle.listing_text.proofs.RoundingLaws.{quotient-rounded, rounded-most, rounded-once}
+use Rattle.rounding.proofs.RoundingLaws.{quotient-rounded, rounded-most, rounded-once}
 use Rattle.listing_text.specs.Listing.{share}
-use Rattle.listing_text.specs.Rounding.{Rounded}
+use Rattle.rounding.specs.Rounding.{Rounded}
 use Rattle.run_table.proofs.AcceptLaws.{facts}
 use Rattle.run_table.specs.Checks.{tableRefusal}
 use Rattle.run_table.specs.Format.{decode}

@@ -1,11 +1,9 @@
 -- What the text of a listing is.
 --     Text       decimal numbers, fields and rows; text in a buffer
---     Rounding   a quotient as a whole number
 --     Listing    the listing of a table
 --     ShareCases cases of the share
 --     Rows       the rows as the code reads them off a scratch and a sheet
 pub mod Listing
-pub mod Rounding
 pub mod Rows
 pub mod ShareCases
 pub mod Text

@@ -6,7 +6,7 @@ use lib.ListN.{length}
 use Rattle.consistency.specs.Ceilings.{recoveryLine}
 use Rattle.futures.specs.Sheet.{Checkpoint, holderLine, keptCheckpoints, keptMessages}
 use Rattle.keeper.specs.Answers.{Answer, answer}
-use Rattle.listing_text.specs.Rounding.{Rounded, roundedQuotient}
+use Rattle.rounding.specs.Rounding.{Rounded, roundedQuotient}
 use Rattle.listing_text.specs.Text.{each, row}
 use Rattle.run_table.specs.Checks.{tableRefusal}
 use Rattle.run_table.specs.Format.{decode}

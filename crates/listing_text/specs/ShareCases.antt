@@ -5,7 +5,7 @@ use Prim.Native.Nat.{ℕ, _*_}
 use lib.Dec.{eqb}
 use Rattle.keeper.specs.Cases.{tableA, tableB, tableC, tableD}
 use Rattle.listing_text.specs.Listing.{share}
-use Rattle.listing_text.specs.Rounding.{roundedQuotient}
+use Rattle.rounding.specs.Rounding.{roundedQuotient}
 use Rattle.run_table.specs.Format.{decode}
 use Rattle.run_table.specs.Numbers.{u16s}
 

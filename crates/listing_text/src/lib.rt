@@ -4,6 +4,7 @@ pub mod text;
 
 use keeper::keeper_keep_sheet;
 use lines::recovery_line;
+use rounding::rounded_quotient;
 use run_table::lookups;
 use run_table::numbers::u16_at;
 use run_table::parts;
@@ -13,7 +14,6 @@ ghost use lib.ListN.{length, take};
 ghost use Rattle.futures.specs.Sheet.{keptCheckpoints};
 ghost use Rattle.keeper.specs.Answers.{Yields};
 ghost use Rattle.listing_text.specs.Listing.{EndsInShare, listing, listingAnswer, listingOf, share};
-ghost use Rattle.listing_text.specs.Rounding.{Rounded};
 ghost use Rattle.listing_text.specs.Rows.{Answered};
 ghost use Rattle.listing_text.specs.Text.{Laid};
 ghost use Rattle.run_table.specs.Checks.{tableRefusal};
@@ -33,28 +33,6 @@ fn count_sum(table: &[u8]) -> usize
         p += 1;
     }
     total
-}
-
-// A quotient as the nearest whole number, and on an exact half the even one. The dividend is below 2 ^ 31, so that
-// twice the remainder is a number.
-fn rounded_quotient(dividend: usize, divisor: usize) -> usize
-    requires { ⌜ 0 < divisor ⌝ }
-    requires { ⌜ dividend < 2147483648 ⌝ }
-    ensures { λ r. ⌜ Rounded dividend divisor r ⌝ }
-{
-    let below = dividend / divisor;
-    let above = below + 1;
-    let twice = 2 * (dividend % divisor);
-    if twice < divisor {
-        return below;
-    }
-    if divisor < twice {
-        return above;
-    }
-    if below % 2 == 0 {
-        return below;
-    }
-    above
 }
 
 // The share of the checkpoints that are kept, of 100, given their number.

@@ -9,7 +9,7 @@ use native.Mathlib.Decide.{decLt, ℕ-discrete}
 use native.Mathlib.Nat.{le-antisymm, mod-add-div', mod-lt, mul-le-mul-right, suc-mul}
 use native.Mathlib.Omega.{arith}
 use borrow.Author.Tests.{eq-eqb, le-ltb, lt-ltb, ne-eqb}
-use Rattle.listing_text.specs.Rounding.{Rounded, distance, evenOf, roundedQuotient}
+use Rattle.rounding.specs.Rounding.{Rounded, distance, evenOf, roundedQuotient}
 
 module _ (dividend divisor : ℕ) where
   abbrev below : ℕ

@@ -1,11 +1,11 @@
 -- `rounded_quotient` meets its contract, at each return.
 -- Assumes nothing.
-use Rattle.listing_text.proofs.RoundingLaws.{above-rounded, below-rounded}
+use Rattle.rounding.proofs.RoundingLaws.{above-rounded, below-rounded}
 use native.Mathlib.Nat.{div-le-self, mod-le}
 use native.Mathlib.Omega.{arith}
 use borrow.Author.Needs.{needs}
-use Rattle.listing_text.proofs.rounded_quotient.Statement.{statement}
-use Rattle.listing_text.proofs.rounded_quotient.Tie as tie
+use Rattle.rounding.proofs.rounded_quotient.Statement.{statement}
+use Rattle.rounding.proofs.rounded_quotient.Tie as tie
 
 -- ---- the places: the entry, from where the remainder is not below half
 abbrev entry : tie.Else1 → tie.Start
