@@ -15,7 +15,8 @@
 --     rollback-processes .. rollback-fewer             the sizes and the counts after a rollback
 --     rollback-from, rollback-each                     each message comes from one that stays
 --     rollback-place, rollback-message, rollback-order    where one that stays goes, in order
---     step-taken, step-caught                          a step that is caught leaves the table as it is
+--     step-cases                                       a step that is caught leaves the table as it is
+--     send-step .. rollback-step                       any other leaves what the call of its name answers
 --     send-well-formed .. step-well-formed             steps keep tables well formed
 --     send-limits, checkpoint-limits, rollback-limits  when they keep tables within the limits
 --     rollback-line                                    a rollback leaves the recovery line where it is
@@ -444,11 +445,11 @@ module _ (t : Table) where
 
 -- ---- a step
 module _ (checks : List Check) (after before : Table) where
-  pub step-taken : firstCaught checks ≡ 0 → unlessCaught checks after before ≡ after
+  step-taken : firstCaught checks ≡ 0 → unlessCaught checks after before ≡ after
   unfolding unlessCaught
   step-taken e = rw (eq-eqb (firstCaught checks) 0 e)
 
-  pub step-caught : (firstCaught checks ≡ 0 → ⊥) → unlessCaught checks after before ≡ before
+  step-caught : (firstCaught checks ≡ 0 → ⊥) → unlessCaught checks after before ≡ before
   unfolding unlessCaught
   step-caught e = rw (ne-eqb (firstCaught checks) 0 e)
 
@@ -458,6 +459,25 @@ module _ (checks : List Check) (after before : Table) where
       go : Dec (firstCaught checks ≡ 0) → P (unlessCaught checks after before)
       go (yes e) = subst⁻¹ P (step-taken e) (taken e)
       go (no e) = subst⁻¹ P (step-caught e) caught
+
+-- each step of a future leaves what the call of its name answers, where nothing catches it
+module _ (t : Table) where
+  pub send-step : (j i : ℕ) → firstCaught (sendChecks t j i) ≡ 0 → step t (send j i) ≡ afterSend t j i
+  unfolding step
+  send-step j i quiet = step-taken (sendChecks t j i) (afterSend t j i) t quiet
+
+  module _ (i : ℕ) (list : List ℕ) (quiet : firstCaught (receiptChecks t i list) ≡ 0) where
+    pub receive-step : step t (receive i list) ≡ afterReceipt t i list
+    unfolding step
+    receive-step = step-taken (receiptChecks t i list) (afterReceipt t i list) t quiet
+
+    pub checkpoint-step : step t (checkpoint i list) ≡ afterCheckpoint t i list
+    unfolding step
+    checkpoint-step = step-taken (receiptChecks t i list) (afterCheckpoint t i list) t quiet
+
+  pub rollback-step : step t rollback ≡ afterRollback t
+  unfolding step
+  rollback-step = refl
 
 -- ---- well formed tables
 -- a good message among as many processes, where no count is lower

@@ -13,11 +13,12 @@ use lib.ListN.{length, getD}
 use Rattle.consistency.specs.Ceilings.{recoveryLine}
 use Rattle.consistency.specs.Lines.{asLine}
 use Rattle.futures.proofs.FutureLaws.{checkpoint-grown}
-use Rattle.futures.proofs.StepLaws.{Waiting, checkpoint-count-here, receipt-count, receipt-known, receipt-quiet, receipt-receives}
-use Rattle.futures.proofs.StepLaws.{receivedAt-listed, receives-message, receives-messages, rollback-count, rollback-each, step-taken, withReceipt}
+use Rattle.futures.proofs.StepLaws.{Waiting, checkpoint-count-here, checkpoint-step, receipt-count, receipt-known, receipt-quiet, receipt-receives}
+use Rattle.futures.proofs.StepLaws.{receive-step, receivedAt-listed, receives-message, receives-messages, rollback-count, rollback-each, withReceipt}
+use Rattle.futures.specs.Futures.{FollowedTo, endOf, moved, placeOf}
 use Rattle.futures.specs.Receipts.{Receipts, Unsaved}
 use Rattle.futures.specs.Sheet.{crosses, holderLine, keepsMessage}
-use Rattle.futures.specs.Steps.{afterCheckpoint, afterReceipt, afterRollback, checkpoint, notRising, notRisingAfter, receiptChecks, receive, receivedAt}
+use Rattle.futures.specs.Steps.{afterReceipt, afterRollback, checkpoint, notRising, notRisingAfter, receiptChecks, receive}
 use Rattle.futures.specs.Steps.{rollback, step, waitsFor}
 use Rattle.run_table.proofs.ListLaws.{and-left, and-right}
 use Rattle.run_table.specs.Checks.{WellFormed, firstCaught}
@@ -42,9 +43,8 @@ module _ (t : Table) (w : WellFormed t) where
         }
 
     taken : step t (receive i alone) ≡ afterReceipt t i alone
-    unfolding step notRising notRisingAfter
-    taken =
-        step-taken (receiptChecks t i alone) (afterReceipt t i alone) t (receipt-quiet t i alone known (λ a b. each a b) refl)
+    unfolding notRising notRisingAfter
+    taken = receive-step t i alone (receipt-quiet t i alone known (λ a b. each a b) refl)
       where
         each : (a : ℕ) → a < length alone → Waiting t i (getD alone a 0)
         each zero b = waiting
@@ -61,19 +61,19 @@ module _ (t : Table) (w : WellFormed t) where
               (ap (countOf t) (sym (waiting .to-process)) ∙ sym (receipt-count t i alone (messageOf t k .receiver))),
         )
 
-    received-alone : Unsaved (step t (receive i alone)) k
-    received-alone = subst⁻¹ (λ (x : Table). Unsaved x k) taken unsaved
+    received-alone : Unsaved (endOf t (receive i alone ∷ [])) k × FollowedTo t (receive i alone ∷ []) k k
+    unfolding endOf FollowedTo placeOf moved
+    received-alone = (subst⁻¹ (λ (x : Table). Unsaved x k) taken unsaved, refl)
 
   -- ---- a checkpoint saves what is unsaved, as it is
   module _ (i : ℕ) (list : List ℕ) (quiet : firstCaught (receiptChecks t i list) ≡ 0) (k : ℕ) (u : Unsaved t k) (to-i : messageOf t k .receiver ≡ i) where
     saved-as-it-is : (messageOf (step t (checkpoint i list)) k ≡ messageOf t k) × (messageOf t k .received < countOf (step t (checkpoint i list)) i)
-    unfolding Unsaved step
+    unfolding Unsaved
     saved-as-it-is =
         let known = receipt-known t i list quiet in
-        let after = step-taken (receiptChecks t i list) (afterCheckpoint t i list) t quiet in
         let is : messageOf t k .received ≡ countOf t i = u .1 ∙ ap (countOf t) to-i in (
           checkpoint-grown t i list .messages-go-on k (u .0) .received-stay (omega (arith, w .some-checkpoint i known)),
-          subst⁻¹ (λ (x : Table). messageOf t k .received < countOf x i) after (omega (arith, checkpoint-count-here t i list known)),
+          subst⁻¹ (λ (x : Table). messageOf t k .received < countOf x i) (checkpoint-step t i list quiet) (omega (arith, checkpoint-count-here t i list known)),
         )
 
   -- ---- a rollback leaves none: what was received after the line waits again, and the line is below the count

@@ -23,12 +23,12 @@ use Rattle.consistency.specs.Ceilings.{Holders, ceilingOf, lineOf, recoveryLine
 use Rattle.consistency.specs.Lines.{asLine}
 use Rattle.consistency.specs.Lowering.{lineUnder}
 use Rattle.futures.proofs.KeptLaws.{Across, HolderWith, keeps-checkpoint, keeps-message}
-use Rattle.futures.proofs.StepLaws.{checkpoint-count-here, checkpoint-count-other, checkpoint-receives, receipt-quiet, receivedAt-unlisted}
-use Rattle.futures.proofs.StepLaws.{receives-message, receives-messages, step-taken}
+use Rattle.futures.proofs.StepLaws.{checkpoint-count-here, checkpoint-count-other, checkpoint-receives, checkpoint-step, receipt-quiet}
+use Rattle.futures.proofs.StepLaws.{receivedAt-unlisted, receives-message, receives-messages}
 use Rattle.futures.specs.Futures.{CheckpointNeeded, FollowedTo, Future, MessageNeeded, NeedsCheckpoint, NeedsMessage, StepKeeps, StillThere, endOf}
 use Rattle.futures.specs.Futures.{moved, placeOf}
 use Rattle.futures.specs.Sheet.{holderLine, keepsCheckpoint, keepsMessage}
-use Rattle.futures.specs.Steps.{afterCheckpoint, checkpoint, notRising, receiptChecks, step}
+use Rattle.futures.specs.Steps.{afterCheckpoint, checkpoint, notRising, step}
 use Rattle.run_table.specs.Checks.{WellFormed}
 use Rattle.run_table.specs.Lists.{any}
 use Rattle.run_table.specs.Table.{Message, Table, countOf, messageCount, messageOf, noMessage, processCount}
@@ -41,9 +41,8 @@ othersCheckpoint holds (suc n) = cond (holds n) (othersCheckpoint holds n) (chec
 -- ---- one such checkpoint
 module _ (t : Table) (i : ℕ) (known : i < processCount t) where
   alone : step t (checkpoint i []) ≡ afterCheckpoint t i []
-  unfolding step notRising
-  alone =
-      step-taken (receiptChecks t i []) (afterCheckpoint t i []) t (receipt-quiet t i [] known (λ a l. absurd (not-suc-le-zero l)) refl)
+  unfolding notRising
+  alone = checkpoint-step t i [] (receipt-quiet t i [] known (λ a l. absurd (not-suc-le-zero l)) refl)
 
   alone-messages : afterCheckpoint t i [] .messages ≡ t .messages
   unfolding messageCount messageOf any

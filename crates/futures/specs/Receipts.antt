@@ -5,6 +5,7 @@ use mathlib.Core.List.{List, [], _∷_}
 use mathlib.Core.Path.{_≡_}
 use Prim.Native.Nat.{ℕ, _<_}
 use Rattle.consistency.specs.Lines.{asLine}
+use Rattle.futures.specs.Futures.{FollowedTo, endOf}
 use Rattle.futures.specs.Sheet.{crosses, holderLine, keepsMessage}
 use Rattle.futures.specs.Steps.{checkpoint, receiptChecks, receive, rollback, step, waitsFor}
 use Rattle.run_table.specs.Checks.{firstCaught}
@@ -15,12 +16,12 @@ use Rattle.run_table.specs.Table.{Table, countOf, messageCount, messageOf, proc
 unfoldable pub Unsaved : Table → ℕ → Type 0
 Unsaved t k = (k < messageCount t) × (messageOf t k .received ≡ countOf t (messageOf t k .receiver))
 
--- A message that waits for a process of the table can be received, and is unsaved then. One that is unsaved stays as it
--- is in a checkpoint of its receiver, and lies below the count then: it is saved. A rollback leaves none. The sheet
--- keeps one just where it crosses the line of some single holder.
+-- A message that waits for a process of the table is received in some future, and is there at its end, unsaved. One that
+-- is unsaved stays as it is in a checkpoint of its receiver, and lies below the count then: it is saved. A rollback
+-- leaves none. The sheet keeps one just where it crosses the line of some single holder.
 pub record Receipts (t : Table) : Type 0 where
   pub received : (i k : ℕ) → i < processCount t → k < messageCount t → waitsFor i (messageOf t k) ≡ true
-      → Unsaved (step t (receive i (k ∷ []))) k
+      → Unsaved (endOf t (receive i (k ∷ []) ∷ [])) k × FollowedTo t (receive i (k ∷ []) ∷ []) k k
   pub saved : (i : ℕ) (list : List ℕ) → firstCaught (receiptChecks t i list) ≡ 0 → (k : ℕ) → Unsaved t k
       → messageOf t k .receiver ≡ i → (messageOf (step t (checkpoint i list)) k ≡ messageOf t k)
       × (messageOf t k .received < countOf (step t (checkpoint i list)) i)

@@ -12,8 +12,9 @@ use native.Mathlib.Omega.{arith}
 use borrow.Author.Tests.{leb-false}
 use lib.ListN.{length, take, drop}
 use lib.Seq.{take-at}
-use Rattle.futures.proofs.StepLaws.{Receives, checkpoint-limits, quiet-send, receipt-known, receipt-limits, receipt-positions, receives-messages}
-use Rattle.futures.proofs.StepLaws.{rollback-limits, rollback-processes, send-limits, send-messages, send-processes, step-taken, step-well-formed}
+use Rattle.futures.proofs.StepLaws.{Receives, checkpoint-limits, checkpoint-step, quiet-send, receipt-known, receipt-limits, receipt-positions, receive-step}
+use Rattle.futures.proofs.StepLaws.{receives-messages, rollback-limits, rollback-processes, rollback-step, send-limits, send-messages, send-processes}
+use Rattle.futures.proofs.StepLaws.{send-step, step-well-formed}
 use Rattle.futures.specs.Steps.{Step, afterCheckpoint, afterReceipt, afterRollback, afterSend, checkpoint, receiptChecks, receive, rollback, send}
 use Rattle.futures.specs.Steps.{sendChecks, step}
 use Rattle.keeper.proofs.AnswerLaws.{put-in-front}
@@ -67,10 +68,10 @@ module _ {table : List ℕ} where
     sender-known = quiet-send (decode table) j i send-quiet .0
 
     pub send-taken : Taken table (send j i) (afterSend (decode table) j i)
-    unfolding sendCallChecks sendChecks tableChecks caughtBy step
+    unfolding sendCallChecks sendChecks tableChecks caughtBy
     send-taken = record {
       accepted = q .accepted;
-      gives = step-taken _ _ _ send-quiet;
+      gives = send-step (decode table) j i send-quiet;
       limits = send-limits (decode table) j i (facts table (q .accepted) .limits) (leb-false mostMessages _ (quiet-by q 14));
     }
 
@@ -87,26 +88,24 @@ module _ {table : List ℕ} where
     }
 
     pub receipt-taken : Taken table (receive i list) (afterReceipt (decode table) i list)
-    unfolding step
     receipt-taken = record {
       accepted = q .accepted;
-      gives = step-taken _ _ _ receipt-quiet;
+      gives = receive-step (decode table) i list receipt-quiet;
       limits = receipt-limits (decode table) i list (facts table (q .accepted) .limits);
     }
 
     pub checkpoint-taken : QuietCall table (checkpointCallChecks table i list) → Taken table (checkpoint i list) (afterCheckpoint (decode table) i list)
-    unfolding checkpointCallChecks receiptCallChecks receiptChecks tableChecks caughtBy step
+    unfolding checkpointCallChecks receiptCallChecks receiptChecks tableChecks caughtBy
     checkpoint-taken all = record {
       accepted = q .accepted;
-      gives = step-taken _ _ _ receipt-quiet;
+      gives = checkpoint-step (decode table) i list receipt-quiet;
       limits = checkpoint-limits (decode table) i list (facts table (q .accepted) .limits) (leb-false mostCheckpoints _ (quiet-by all 14));
     }
 
 pub rollback-taken : (table : List ℕ) → tableRefusal table ≡ 0 → Taken table rollback (afterRollback (decode table))
-unfolding step
 rollback-taken table accepted = record {
   accepted = accepted;
-  gives = refl;
+  gives = rollback-step (decode table);
   limits = rollback-limits (decode table) (facts table accepted .well-formed) (facts table accepted .limits);
 }
 
