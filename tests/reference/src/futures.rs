@@ -5,7 +5,7 @@
 use std::collections::{BTreeSet, HashSet};
 
 use crate::lines::line_of_run;
-use crate::steps::{do_fall_back, do_save, do_send};
+use crate::steps::{do_fall_back, do_receive, do_save, do_send};
 use crate::table::Table;
 
 /// A table that some list of steps reached, with what became of the states and
@@ -49,6 +49,12 @@ impl Reached {
         next
     }
 
+    fn after_receipt(&self, i: usize, list: &[usize]) -> Reached {
+        let mut next = self.clone();
+        do_receive(&mut next.table, i, list);
+        next
+    }
+
     fn after_fall_back(&self) -> Reached {
         let mut next = self.clone();
         let rollback = do_fall_back(&mut next.table);
@@ -70,9 +76,11 @@ impl Reached {
     }
 
     /// Every table one step further. "A send names any two processes, a save
-    /// any process and any list of positions." Steps that 10, 11 or 13 catch
-    /// leave the table as it is, so they lead nowhere new and are left out.
-    fn one_step_on(&self) -> Vec<Reached> {
+    /// any process and any list of positions", and "Futures gain the receiving
+    /// step", which "takes a process and a list as a save does". Steps that 10,
+    /// 11 or 13 catch leave the table as it is, and so does a receipt of nothing:
+    /// they lead nowhere new and are left out.
+    fn one_step_on(&self, steps: Steps) -> Vec<Reached> {
         let n = self.table.processes();
         let mut all = vec![self.after_fall_back()];
         for j in 0..n {
@@ -88,6 +96,9 @@ impl Reached {
                     .map(|at| waiting[at])
                     .collect();
                 all.push(self.after_save(i, &list));
+                if steps == Steps::All && !list.is_empty() {
+                    all.push(self.after_receipt(i, &list));
+                }
             }
         }
         all
@@ -120,23 +131,26 @@ impl Reached {
     }
 }
 
-/// The states and the messages of `table` that some future of at most `depth`
-/// steps needs. "A future is a finite list of sends, saves and fall backs".
-/// The search goes breadth first, so a table is first met with the most steps
-/// left and need not be followed again.
-pub fn needed_by_futures(table: &Table, depth: usize) -> Needs {
-    let mut needs = (BTreeSet::new(), BTreeSet::new());
+/// The steps that a list may have.
+#[derive(Clone, Copy, Debug, PartialEq, Eq)]
+pub enum Steps {
+    /// All of them: sends, saves, receipts and fall backs.
+    All,
+    /// No receipts: a process receives when it saves, and not between.
+    WithoutReceipts,
+}
+
+/// Every table that some list of at most `depth` of these steps reaches, the
+/// first one included. The search goes breadth first, so a table is first met
+/// with the most steps left and need not be followed again.
+fn reached(table: &Table, depth: usize, steps: Steps) -> HashSet<Reached> {
     let first = Reached::first(table);
     let mut met = HashSet::from([first.clone()]);
     let mut newest = vec![first];
-    for steps_left in (0..=depth).rev() {
+    for _ in 0..depth {
         let mut further = Vec::new();
         for reached in &newest {
-            reached.add_needs(&mut needs);
-            if steps_left == 0 {
-                continue;
-            }
-            for next in reached.one_step_on() {
+            for next in reached.one_step_on(steps) {
                 if met.insert(next.clone()) {
                     further.push(next);
                 }
@@ -144,7 +158,30 @@ pub fn needed_by_futures(table: &Table, depth: usize) -> Needs {
         }
         newest = further;
     }
+    met
+}
+
+/// The states and the messages of `table` that some list of at most `depth` of
+/// these steps needs.
+pub fn needed_with(table: &Table, depth: usize, steps: Steps) -> Needs {
+    let mut needs = (BTreeSet::new(), BTreeSet::new());
+    for end in reached(table, depth, steps) {
+        end.add_needs(&mut needs);
+    }
     needs
+}
+
+/// The states and the messages of `table` that some future of at most `depth`
+/// steps needs. "A future is a finite list of sends, saves and fall backs", and
+/// "Futures gain the receiving step".
+pub fn needed_by_futures(table: &Table, depth: usize) -> Needs {
+    needed_with(table, depth, Steps::All)
+}
+
+/// The tables at the end of all lists of at most `depth` of these steps.
+pub fn ends(table: &Table, depth: usize, steps: Steps) -> HashSet<Table> {
+    let met = reached(table, depth, steps);
+    met.into_iter().map(|end| end.table).collect()
 }
 
 #[cfg(test)]
@@ -191,13 +228,32 @@ mod tests {
         assert_eq!(needs, (BTreeSet::new(), BTreeSet::new()));
     }
 
+    /// The message was sent before the line 1 0 to which the run falls back, so
+    /// it is still there, and waits once more.
+    #[test]
+    fn an_unsaved_message_is_followed_through_a_fall_back() {
+        let table = Table {
+            counts: vec![2, 1],
+            messages: vec![Message::new((0, 0), (1, 0))],
+        };
+        let after = Reached::first(&table).after_receipt(1, &[0]);
+        assert_eq!(after.table.messages, [Message::new((0, 0), (1, 1))]);
+        assert_eq!(after.table.counts, [2, 1]);
+        let after = after.after_fall_back();
+        assert_eq!(after.table, table);
+        assert_eq!(after.message_at, [Some(0)]);
+        assert_eq!(after.state_there, vec![vec![true, true], vec![true]]);
+    }
+
     #[test]
     fn all_steps_are_tried() {
-        // One fall back, two sends, two saves by 0 (message 4 waits) and one
-        // save by 1.
-        let further = Reached::first(&example_a()).one_step_on();
-        assert_eq!(further.len(), 6);
-        let different: HashSet<Reached> = further.into_iter().collect();
-        assert_eq!(different.len(), 6);
+        // One fall back, two sends, two saves by 0 (message 4 waits), one save
+        // by 1, and one receipt by 0.
+        for (steps, tried) in [(Steps::All, 7), (Steps::WithoutReceipts, 6)] {
+            let further = Reached::first(&example_a()).one_step_on(steps);
+            assert_eq!(further.len(), tried);
+            let different: HashSet<Reached> = further.into_iter().collect();
+            assert_eq!(different.len(), tried);
+        }
     }
 }

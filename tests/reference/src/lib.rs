@@ -1,15 +1,16 @@
 //! A plain second implementation of the keeper: the run table, its recovery
-//! lines, the three steps, the keep sheet and the listing. It is written for
+//! lines, the four steps, the keep sheet and the listing. It is written for
 //! comparison, so it prefers short and direct ways, and ways that do not
 //! resemble the lowering rule, over speed and small memory.
 //!
 //! Doc comments quote the sentence that they follow, of the scope document or
-//! of a change request.
+//! of a change request. A message that was received and is not saved yet is
+//! called unsaved.
 //!
 //! * `table`   - lookups in raw bytes, the table's checks, reading and writing
 //! * `lines`   - orphans, consistency and latest consistent lines under ceilings
 //! * `marking` - the graph of states, and the marking procedure on it
-//! * `steps`   - send, save and fall back
+//! * `steps`   - send, save, receive and fall back
 //! * `sheet`   - the keep sheet
 //! * `futures` - a search over lists of steps for what they need
 //! * `listing` - the text of the listing program, and the share in it
@@ -29,7 +30,7 @@ pub use lines::{line_of_set, line_under, recovery_line};
 pub use listing::listing;
 pub use marking::marked_line;
 pub use sheet::keep_sheet;
-pub use steps::{fall_back, save, send};
+pub use steps::{fall_back, receive, save, send};
 pub use table::{
     check_table, count, messages, processes, received, receiver, sender, sent, Message, Table,
     TABLE_CHECKS,

@@ -12,7 +12,8 @@ use crate::Outcome;
 pub type Line = Vec<u32>;
 
 /// "A message (j, y) to (i, r) with r not 0 is an orphan of line L when y >= L
-/// of j and r <= L of i".
+/// of j and r <= L of i". With r the count of i this is so of lines that stand
+/// at the new state of i alone: "The new state has received it."
 pub fn is_orphan(message: &Message, line: &[u32]) -> bool {
     message.received != 0
         && message.sent >= line[message.sender]
@@ -47,7 +48,9 @@ pub fn all_hold(n: usize) -> u32 {
 
 /// The ceiling of a set: "A holding set becomes one kind of ceiling". "a
 /// holding process may stand at no later than its last state, count - 1; any
-/// other may also stand at its new state, numbered count".
+/// other may also stand at its new state, numbered count". What is unsaved is
+/// then received before the line: "The line of a set of failed branches thereby
+/// counts the unsaved work of the others."
 pub fn ceiling(table: &Table, set: u32) -> Line {
     table
         .counts

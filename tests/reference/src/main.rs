@@ -18,6 +18,7 @@ calls: check
        marked MARKS_LEN ANSWER_LEN CEILING...
        send FROM TO ANSWER_LEN
        save PROCESS ANSWER_LEN POSITION...
+       receive PROCESS ANSWER_LEN POSITION...
        fall-back ANSWER_LEN
        keep SCRATCH_LEN ANSWER_LEN";
 
@@ -51,6 +52,9 @@ fn outcome(bytes: &[u8], args: &[String]) -> Option<Outcome> {
         ("send", 4) => reference::send(bytes, number(args, 1)?, number(args, 2)?, number(args, 3)?),
         ("save", 3..) => {
             reference::save(bytes, number(args, 1)?, &list(args, 3)?, number(args, 2)?)
+        }
+        ("receive", 3..) => {
+            reference::receive(bytes, number(args, 1)?, &list(args, 3)?, number(args, 2)?)
         }
         ("fall-back", 2) => reference::fall_back(bytes, number(args, 1)?),
         ("keep", 3) => reference::keep_sheet(bytes, number(args, 1)?, number(args, 2)?),

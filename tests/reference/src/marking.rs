@@ -10,7 +10,8 @@ use crate::Outcome;
 pub type State = (usize, u32);
 
 /// The graph of a table: for each process and each of its states, from 0 to
-/// the new one, the states to which an edge leads.
+/// the new one, the states to which an edge leads. No edge leads from a new
+/// state: "A send number is not below the sender's count" is refused.
 pub struct Graph {
     edges: Vec<Vec<Vec<State>>>,
 }
@@ -21,7 +22,7 @@ pub type Marks = Vec<Vec<bool>>;
 impl Graph {
     /// "Its graph has an edge from each state to the next of its process, new
     /// states included, and from state y of a sender to state r of a receiver
-    /// for each received message."
+    /// for each received message." Of an unsaved message r is the new state.
     pub fn new(table: &Table) -> Graph {
         let mut edges: Vec<Vec<Vec<State>>> = Vec::new();
         for (p, &count) in table.counts.iter().enumerate() {

@@ -41,7 +41,8 @@ pub fn state_is_kept(table: &Table, lines: &[Line], i: usize, c: u32) -> bool {
 }
 
 /// "A message is kept when it is waiting, or when for some such line y < L of
-/// its sender and L of its receiver < r."
+/// its sender and L of its receiver < r." An unsaved message does not wait, and
+/// its r is the count of its receiver.
 pub fn message_is_kept(table: &Table, lines: &[Line], position: usize) -> bool {
     let message = &table.messages[position];
     message.waiting()

@@ -1,4 +1,5 @@
-//! Steps: send, save and fall back, first on values, then as calls on bytes.
+//! Steps: send, save, receive and fall back, first on values, then as calls on
+//! bytes.
 
 use crate::lines::{line_of_run, Line};
 use crate::table::{Message, Table, MOST_MESSAGES, MOST_STATES};
@@ -13,13 +14,23 @@ pub fn do_send(table: &mut Table, j: usize, i: usize) {
 
 /// "Save by i with a strictly rising list of positions of messages waiting for
 /// i: their receipt number becomes the old count of i, and the count grows by
-/// one."
+/// one." And "A save saves what was received before it": what is unsaved has
+/// the old count as its receipt number already, and that is below the new one.
 pub fn do_save(table: &mut Table, i: usize, list: &[usize]) {
     let saved = table.counts[i];
     for &position in list {
         table.messages[position].received = saved;
     }
     table.counts[i] = saved + 1;
+}
+
+/// "A step that receives is added: it takes a process and a list as a save does,
+/// and gives the listed messages that number", the count of the process. The
+/// count stays.
+pub fn do_receive(table: &mut Table, i: usize, list: &[usize]) {
+    for &position in list {
+        table.messages[position].received = table.counts[i];
+    }
 }
 
 /// What a fall back did, apart from the table it left.
@@ -32,7 +43,9 @@ pub struct Rollback {
 
 /// "Fall back: with L the recovery line, each count becomes L + 1. A message
 /// with y >= L of its sender is removed. Of the others, one with r > L of its
-/// receiver is waiting again. Order is kept."
+/// receiver is waiting again. Order is kept." An unsaved message is among these,
+/// since L is below every count: "A fall back makes such a message waiting again
+/// if its send remains."
 pub fn do_fall_back(table: &mut Table) -> Rollback {
     let line = line_of_run(table);
     let mut moved_to = Vec::new();
@@ -54,9 +67,9 @@ pub fn do_fall_back(table: &mut Table) -> Rollback {
     Rollback { line, moved_to }
 }
 
-/// Whether check 13 catches the list: "A save's list has a position of M or
-/// above, or not above the one before it, or of a message not waiting for that
-/// process."
+/// Whether check 13 catches the list of a save or receipt: it "has a position of
+/// M or above, or not above the one before it, or of a message not waiting for
+/// that process."
 pub fn list_is_bad(table: &Table, i: usize, list: &[u16]) -> bool {
     let beyond = list
         .iter()
@@ -79,7 +92,7 @@ pub fn send(bytes: &[u8], from: u16, to: u16, answer_len: usize) -> Outcome {
         Ok(table) => table,
     };
     let (from, to) = (usize::from(from), usize::from(to));
-    // 10. A process named in a send or save is N or above.
+    // 10. A process named in a send, save or receipt is N or above.
     if from >= table.processes() || to >= table.processes() {
         return Outcome::refused(10);
     }
@@ -105,7 +118,7 @@ pub fn save(bytes: &[u8], process: u16, list: &[u16], answer_len: usize) -> Outc
         Ok(table) => table,
     };
     let process = usize::from(process);
-    // 10. A process named in a send or save is N or above.
+    // 10. A process named in a send, save or receipt is N or above.
     if process >= table.processes() {
         return Outcome::refused(10);
     }
@@ -119,6 +132,29 @@ pub fn save(bytes: &[u8], process: u16, list: &[u16], answer_len: usize) -> Outc
     }
     let positions: Vec<usize> = list.iter().map(|&position| usize::from(position)).collect();
     do_save(&mut table, process, &positions);
+    Outcome::answered(table.to_bytes(), answer_len)
+}
+
+/// The call for a receipt: "A step that receives is added: it takes a process and
+/// a list as a save does". "The receiving step uses 10, 13 and 16 as a save does."
+///
+/// Checks: the table's, 10, 13, 16.
+pub fn receive(bytes: &[u8], process: u16, list: &[u16], answer_len: usize) -> Outcome {
+    let mut table = match Table::read(bytes) {
+        Err(number) => return Outcome::refused(number),
+        Ok(table) => table,
+    };
+    let process = usize::from(process);
+    // 10. A process named in a send, save or receipt is N or above.
+    if process >= table.processes() {
+        return Outcome::refused(10);
+    }
+    // 13. The list.
+    if list_is_bad(&table, process, list) {
+        return Outcome::refused(13);
+    }
+    let positions: Vec<usize> = list.iter().map(|&position| usize::from(position)).collect();
+    do_receive(&mut table, process, &positions);
     Outcome::answered(table.to_bytes(), answer_len)
 }
 

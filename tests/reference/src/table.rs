@@ -77,7 +77,8 @@ pub fn receiver(bytes: &[u8], k: usize) -> u16 {
 }
 
 /// The state number of the receipt of message k. "a receipt number of 0
-/// means: waiting, not yet received."
+/// means: waiting, not yet received." One "equal to the receiver's count now
+/// means: received, not yet saved."
 pub fn received(bytes: &[u8], k: usize) -> u16 {
     field(bytes, k, 3)
 }
@@ -130,8 +131,8 @@ pub fn check_table(bytes: &[u8]) -> u32 {
     if (0..m).any(|k| sent(bytes, k) >= count_of(sender(bytes, k))) {
         return 8;
     }
-    // 9. A receipt number is not below the receiver's count.
-    if (0..m).any(|k| received(bytes, k) >= count_of(receiver(bytes, k))) {
+    // 9. A receipt number is above the receiver's count.
+    if (0..m).any(|k| received(bytes, k) > count_of(receiver(bytes, k))) {
         return 9;
     }
     0
@@ -150,7 +151,8 @@ pub struct Message {
     pub sent: u32,
     /// The receiving process.
     pub receiver: usize,
-    /// The first state saved after receiving; 0 while the message waits.
+    /// The first state saved after receiving; 0 while the message waits, and
+    /// the receiver's count while it is unsaved.
     pub received: u32,
 }
 
@@ -249,8 +251,16 @@ impl Table {
         self.counts.len()
     }
 
+    /// Whether a message of the table is unsaved: "A receipt number equal to the
+    /// receiver's count now means: received, not yet saved." A count is 1 or
+    /// more, so such a message does not wait.
+    pub fn unsaved(&self, message: &Message) -> bool {
+        message.received == self.counts[message.receiver]
+    }
+
     /// The positions of the messages waiting for process i, rising. "a receipt
-    /// number of 0 means: waiting, not yet received."
+    /// number of 0 means: waiting, not yet received." An unsaved message waits
+    /// no longer.
     pub fn waiting_for(&self, i: usize) -> Vec<usize> {
         (0..self.messages.len())
             .filter(|&k| self.messages[k].receiver == i && self.messages[k].waiting())
