@@ -2,7 +2,7 @@
 //! them up to a size; and ceilings for a table. The same seed always gives the
 //! same table.
 
-use crate::steps::{do_fall_back, do_save, do_send};
+use crate::steps::{do_fall_back, do_receive, do_save, do_send};
 use crate::table::{
     count, messages, processes, receiver, sender, Message, Table, MOST_MESSAGES, MOST_PROCESSES,
     MOST_STATES, TABLE_CHECKS,
@@ -61,13 +61,27 @@ impl Rng {
 }
 
 // ---------------------------------------------------------------------------
-// Accepted tables by chance.
+// Accepted tables by chance. Each kind is made with unsaved messages, and as it
+// was before document 02, §4, without them.
 
 /// A history made by the steps alone, from processes with one state each. It
 /// ends soon after the m-th message, or after a bounded number of steps. Half
 /// of the histories fall back now and then. Follows "Send from j to i", "Save
-/// by i" and "Fall back" of the section on steps.
+/// by i" and "Fall back" of the section on steps, and document 02, §4: "A step
+/// that receives is added".
 pub fn history(rng: &mut Rng, n: usize, m: usize) -> Table {
+    let receive_share = rng.between(5, 70);
+    history_with(rng, n, m, receive_share)
+}
+
+/// A history without receipts: a process receives when it saves.
+pub fn saved_history(rng: &mut Rng, n: usize, m: usize) -> Table {
+    history_with(rng, n, m, 0)
+}
+
+/// A history in which so many of a hundred steps that are no sends and no fall
+/// backs receive, and the others save.
+fn history_with(rng: &mut Rng, n: usize, m: usize, receive_share: usize) -> Table {
     let mut table = Table::start(n);
     let most_steps = 4 * m + 3 * n;
     let fall_backs = rng.chance(1, 2);
@@ -88,10 +102,15 @@ pub fn history(rng: &mut Rng, n: usize, m: usize) -> Table {
             do_send(&mut table, j, i);
         } else {
             let i = rng.between(0, n - 1);
-            if table.counts[i] < MOST_STATES {
+            let receives = receive_share > 0 && rng.chance(receive_share, 100);
+            if receives || table.counts[i] < MOST_STATES {
                 let mut list = table.waiting_for(i);
                 list.retain(|_| rng.chance(take_share, 100));
-                do_save(&mut table, i, &list);
+                if receives {
+                    do_receive(&mut table, i, &list);
+                } else {
+                    do_save(&mut table, i, &list);
+                }
             }
         }
     }
@@ -100,8 +119,33 @@ pub fn history(rng: &mut Rng, n: usize, m: usize) -> Table {
 
 /// Any accepted table with n processes, m messages (none for one process) and
 /// counts of at most `most`: "N is 1 to 32, M is 0 to 4,096, each count 1 to
-/// 4,096." It need not be a run that could have happened.
+/// 4,096." It need not be a run that could have happened. One message in seven
+/// or more is unsaved, however large the counts are.
 pub fn arbitrary(rng: &mut Rng, n: usize, m: usize, most: u32) -> Table {
+    arbitrary_with(rng, n, m, most, &|rng, count| {
+        if rng.chance(1, 7) {
+            count
+        } else {
+            rng.between(0, count as usize) as u32
+        }
+    })
+}
+
+/// Any accepted table whose receipt numbers are all below the counts.
+pub fn saved_arbitrary(rng: &mut Rng, n: usize, m: usize, most: u32) -> Table {
+    arbitrary_with(rng, n, m, most, &|rng, count| {
+        rng.between(0, count as usize - 1) as u32
+    })
+}
+
+/// Any table, with `receipt` for a receipt number under a count.
+fn arbitrary_with(
+    rng: &mut Rng,
+    n: usize,
+    m: usize,
+    most: u32,
+    receipt: &dyn Fn(&mut Rng, u32) -> u32,
+) -> Table {
     let counts: Vec<u32> = (0..n)
         .map(|_| rng.between(1, most as usize) as u32)
         .collect();
@@ -112,7 +156,7 @@ pub fn arbitrary(rng: &mut Rng, n: usize, m: usize, most: u32) -> Table {
     for _ in 0..if n > 1 { m } else { 0 } {
         let (j, i) = rng.two_processes(n);
         let sent = rng.between(0, table.counts[j] as usize - 1) as u32;
-        let received = rng.between(0, table.counts[i] as usize - 1) as u32;
+        let received = receipt(rng, table.counts[i]);
         table.messages.push(Message::new((j, sent), (i, received)));
     }
     table
@@ -121,8 +165,26 @@ pub fn arbitrary(rng: &mut Rng, n: usize, m: usize, most: u32) -> Table {
 /// An accepted table with traffic in clusters ("N is 1 to 32, M is 0 to 4,096,
 /// each count 1 to 4,096"): most messages stay within a small group of
 /// processes and are received near the time of their sending, few cross the
-/// groups. So single-holder lines differ from one group to the other.
+/// groups. So single-holder lines differ from one group to the other. What
+/// would be received after the last state is unsaved.
 pub fn clustered(rng: &mut Rng, n: usize, m: usize) -> Table {
+    clustered_with(rng, n, m, &|near, count| near.min(count))
+}
+
+/// The same, where what would be received after the last state waits.
+pub fn saved_clustered(rng: &mut Rng, n: usize, m: usize) -> Table {
+    clustered_with(rng, n, m, &|near, count| {
+        if near < count {
+            near
+        } else {
+            0
+        }
+    })
+}
+
+/// Traffic in clusters, with `receipt` for a receipt near a number and under a
+/// count.
+fn clustered_with(rng: &mut Rng, n: usize, m: usize, receipt: &dyn Fn(u32, u32) -> u32) -> Table {
     let group = rng.between(2, 5);
     let share = m / n.max(1);
     let most = (share + 4).clamp(2, MOST_STATES as usize);
@@ -145,10 +207,10 @@ pub fn clustered(rng: &mut Rng, n: usize, m: usize) -> Table {
         }
         let sent = rng.between(0, table.counts[j] as usize - 1) as u32;
         let near = sent + 2 - rng.between(0, 2) as u32;
-        let received = if rng.chance(1, 12) || near >= table.counts[i] {
+        let received = if rng.chance(1, 12) {
             0
         } else {
-            near
+            receipt(near, table.counts[i])
         };
         table.messages.push(Message::new((j, sent), (i, received)));
     }
@@ -310,6 +372,14 @@ pub fn limit_tables(rng: &mut Rng) -> Vec<Table> {
         stairs.messages.push(Message::new((j, last as u32), (i, 0)));
     }
     tables.push(stairs);
+    // Sent from the last states and unsaved: whoever holds puts all others back
+    // to their last states, and no message is kept.
+    tables.push(filled(rng, &|_| (last as u32, MOST_STATES)));
+    // Waiting, received by the last state, and unsaved.
+    tables.push(filled(rng, &|rng| {
+        let received = [0, MOST_STATES - 1, MOST_STATES][rng.between(0, 2)];
+        (rng.between(0, last) as u32, received)
+    }));
     tables
 }
 
@@ -517,12 +587,12 @@ pub fn break_send_number(rng: &mut Rng, bytes: &[u8]) -> Option<Vec<u8>> {
     Some(broken)
 }
 
-/// Damage for "9. A receipt number is not below the receiver's count."
+/// Damage for "9. A receipt number is above the receiver's count."
 pub fn break_receipt_number(rng: &mut Rng, bytes: &[u8]) -> Option<Vec<u8>> {
     let k = some_message(rng, bytes)?;
     let mut broken = bytes.to_vec();
-    let limit = usize::from(count(bytes, usize::from(receiver(bytes, k))));
-    let bad = at_least(rng, limit);
+    let highest = usize::from(count(bytes, usize::from(receiver(bytes, k))));
+    let bad = at_least(rng, highest + 1);
     set(&mut broken, entry_at(bytes, k).1 + 2, bad);
     Some(broken)
 }
@@ -569,10 +639,18 @@ pub fn random_body(rng: &mut Rng, n: usize, m: usize) -> Vec<u8> {
     set(&mut bytes, 0, n);
     set(&mut bytes, 2, m);
     let highest = rng.between(1, 5);
+    let entries = 4 + 2 * n;
     for at in (4..bytes.len()).step_by(2) {
-        // Counts are lifted, so that some tables get past the later checks.
-        let lift = if at < 4 + 2 * n { highest } else { 0 };
-        let number = rng.between(0, highest) + lift;
+        // Counts are lifted, and few processes are too high, so that some tables
+        // get past the later checks; a state number may be above every count.
+        let number = if at < entries {
+            highest + rng.between(0, highest)
+        } else {
+            match (at - entries) % 4 {
+                0 => rng.between(0, n * 8) / 8,
+                _ => rng.between(0, 2 * highest + 1),
+            }
+        };
         set(&mut bytes, at, number);
     }
     bytes
@@ -622,7 +700,7 @@ fn all_messages(counts: &[u32]) -> Vec<Message> {
     for j in 0..counts.len() {
         for i in (0..counts.len()).filter(|&i| i != j) {
             for sent in 0..counts[j] {
-                for received in 0..counts[i] {
+                for received in 0..=counts[i] {
                     all.push(Message::new((j, sent), (i, received)));
                 }
             }
@@ -685,10 +763,13 @@ impl Iterator for AllTables {
 // By name, for the program.
 
 /// The kinds that [`by_name`] knows, besides `damage-1` to `damage-9`.
-pub const KINDS: [&str; 17] = [
+pub const KINDS: [&str; 20] = [
     "history",
+    "history-unsaved",
     "arbitrary",
+    "arbitrary-unsaved",
     "clustered",
+    "clustered-unsaved",
     "domino-time",
     "domino-reverse",
     "domino-shuffled",
@@ -705,10 +786,13 @@ pub const KINDS: [&str; 17] = [
     "random-body",
 ];
 
-/// The bytes of a table of the named kind. `domino-...` has two processes
-/// whatever n is; `staircase` and `limit` do not look at m; `limit` takes one
-/// of its tables by the seed; `damage-K` spoils an arbitrary table for check
-/// K of a table. `None` for an unknown kind or for a size that the kind cannot have.
+/// The bytes of a table of the named kind. `history`, `arbitrary` and
+/// `clustered` have no unsaved messages, so that a seed gives the table that it
+/// gave before there were any; `...-unsaved` have them. `domino-...` has two
+/// processes whatever n is; `staircase` and `limit` do not look at m; `limit`
+/// takes one of its tables by the seed; `damage-K` spoils an arbitrary table for
+/// check K of a table. `None` for an unknown kind or for a size that the kind
+/// cannot have.
 pub fn by_name(kind: &str, seed: u64, n: usize, m: usize) -> Option<Vec<u8>> {
     if n == 0 || n > MOST_PROCESSES || m > MOST_MESSAGES {
         return None;
@@ -731,12 +815,18 @@ pub fn by_name(kind: &str, seed: u64, n: usize, m: usize) -> Option<Vec<u8>> {
         return damage(rng, &whole, refusal.parse().ok()?);
     }
     let table = match family {
-        "history" => history(rng, n, m),
-        "arbitrary" => {
+        "history" => saved_history(rng, n, m),
+        "history-unsaved" => history(rng, n, m),
+        "arbitrary" | "arbitrary-unsaved" => {
             let most = [2, 8, 64, 512, MOST_STATES][rng.between(0, 4)];
-            arbitrary(rng, n, m, most)
+            if kind == "arbitrary" {
+                saved_arbitrary(rng, n, m, most)
+            } else {
+                arbitrary(rng, n, m, most)
+            }
         }
-        "clustered" => clustered(rng, n, m),
+        "clustered" => saved_clustered(rng, n, m),
+        "clustered-unsaved" => clustered(rng, n, m),
         "domino" => domino_chain(rng, m, order?),
         "ring" if n >= 2 => ring_domino(rng, n, m, order?),
         "staircase" => staircase(n, MOST_STATES),

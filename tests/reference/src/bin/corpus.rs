@@ -624,7 +624,7 @@ fn long_listing() -> Vec<u8> {
 }
 
 fn largest(list: &mut Vec<Named>) {
-    let history = gen::history(&mut Rng::new(23), 32, 4_096).to_bytes();
+    let history = gen::saved_history(&mut Rng::new(23), 32, 4_096).to_bytes();
     assert_eq!(history.len(), MOST_BYTES, "another seed, please");
     add(list, "largest_history", history.clone());
     add(list, "largest_long_listing", long_listing());
