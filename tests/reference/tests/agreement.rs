@@ -390,6 +390,7 @@ fn the_larger_of_two_consistent_lines() {
 #[test]
 fn fall_back_by_lookups() {
     let mut rng = Rng::new(8);
+    let mut waits_again = 0;
     for round in 0..2000 {
         let n = rng.between(1, 8);
         let m = rng.between(0, 40);
@@ -423,6 +424,12 @@ fn fall_back_by_lookups() {
             let r = received(&before, old);
             let back = r > line[usize::from(receiver(&before, old))];
             assert_eq!(received(&after, k), if back { 0 } else { r });
+            // What was unsaved waits again, and nothing is unsaved any more.
+            if r == count(&before, usize::from(receiver(&before, old))) {
+                assert_eq!(received(&after, k), 0);
+                waits_again += 1;
+            }
+            assert!(received(&after, k) < count(&after, usize::from(receiver(&after, k))));
             k += 1;
         }
         assert_eq!(usize::from(messages(&after)), k);
@@ -433,6 +440,7 @@ fn fall_back_by_lookups() {
         do_fall_back(&mut twice);
         assert_eq!(twice.counts, Table::read(&after).unwrap().counts);
     }
+    assert!(waits_again > 200, "{waits_again}");
 }
 
 /// "to the nearest whole percent, and an exact half goes to the even
@@ -457,7 +465,7 @@ fn listing_by_calls() {
             .map(|pair| u16::from_le_bytes([pair[0], pair[1]]).to_string())
             .collect()
     };
-    for _ in 0..3000 {
+    for _ in 0..6000 {
         let n = rng.between(1, 32);
         let m = rng.between(0, 60);
         let bytes = arbitrary(&mut rng, n, m, 12).to_bytes();

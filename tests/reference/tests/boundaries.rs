@@ -164,6 +164,143 @@ fn save_lists() {
     }
 }
 
+/// "Check 9 refuses only numbers above the count": from 0 to the count, one
+/// above it and beyond, under the least count, the largest and between. The
+/// count that matters is the receiver's.
+#[test]
+fn receipt_numbers() {
+    for count in [1, 2, 3, 255, 256, 257, 4095, 4096] {
+        for others in [1, count, 4096] {
+            let with = |received: u16| {
+                check_table(&numbers(&[3, 1, others, count, others, 0, 0, 1, received]))
+            };
+            for received in [0, 1, count / 2, count - 1, count] {
+                assert_eq!(with(received), 0, "{received} under {count}");
+            }
+            for received in [count + 1, count + 2, count + 256, 4097, 32_768, 65_535] {
+                assert_eq!(with(received), 9, "{received} under {count}");
+            }
+        }
+    }
+}
+
+/// Process 1 has 4,096 states: a save meets 14, and a receipt does not. Message
+/// 0 waits for it, 1 waits for process 0, and 2 was received by its state 4,095.
+#[test]
+fn receipts_at_the_limit() {
+    let table = |received: u16| {
+        numbers(&[
+            2, 3, 1, 4096, //
+            0, 0, 1, 4095, 0, 0, //
+            1, received, 0, 0, 1, 4095,
+        ])
+    };
+    let (before, after) = (table(0), table(4096));
+    assert_eq!(check_table(&table(4097)), 9);
+    assert_eq!(receive(&before, 1, &[0], before.len()).answer, after);
+    assert_eq!(check_table(&after), 0);
+    assert_eq!(receive(&before, 1, &[], before.len()).answer, before);
+    assert_eq!(save(&before, 1, &[0], ROOM), Outcome::refused(14));
+    assert_eq!(save(&after, 1, &[], ROOM), Outcome::refused(14));
+    // What is unsaved does not wait, so it cannot be listed again.
+    assert_eq!(receive(&after, 1, &[0], ROOM), Outcome::refused(13));
+    assert_eq!(save(&after, 1, &[0], ROOM), Outcome::refused(13));
+    // 10, then 13, then 16; a save has 14 between the last two.
+    for (process, list, number) in [(2, &[5][..], 10), (1, &[5], 13), (1, &[2], 13)] {
+        for room in [0, before.len() - 1, ROOM] {
+            assert_eq!(
+                receive(&before, process, list, room),
+                Outcome::refused(number)
+            );
+        }
+    }
+    for room in [0, before.len() - 1] {
+        assert_eq!(receive(&before, 1, &[0], room), Outcome::refused(16));
+        assert_eq!(receive(&before, 1, &[], room), Outcome::refused(16));
+    }
+}
+
+/// 4,096 messages: those that wait are received one by one and all at once.
+#[test]
+fn receipts_of_many_messages() {
+    let table = |received: &dyn Fn(usize) -> u16| {
+        let mut list = vec![2, 4096, 3, 2];
+        list.extend([0, 2].repeat(4096));
+        list.extend((0..4096).flat_map(|k| [1, received(k)]));
+        numbers(&list)
+    };
+    let before = table(&|_| 0);
+    let all: Vec<u16> = (0..4096).collect();
+    let after = receive(&before, 1, &all, before.len());
+    assert_eq!((after.number, after.answer), (0, table(&|_| 2)));
+    for position in [0, 1, 2047, 4095] {
+        let after = receive(&before, 1, &[position], before.len());
+        let expected = table(&|k| if k == usize::from(position) { 2 } else { 0 });
+        assert_eq!((after.number, after.answer), (0, expected));
+    }
+    assert_eq!(receive(&before, 1, &[4096], ROOM), Outcome::refused(13));
+    // A send meets M = 4,096, and a receipt does not.
+    assert_eq!(send(&before, 0, 1, ROOM), Outcome::refused(14));
+}
+
+/// The lists of a receipt: those of a save, from both sides of each fault.
+#[test]
+fn receipt_lists() {
+    // Messages 0, 2, 3 wait for process 1; 1 waits for process 0; 4 was received
+    // by state 1 of process 1, and 5 is unsaved there.
+    let table = numbers(&[
+        2, 6, 1, 2, //
+        0, 0, 1, 0, 0, 0, 0, 0, 0, 0, 0, 0, //
+        1, 0, 0, 0, 1, 0, 1, 0, 1, 1, 1, 2,
+    ]);
+    assert_eq!(check_table(&table), 0);
+    let good: [&[u16]; 8] = [&[], &[0], &[2], &[3], &[0, 2], &[0, 3], &[2, 3], &[0, 2, 3]];
+    for list in good {
+        let outcome = receive(&table, 1, list, table.len());
+        assert_eq!(outcome.number, 0);
+        let after = outcome.answer;
+        assert_eq!((count(&after, 0), count(&after, 1)), (1, 2));
+        for k in 0..6 {
+            let now = if list.contains(&(k as u16)) {
+                2
+            } else {
+                received(&table, k)
+            };
+            assert_eq!(received(&after, k), now);
+            assert_eq!(receiver(&after, k), receiver(&table, k));
+            assert_eq!((sender(&after, k), sent(&after, k)), {
+                (sender(&table, k), sent(&table, k))
+            });
+        }
+    }
+    let bad: [&[u16]; 14] = [
+        &[1],
+        &[4],
+        &[5],
+        &[6],
+        &[65535],
+        &[0, 0],
+        &[2, 0],
+        &[0, 1],
+        &[0, 2, 2],
+        &[0, 2, 3, 4],
+        &[0, 2, 3, 5],
+        &[0, 2, 3, 6],
+        &[3, 2],
+        &[0, 65535],
+    ];
+    for list in bad {
+        for room in [0, table.len(), ROOM] {
+            assert_eq!(receive(&table, 1, list, room), Outcome::refused(13));
+            assert_eq!(save(&table, 1, list, room), Outcome::refused(13));
+            assert_eq!(receive(&table, 2, list, room), Outcome::refused(10));
+        }
+    }
+    assert_eq!(receive(&table, 65535, &[], ROOM), Outcome::refused(10));
+    assert_eq!(receive(&table, 0, &[1], ROOM).number, 0);
+    assert_eq!(receive(&table, 0, &[0], ROOM), Outcome::refused(13));
+}
+
 #[test]
 fn sends() {
     let table = numbers(&[3, 0, 1, 5, 4096]);
@@ -301,7 +438,7 @@ fn tables_before_ceilings() {
         (numbers(&[2, 1, 2, 2, 2, 0, 1, 0]), 6),
         (numbers(&[2, 1, 2, 2, 1, 0, 1, 0]), 7),
         (numbers(&[2, 1, 2, 2, 0, 2, 1, 0]), 8),
-        (numbers(&[2, 1, 2, 2, 0, 1, 1, 2]), 9),
+        (numbers(&[2, 1, 2, 2, 0, 1, 1, 3]), 9),
     ];
     for (bytes, number) in refused {
         let lists: [&[u16]; 5] = [&[], &[0], &[0, 0], &[9, 9], &[9, 9, 9]];
@@ -310,8 +447,10 @@ fn tables_before_ceilings() {
             assert_eq!(line_under(&bytes, list, ROOM), Outcome::refused(number));
         }
     }
-    let accepted = numbers(&[2, 1, 2, 2, 0, 1, 1, 1]);
-    assert_eq!(line_under(&accepted, &[9, 9], 0), Outcome::refused(18));
+    for received in [0, 1, 2] {
+        let accepted = numbers(&[2, 1, 2, 2, 0, 1, 1, received]);
+        assert_eq!(line_under(&accepted, &[9, 9], 0), Outcome::refused(18));
+    }
 }
 
 /// Each call with its buffer exact and one byte short, over many tables.
@@ -328,15 +467,17 @@ fn buffers() {
         };
         let bytes = table.to_bytes();
         let list = ceilings(&mut rng, &table);
-        let calls: [&dyn Fn(usize) -> Outcome; 6] = [
+        let waiting: Vec<u16> = table.waiting_for(0).iter().map(|&k| k as u16).collect();
+        let calls: [&dyn Fn(usize) -> Outcome; 7] = [
             &|room| recovery_line(&bytes, room),
             &|room| line_of_set(&bytes, 1, room),
             &|room| line_under(&bytes, &list, room),
             &|room| save(&bytes, 0, &[], room),
+            &|room| receive(&bytes, 0, &waiting, room),
             &|room| fall_back(&bytes, room),
             &|room| send(&bytes, 0, 1, room),
         ];
-        for call in &calls[..if n > 1 { 6 } else { 5 }] {
+        for call in &calls[..if n > 1 { 7 } else { 6 }] {
             let long = call(ROOM);
             assert_eq!(long.number, 0);
             assert_eq!(call(long.answer.len()), long);
@@ -390,9 +531,15 @@ fn order_of_checks() {
         check_table(&numbers(&list))
     };
     assert_eq!(with(&[]), 0);
-    assert_eq!(with(&[(9, 2)]), 9);
-    assert_eq!(with(&[(9, 2), (7, 2)]), 8);
-    assert_eq!(with(&[(5, 2), (11, 2)]), 8);
+    assert_eq!(with(&[(9, 2)]), 0);
+    assert_eq!(with(&[(9, 3)]), 9);
+    assert_eq!(with(&[(11, 3)]), 9);
+    assert_eq!(with(&[(9, 2), (11, 3)]), 9);
+    assert_eq!(with(&[(9, 3), (7, 2)]), 8);
+    assert_eq!(with(&[(5, 2), (11, 3)]), 8);
+    assert_eq!(with(&[(9, 3), (6, 1)]), 7);
+    assert_eq!(with(&[(9, 3), (6, 2)]), 6);
+    assert_eq!(with(&[(9, 3), (2, 0)]), 5);
     assert_eq!(with(&[(5, 2), (10, 0)]), 7);
     assert_eq!(with(&[(8, 0), (6, 2)]), 6);
     assert_eq!(with(&[(8, 0), (10, 2)]), 6);

@@ -204,8 +204,12 @@ fn refused_everywhere(bytes: &[u8], number: u32) {
     assert_eq!(line_under(bytes, &[], 0), refused);
     assert_eq!(line_under(bytes, &[65535, 65535], ROOM), refused);
     assert_eq!(line_under(bytes, &[0, 0], ROOM), refused);
+    assert_eq!(marked_line(bytes, &[65535, 65535], 0, 0), refused);
+    assert_eq!(marked_line(bytes, &[0, 0], ROOM, ROOM), refused);
     assert_eq!(send(bytes, 99, 99, 0), refused);
     assert_eq!(save(bytes, 99, &[9, 9], 0), refused);
+    assert_eq!(receive(bytes, 99, &[9, 9], 0), refused);
+    assert_eq!(receive(bytes, 0, &[], ROOM), refused);
     assert_eq!(fall_back(bytes, 0), refused);
     assert_eq!(keep_sheet(bytes, 0, 0), refused);
     assert_eq!(listing(bytes), format!("refused {number}\n"));
@@ -232,13 +236,103 @@ fn f() {
     longer.push(0);
     refused_everywhere(&longer, 4);
 
+    // "so case F takes receipt (0,4) there."
     let mut receipt = A;
-    receipt[46] = 3; // the last receipt is (0, 3)
+    receipt[46] = 4; // the last receipt is (0, 4)
     refused_everywhere(&receipt, 9);
 
     let mut send = A;
     send[26] = 3; // the last send is (1, 3)
     refused_everywhere(&send, 8);
+}
+
+/// Example A after process 0 received message 4 and did not save yet: receipt
+/// (0,3) in the last entry, which was case F before document 02, §4.
+fn a_received() -> [u8; 48] {
+    let mut received = A;
+    received[46] = 3;
+    received
+}
+
+#[test]
+fn a_after_a_receipt() {
+    let outcome = receive(&A, 0, &[4], 48);
+    assert_eq!(outcome.number, 0);
+    assert_eq!(outcome.answer, a_received());
+    assert_eq!((outcome.lines, outcome.marks), (None, None));
+    assert_eq!(receive(&A, 0, &[4], 47), Outcome::refused(16));
+    // The list may have no entries; the table is then the same.
+    assert_eq!(receive(&A, 0, &[], 48).answer, A);
+    assert_eq!(receive(&A, 1, &[], 48).answer, A);
+    assert_eq!(receive(&A, 1, &[4], 48), Outcome::refused(13));
+    assert_eq!(receive(&A, 2, &[4], 48), Outcome::refused(10));
+    // It waits no longer, so it cannot be listed a second time.
+    assert_eq!(receive(&a_received(), 0, &[4], 48), Outcome::refused(13));
+    assert_eq!(save(&a_received(), 0, &[4], 48), Outcome::refused(13));
+}
+
+/// With process 1 holding, at 2, message 4 was sent after the line: process 0
+/// cannot stand at its new state, nor at 2, since message 3 was sent after 2
+/// and received by 2 of process 1, and message 2 by 2 of process 0. So state 2
+/// of process 1 is not kept any more, and message 4, sent from it, is not
+/// either. The line of process 0 holding does not see the receipt.
+#[test]
+fn a_received_listing() {
+    let text = "line 1 1
+hold 0 1 1
+hold 1 1 1
+checkpoint 0 1
+checkpoint 1 1
+message 0
+share 33
+";
+    assert_eq!(listing(&a_received()), text);
+    let sheet = keep_sheet(&a_received(), 4, 14);
+    assert_eq!(sheet.answer, [2, 0, 1, 0, 0, 0, 1, 0, 1, 0, 1, 0, 0, 0]);
+    assert_eq!(sheet.lines, Some(vec![1, 1, 1, 1]));
+    assert_eq!(line_of_set(&a_received(), 0, 4).answer, [3, 0, 3, 0]);
+    // Saved with nothing else received, the receipt is that of state 3.
+    let saved = save(&a_received(), 0, &[], 48).answer;
+    assert_eq!(saved, save(&A, 0, &[4], 48).answer);
+    // A fall back goes to 1 1 as before, and removes message 4.
+    assert_eq!(fall_back(&a_received(), 24), fall_back(&A, 24));
+}
+
+/// The least table in which a receipt makes a difference to what is kept:
+/// counts 1 1 and a message either way. While both wait, both are kept. While
+/// both are unsaved, whoever holds puts the other back to 0, where neither was
+/// sent before the line: neither is kept. While one is unsaved, it is kept: with
+/// its receiver holding, its sender stands at its new state, behind the send.
+#[test]
+fn least_case() {
+    let with = |r: u32, s: u32| table(&[1, 1], &[((0, 0), (1, r)), ((1, 0), (0, s))]);
+    let states = [(0, 0), (1, 0)];
+    let cases: [(u32, u32, [u16; 4], &[usize]); 4] = [
+        (0, 0, [0, 1, 1, 0], &[0, 1]),
+        (1, 1, [0, 0, 0, 0], &[]),
+        (1, 0, [0, 0, 1, 0], &[0, 1]),
+        (0, 1, [0, 1, 0, 0], &[0, 1]),
+    ];
+    for (r, s, lines, messages) in cases {
+        let bytes = with(r, s);
+        let outcome = keep_sheet(&bytes, 4, ROOM);
+        assert_eq!(outcome.lines, Some(lines.to_vec()), "{r} {s}");
+        let sheet = reference::sheet::kept(&Table::read(&bytes).unwrap());
+        assert_eq!(sheet.states, states);
+        assert_eq!(sheet.messages, messages, "{r} {s}");
+        assert_eq!(outcome.answer, sheet.to_bytes());
+        let needs = needed_by_futures(&Table::read(&bytes).unwrap(), 4);
+        assert_eq!(Vec::from_iter(needs.0), states);
+        assert_eq!(Vec::from_iter(needs.1), messages, "{r} {s}");
+    }
+    assert_eq!(
+        listing(&with(1, 1)),
+        "line 0 0\nhold 0 0 0\nhold 1 0 0\ncheckpoint 0 0\ncheckpoint 1 0\nshare 100\n"
+    );
+    assert_eq!(receive(&with(0, 0), 1, &[0], 24).answer, with(1, 0));
+    assert_eq!(receive(&with(1, 0), 0, &[1], 24).answer, with(1, 1));
+    // Neither send remains after a fall back to 0 0.
+    assert_eq!(fall_back(&with(1, 1), 8).answer, table(&[1, 1], &[]));
 }
 
 /// Example A can be made with the steps alone, step by step on bytes.
@@ -258,6 +352,32 @@ fn a_is_a_run() {
     step(|t| save(t, 0, &[2], ROOM)); // state 2 of process 0
     step(|t| send(t, 0, 1, ROOM)); // message 3, sent after (0, 2)
     step(|t| save(t, 1, &[0, 3], ROOM)); // state 2 of process 1
+    step(|t| send(t, 1, 0, ROOM)); // message 4, sent after (1, 2)
+    assert_eq!(now, A);
+}
+
+/// The same run with receipts of their own: what was received before a save is
+/// saved by it.
+#[test]
+fn a_is_a_run_that_receives() {
+    let mut now = table(&[1, 1], &[]);
+    let mut step = |outcome: fn(&[u8]) -> Outcome| {
+        let outcome = outcome(&now);
+        assert_eq!(outcome.number, 0);
+        now = outcome.answer;
+    };
+    step(|t| send(t, 0, 1, ROOM)); // message 0, sent after (0, 0)
+    step(|t| send(t, 1, 0, ROOM)); // message 1, sent after (1, 0)
+    step(|t| receive(t, 0, &[1], ROOM));
+    step(|t| save(t, 0, &[], ROOM)); // state 1 of process 0
+    step(|t| save(t, 1, &[], ROOM)); // state 1 of process 1
+    step(|t| receive(t, 1, &[0], ROOM)); // saved by state 2, further down
+    step(|t| send(t, 1, 0, ROOM)); // message 2, sent after (1, 1)
+    step(|t| receive(t, 0, &[], ROOM));
+    step(|t| save(t, 0, &[2], ROOM)); // state 2 of process 0
+    step(|t| send(t, 0, 1, ROOM)); // message 3, sent after (0, 2)
+    step(|t| receive(t, 1, &[3], ROOM));
+    step(|t| save(t, 1, &[], ROOM)); // state 2 of process 1, with messages 0 and 3
     step(|t| send(t, 1, 0, ROOM)); // message 4, sent after (1, 2)
     assert_eq!(now, A);
 }

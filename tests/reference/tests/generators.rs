@@ -28,6 +28,42 @@ fn accepted_kinds_are_accepted() {
     assert_eq!(by_name("history", 0, 2, 4097), None);
 }
 
+/// A table of each of these kinds often has unsaved messages, at every size; the
+/// kinds that a seed has always given have none.
+#[test]
+fn unsaved_messages_are_where_they_belong() {
+    let unsaved = |bytes: &[u8]| {
+        let table = Table::read(bytes).unwrap();
+        let mut messages = table.messages.iter();
+        messages.any(|message| table.unsaved(message))
+    };
+    for kind in ["history", "arbitrary", "clustered"] {
+        for (n, m) in [(2, 9), (5, 40), (32, 300)] {
+            let mut times = 0;
+            for seed in 0..100 {
+                let saved = by_name(kind, seed, n, m).unwrap();
+                assert!(!unsaved(&saved), "{kind} {seed} {n} {m}");
+                let name = format!("{kind}-unsaved");
+                times += usize::from(unsaved(&by_name(&name, seed, n, m).unwrap()));
+            }
+            assert!(times > 30, "{kind} {n} {m}: {times}");
+        }
+    }
+    let mut rng = Rng::new(23);
+    let limits = limit_tables(&mut rng);
+    let with = limits.iter().filter(|table| unsaved(&table.to_bytes()));
+    assert_eq!(with.count(), 2);
+    // The first of them is the least case of document 02, §4, at the limit: no
+    // message is kept, though each is received by a process that may hold.
+    let [.., all, _] = &limits[..] else {
+        panic!("two tables or more");
+    };
+    assert!(all.messages.iter().all(|message| all.unsaved(message)));
+    let last: Vec<(usize, u32)> = (0..32).map(|p| (p, 4095)).collect();
+    assert_eq!(kept(all).states, last);
+    assert_eq!(kept(all).messages, [0; 0]);
+}
+
 #[test]
 fn sizes_are_as_asked() {
     let mut rng = Rng::new(12);
@@ -41,7 +77,8 @@ fn sizes_are_as_asked() {
 }
 
 /// Histories, clusters and arbitrary tables are not all of the easy kind, in
-/// which every line stays at its ceiling and only waiting messages are kept.
+/// which every line stays at its ceiling and only waiting messages are kept; of
+/// unsaved messages some are kept and some are not.
 #[test]
 fn chance_tables_are_not_trivial() {
     let mut rng = Rng::new(17);
@@ -49,6 +86,7 @@ fn chance_tables_are_not_trivial() {
         [history, clustered, |rng, n, m| arbitrary(rng, n, m, 20)];
     for make in makers {
         let (mut lowered, mut apart, mut crossed) = (0, 0, 0);
+        let (mut unsaved_kept, mut unsaved_not) = (0, 0);
         for _ in 0..300 {
             let n = rng.between(2, 8);
             let m = rng.between(5, 80);
@@ -64,9 +102,19 @@ fn chance_tables_are_not_trivial() {
             if sheet.messages.iter().any(|&k| !table.messages[k].waiting()) {
                 crossed += 1;
             }
+            for (k, message) in table.messages.iter().enumerate() {
+                if table.unsaved(message) && sheet.messages.contains(&k) {
+                    unsaved_kept += 1;
+                } else if table.unsaved(message) {
+                    unsaved_not += 1;
+                }
+            }
         }
-        for times in [lowered, apart, crossed] {
-            assert!(times > 60, "{lowered} {apart} {crossed}");
+        for times in [lowered, apart, crossed, unsaved_kept, unsaved_not] {
+            assert!(
+                times > 60,
+                "{lowered} {apart} {crossed} {unsaved_kept} {unsaved_not}"
+            );
         }
     }
 }
@@ -176,6 +224,26 @@ fn damage_meets_its_refusal() {
     assert_eq!(not_met, BTreeSet::from([6, 7, 8, 9]));
 }
 
+/// Damage for 9 begins at one above the count, which is met, and the count
+/// itself is no damage.
+#[test]
+fn damage_for_9_begins_above_the_count() {
+    let mut rng = Rng::new(24);
+    let mut least = 0;
+    for _ in 0..400 {
+        let bytes = arbitrary(&mut rng, 2, 1, 6).to_bytes();
+        let broken = break_receipt_number(&mut rng, &bytes).unwrap();
+        let highest = count(&broken, usize::from(receiver(&broken, 0)));
+        assert!(received(&broken, 0) > highest);
+        least += usize::from(received(&broken, 0) == highest + 1);
+        let mut whole = broken;
+        let at = whole.len() - 2;
+        whole[at..].copy_from_slice(&highest.to_le_bytes());
+        assert_eq!(check_table(&whole), 0);
+    }
+    assert!(least > 100, "{least}");
+}
+
 #[test]
 fn several_damages_meet_the_first_refusal() {
     let mut rng = Rng::new(14);
@@ -250,9 +318,10 @@ fn truncations_are_refused() {
 
 #[test]
 fn all_tables_are_all() {
-    // One process: two counts. Two processes: 7 + 21 + 21 + 73.
+    // One process: two counts. Two processes with counts 1 1 allow 4 messages,
+    // which makes 1 + 4 + 16 tables; 1 2 and 2 1 allow 7, and 2 2 allow 12.
     let all: Vec<Table> = all_tables(2, 2, 2).collect();
-    assert_eq!(all.len(), 2 + 7 + 21 + 21 + 73);
+    assert_eq!(all.len(), 2 + 21 + 57 + 57 + 157);
     let different: HashSet<&Table> = all.iter().collect();
     assert_eq!(different.len(), all.len());
     for table in &all {
@@ -260,8 +329,8 @@ fn all_tables_are_all() {
     }
     // The same number by trying all numbers of two processes, one message.
     let mut tried = 0;
-    for mask in 0..4u16.pow(6) {
-        let digit = |at: u32| mask / 4u16.pow(at) % 4;
+    for mask in 0..5u16.pow(6) {
+        let digit = |at: u32| mask / 5u16.pow(at) % 5;
         let numbers = [
             2,
             1,
@@ -277,7 +346,7 @@ fn all_tables_are_all() {
             tried += 1;
         }
     }
-    let made = all_tables(2, 3, 1)
+    let made = all_tables(2, 4, 1)
         .filter(|table| table.processes() == 2 && table.messages.len() == 1)
         .count();
     assert_eq!(made, tried);

@@ -93,6 +93,12 @@ enum Reading {
     DirectSuccessors,
     /// A waiting message is an edge to state 0 of its receiver.
     WaitingMessages,
+    /// An unsaved message is no edge, as before document 02, §4.
+    UnsavedMessagesLeftOut,
+    /// An unsaved message is an edge to the last state, not to the new one.
+    UnsavedAtTheLastState,
+    /// An unsaved message is an edge from the new state of its sender.
+    UnsavedFromTheNewState,
     /// No edge leads from the last state to the new one.
     NoEdgeToNewStates,
     /// No edges along a process at all.
@@ -124,10 +130,13 @@ enum Reading {
 use Reading::*;
 
 /// The readings that give another line for some table.
-const WRONG: [Reading; 13] = [
+const WRONG: [Reading; 16] = [
     RootMarksItself,
     DirectSuccessors,
     WaitingMessages,
+    UnsavedMessagesLeftOut,
+    UnsavedAtTheLastState,
+    UnsavedFromTheNewState,
     NoEdgeToNewStates,
     MessagesAlone,
     SentALaterState,
@@ -160,6 +169,14 @@ fn rounds(table: &Table, ceilings: &[u32], reading: Reading) -> Vec<Option<Vec<u
         let (i, mut r) = (message.receiver, message.received);
         if r == 0 && reading != WaitingMessages {
             continue;
+        }
+        if table.unsaved(message) {
+            match reading {
+                UnsavedMessagesLeftOut => continue,
+                UnsavedAtTheLastState => r -= 1,
+                UnsavedFromTheNewState => y = table.counts[j],
+                _ => {}
+            }
         }
         match reading {
             SentALaterState => y += 1,
@@ -309,6 +326,39 @@ fn cases() -> Vec<Case> {
             table(&[3, 3], &[((0, 0), (1, 0))]),
             &[&[0, 2]],
             &[WaitingMessages],
+        ),
+        // The message is unsaved, (0,1) to (1,2): an edge to the new state, at
+        // which the root of 1 stands.
+        case(
+            table(&[2, 2], &[((0, 1), (1, 2))]),
+            &[&[1, 2], &[1, 1]],
+            &[UnsavedMessagesLeftOut, UnsavedAtTheLastState, Backwards],
+        ),
+        // The root of 1 at its last state: the new one is marked, and no root.
+        case(
+            table(&[2, 2], &[((0, 1), (1, 2))]),
+            &[&[1, 1]],
+            &[UnsavedAtTheLastState],
+        ),
+        // The root of 0 behind the send.
+        case(
+            table(&[2, 2], &[((0, 1), (1, 2))]),
+            &[&[2, 2]],
+            &[SentALaterState, UnsavedFromTheNewState],
+        ),
+        // Counts 1 1, and a message either way, both unsaved: with 0 holding 1
+        // goes back to 0, which leads to new states alone.
+        case(
+            table(&[1, 1], &[((0, 0), (1, 1)), ((1, 0), (0, 1))]),
+            &[&[0, 1], &[0, 0]],
+            &[UnsavedMessagesLeftOut, UnsavedAtTheLastState],
+        ),
+        // Two processes at their new states, put back one after the other: (0,1)
+        // to (1,2), unsaved, and (1,1) to (2,2), unsaved too.
+        case(
+            table(&[2, 2, 2], &[((0, 1), (1, 2)), ((1, 1), (2, 2))]),
+            &[&[1, 2, 2], &[1, 1, 2], &[1, 1, 1]],
+            &[UnsavedMessagesLeftOut, NotRepeated],
         ),
         // Through a third process, where no root stands in the way: (0,0) to
         // (1,1), and (1,2) to (2,1).
@@ -772,7 +822,7 @@ fn tables_before_all_else() {
         (numbers(&[2, 1, 2, 2, 2, 0, 1, 0]), 6),
         (numbers(&[2, 1, 2, 2, 1, 0, 1, 0]), 7),
         (numbers(&[2, 1, 2, 2, 0, 2, 1, 0]), 8),
-        (numbers(&[2, 1, 2, 2, 0, 1, 1, 2]), 9),
+        (numbers(&[2, 1, 2, 2, 0, 1, 1, 3]), 9),
     ];
     for (bytes, number) in refused {
         let lists: [&[u16]; 5] = [&[], &[0], &[0, 0], &[9, 9], &[9, 9, 9]];

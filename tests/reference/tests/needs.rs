@@ -1,11 +1,15 @@
 //! What futures need is what the keep sheet keeps.
 
+use std::collections::HashSet;
+
+use reference::futures::{ends, needed_with, Steps};
 use reference::gen::{all_tables, arbitrary, history, Rng};
 use reference::sheet::kept;
 use reference::*;
 
 /// "whatever any list needs is on the sheet, and whatever is on the sheet some
-/// list needs."
+/// list needs.", with the receiving step among the steps: "the sheet holds
+/// exactly what these futures need."
 fn needs_agree(table: &Table, depth: usize) {
     let (states, messages) = needed_by_futures(table, depth);
     let sheet = kept(table);
@@ -20,7 +24,7 @@ fn two_processes_depth_3() {
         needs_agree(&table, 3);
         tables += 1;
     }
-    assert_eq!(tables, 124);
+    assert_eq!(tables, 294);
 }
 
 /// One save by each process is as much as a list must have.
@@ -48,13 +52,73 @@ fn two_processes_with_more_states_and_messages() {
     }
 }
 
+/// All tables, of those that differ in the names of processes and the order of
+/// messages alone one at least: counts and messages do not fall.
 #[test]
 fn three_processes() {
-    for table in all_tables(3, 2, 2) {
+    let (mut tables, mut with_unsaved) = (0, 0);
+    let one_at_least = |table: &Table| {
+        table.counts.windows(2).all(|pair| pair[0] <= pair[1])
+            && table.messages.windows(2).all(|pair| pair[0] <= pair[1])
+    };
+    for table in all_tables(3, 2, 2).filter(one_at_least) {
         needs_agree(&table, 3);
+        tables += 1;
+        let mut messages = table.messages.iter();
+        with_unsaved += usize::from(messages.any(|message| table.unsaved(message)));
     }
-    for table in all_tables(3, 2, 1).step_by(3) {
+    assert!(
+        tables > 1_000 && with_unsaved > 500,
+        "{tables} {with_unsaved}"
+    );
+    for table in all_tables(3, 2, 1).filter(one_at_least).step_by(2) {
         needs_agree(&table, 4);
+    }
+}
+
+/// Without the receiving step the same is needed, at every depth: where a list
+/// receives and saves later, another saves with these messages on its list, and
+/// until then the recovery line is the same for both. So the receiving step adds
+/// nothing to what is needed, and takes nothing away.
+#[test]
+fn receipts_add_no_needs() {
+    let mut tables = 0;
+    let small = [(2, 2, 2, 3), (2, 3, 2, 2), (2, 1, 3, 3), (3, 2, 1, 3)];
+    for (n, c, m, most_depth) in small {
+        for table in all_tables(n, c, m) {
+            for depth in 0..=most_depth {
+                let with = needed_by_futures(&table, depth);
+                let without = needed_with(&table, depth, Steps::WithoutReceipts);
+                assert_eq!(with, without, "{table:?} {depth}");
+            }
+            tables += 1;
+        }
+    }
+    assert!(tables > 1_000, "{tables}");
+}
+
+/// Yet some tables are reached with the receiving step alone: from counts 1 1
+/// and a message that waits, one step leads to the message unsaved, and no list
+/// of other steps does, however they are put together here. A search that does
+/// not receive would miss these tables.
+#[test]
+fn receipts_lead_to_further_ends() {
+    let waits = Table {
+        counts: vec![1, 1],
+        messages: vec![Message::new((0, 0), (1, 0))],
+    };
+    let mut unsaved = waits.clone();
+    unsaved.messages[0].received = 1;
+    assert_eq!(ends(&waits, 0, Steps::All), HashSet::from([waits.clone()]));
+    assert!(ends(&waits, 1, Steps::All).contains(&unsaved));
+    for depth in 0..=4 {
+        let without = ends(&waits, depth, Steps::WithoutReceipts);
+        assert!(!without.contains(&unsaved));
+        let any_unsaved = |end: &Table| end.messages.iter().any(|message| end.unsaved(message));
+        assert!(!without.iter().any(any_unsaved));
+        let with = ends(&waits, depth, Steps::All);
+        assert!(without.is_subset(&with));
+        assert_eq!(without.len() < with.len(), depth > 0);
     }
 }
 
