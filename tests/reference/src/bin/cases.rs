@@ -145,7 +145,7 @@ impl Bench {
         }
         if ![
             "check", "whole", "lookup", "recovery", "hold", "under", "marked", "send", "save",
-            "fall", "sheet",
+            "deliver", "fall", "sheet",
         ]
         .contains(&word)
         {
@@ -194,6 +194,10 @@ impl Bench {
             "save" => {
                 let list: Vec<u16> = small[2..].iter().map(|&k| k as u16).collect();
                 self.outcome(keeper::save(&whole, small[0] as u16, &list, a[1]));
+            }
+            "deliver" => {
+                let list: Vec<u16> = small[2..].iter().map(|&k| k as u16).collect();
+                self.outcome(keeper::receive(&whole, small[0] as u16, &list, a[1]));
             }
             "fall" => self.outcome(keeper::fall_back(&whole, a[0])),
             _ => self.outcome(keeper::keep_sheet(&whole, a[0], a[1])),
