@@ -4,10 +4,11 @@
 //! out every time.
 //!
 //! What a name promises is checked before anything is written: `refused_N_...`
-//! is refused with N and nothing else is refused (the cases of the document
-//! apart), `share_N_...` ends in that share, `..._of_V_by_K_of_S` keeps K of S
-//! states, which is V percent, and the document's own cases have the texts that
-//! were worked out by hand from the document.
+//! is refused with N and nothing else is refused (the cases of the document and
+//! what is accepted since document 02, §4, apart), `share_N_...` ends in that
+//! share, `..._of_V_by_K_of_S` keeps K of S states, which is V percent, and the
+//! document's own cases and the first ones with unsaved messages have the texts
+//! that were worked out by hand from the documents.
 
 use std::collections::BTreeSet;
 use std::path::Path;
@@ -139,7 +140,19 @@ checkpoint 1 1
 share 75
 ";
 
-/// Name, table and text of the document's examples and marked cases.
+/// A after process 0 received message 4 and did not save yet.
+const A_RECEIVED_TEXT: &str = "line 1 1
+hold 0 1 1
+hold 1 1 1
+checkpoint 0 1
+checkpoint 1 1
+message 0
+share 33
+";
+
+/// Name, table and text of the document's examples and marked cases. Document
+/// 02, §4: "Check 9 refuses only numbers above the count, so case F takes
+/// receipt (0,4) there." With (0,3) it was refused before.
 fn of_the_document() -> Vec<(&'static str, Vec<u8>, &'static str)> {
     vec![
         ("example_a", a(), A_TEXT),
@@ -162,6 +175,11 @@ fn of_the_document() -> Vec<(&'static str, Vec<u8>, &'static str)> {
         (
             "case_f_receipt_0_3",
             a_with_last([1, 2, 0, 3]),
+            A_RECEIVED_TEXT,
+        ),
+        (
+            "case_f_receipt_0_4",
+            a_with_last([1, 2, 0, 4]),
             "refused 9\n",
         ),
         ("case_f_send_1_3", a_with_last([1, 3, 0, 0]), "refused 8\n"),
@@ -169,7 +187,176 @@ fn of_the_document() -> Vec<(&'static str, Vec<u8>, &'static str)> {
 }
 
 // ---------------------------------------------------------------------------
+// Messages that are received and not saved yet, with what each table is to
+// print, by hand.
+
+const EITHER_WAY_TEXT: &str = "line 0 0
+hold 0 0 0
+hold 1 0 0
+checkpoint 0 0
+checkpoint 1 0
+share 100
+";
+
+const EITHER_WAY_WAITING_TEXT: &str = "line 0 0
+hold 0 0 1
+hold 1 1 0
+checkpoint 0 0
+checkpoint 1 0
+message 0
+message 1
+share 100
+";
+
+const ONE_OF_TWO_TEXT: &str = "line 0 0
+hold 0 0 0
+hold 1 1 0
+checkpoint 0 0
+checkpoint 1 0
+message 0
+message 1
+share 100
+";
+
+const ALONE_TEXT: &str = "line 0 0
+hold 0 0 0
+hold 1 1 0
+checkpoint 0 0
+checkpoint 1 0
+message 0
+share 100
+";
+
+const EARLIER_SEND_TEXT: &str = "line 1 1
+hold 0 1 2
+hold 1 2 1
+checkpoint 0 1
+checkpoint 1 1
+message 0
+share 50
+";
+
+const CHAIN_TEXT: &str = "line 1 1 1
+hold 0 1 1 1
+hold 1 2 1 1
+hold 2 2 2 1
+checkpoint 0 1
+checkpoint 1 1
+checkpoint 2 1
+message 0
+message 1
+share 50
+";
+
+const BESIDE_SAVED_TEXT: &str = "line 2 1 1
+hold 0 2 1 1
+hold 1 3 1 1
+hold 2 3 3 2
+checkpoint 0 2
+checkpoint 1 1
+checkpoint 2 1
+checkpoint 2 2
+message 0
+message 2
+message 4
+share 44
+";
+
+const BEYOND_A_DOMINO_TEXT: &str = "line 0 0 1
+hold 0 0 0 2
+hold 1 2 1 2
+hold 2 2 2 1
+checkpoint 0 0
+checkpoint 1 0
+checkpoint 1 1
+checkpoint 2 1
+message 2
+share 67
+";
+
+const ACROSS_NO_LINE_TEXT: &str = "line 1 1
+hold 0 1 1
+hold 1 1 1
+checkpoint 0 1
+checkpoint 1 1
+share 50
+";
+
+/// Name, table and text.
+fn of_unsaved() -> Vec<(&'static str, Vec<u8>, &'static str)> {
+    vec![
+        // Whoever holds puts the other back to 0, from where it sent: not kept.
+        (
+            "unsaved_either_way",
+            written(&[1, 1], &[[0, 0, 1, 1], [1, 0, 0, 1]]),
+            EITHER_WAY_TEXT,
+        ),
+        // The same run with its receipts written as waiting, as they were before.
+        (
+            "unsaved_either_way_as_waiting",
+            written(&[1, 1], &[[0, 0, 1, 0], [1, 0, 0, 0]]),
+            EITHER_WAY_WAITING_TEXT,
+        ),
+        (
+            "unsaved_one_of_two",
+            written(&[1, 1], &[[0, 0, 1, 1], [1, 0, 0, 0]]),
+            ONE_OF_TWO_TEXT,
+        ),
+        (
+            "unsaved_alone",
+            written(&[1, 1], &[[0, 0, 1, 1]]),
+            ALONE_TEXT,
+        ),
+        // Sent before the last state of its sender: no line moves.
+        (
+            "unsaved_and_sent_earlier",
+            written(&[2, 2], &[[0, 0, 1, 2]]),
+            EARLIER_SEND_TEXT,
+        ),
+        // One new state puts the next one back.
+        (
+            "unsaved_in_a_chain",
+            written(&[2, 2, 2], &[[0, 1, 1, 2], [1, 1, 2, 2]]),
+            CHAIN_TEXT,
+        ),
+        // Positions 0 and 2 are unsaved and kept across two different lines, 1
+        // and 3 are received and saved, 4 waits.
+        (
+            "unsaved_beside_saved_and_waiting",
+            written(
+                &[3, 3, 3],
+                &[
+                    [0, 2, 1, 3],
+                    [1, 2, 2, 2],
+                    [2, 0, 0, 3],
+                    [2, 1, 1, 2],
+                    [1, 1, 0, 0],
+                ],
+            ),
+            BESIDE_SAVED_TEXT,
+        ),
+        // Processes 0 and 1 put each other back to 0; what 1 received from 2 was
+        // sent before every line at which 2 stands.
+        (
+            "unsaved_beyond_a_domino",
+            written(&[2, 2, 2], &[[0, 1, 1, 1], [1, 0, 0, 1], [2, 0, 1, 2]]),
+            BEYOND_A_DOMINO_TEXT,
+        ),
+        // Both were sent from the states at which the lines stand.
+        (
+            "unsaved_across_no_line",
+            written(&[2, 2], &[[1, 1, 0, 2], [0, 1, 1, 2], [0, 0, 1, 1]]),
+            ACROSS_NO_LINE_TEXT,
+        ),
+    ]
+}
+
+// ---------------------------------------------------------------------------
 // Refusals, and the accepted side of each boundary.
+
+/// Refused by 9 before document 02, §4, and accepted since: a receipt number
+/// that is the count. The files keep their names.
+const ACCEPTED_SINCE: [&str; 2] = ["refused_9_first", "refused_9_receipt_count"];
 
 /// An entry: its name and its table.
 type Named = (String, Vec<u8>);
@@ -291,6 +478,38 @@ fn entries(list: &mut Vec<Named>) {
     add(list, "refused_9_first", {
         written(&[3, 3], &[[0, 2, 1, 3], [1, 0, 0, 1]])
     });
+    add(list, "refused_9_receipt_count_plus_1", with([2, 0, 1, 3]));
+    add(list, "refused_9_first_count_plus_1", {
+        written(&[3, 3], &[[0, 2, 1, 4], [1, 0, 0, 1]])
+    });
+    add(list, "refused_9_last_count_plus_1", {
+        written(&[3, 3], &[[0, 2, 1, 3], [1, 0, 0, 4]])
+    });
+    // Above the sender's count and not the receiver's, and the other way round.
+    add(list, "accepted_receipt_count_above_the_senders", {
+        with([1, 0, 2, 4])
+    });
+    add(list, "refused_9_receipt_4_below_the_senders_count", {
+        written(&[3, 9], &[[1, 8, 0, 4]])
+    });
+    add(list, "accepted_receipt_1_of_count_1", {
+        written(&[4_096, 1], &[[0, 4_095, 1, 1]])
+    });
+    add(list, "refused_9_receipt_2_of_count_1", {
+        written(&[4_096, 1], &[[0, 4_095, 1, 2]])
+    });
+    add(list, "accepted_receipt_4096_of_count_4096", {
+        written(&[4_096, 1], &[[1, 0, 0, 4_096]])
+    });
+    add(list, "refused_9_receipt_4097_of_count_4096", {
+        written(&[4_096, 1], &[[1, 0, 0, 4_097]])
+    });
+    // The low byte alone would not be above the count.
+    add(
+        list,
+        "refused_9_receipt_259_of_count_4",
+        with([1, 0, 2, 259]),
+    );
 }
 
 /// Tables that two checks or more would catch: the earlier one answers, even
@@ -341,6 +560,26 @@ fn order_of_checks(list: &mut Vec<Named>) {
     });
     add(list, "refused_8_order_8_and_9_in_one", {
         written(&[3, 3], &[[0, 3, 1, 3]])
+    });
+    // The same with one above the count, which is what 9 refuses now.
+    add(list, "refused_5_order_5_8_9_count_plus_1", {
+        written(&[3, 0], &[[0, 3, 1, 0], [1, 0, 0, 4]])
+    });
+    add(list, "refused_6_order_9_8_7_6_count_plus_1", {
+        let messages = [[0, 0, 1, 4], [0, 3, 1, 0], [1, 0, 1, 0], [2, 0, 0, 0]];
+        written(&[3, 3], &messages)
+    });
+    add(list, "refused_7_order_9_8_7_count_plus_1", {
+        written(&[3, 3], &[[0, 0, 1, 4], [0, 3, 1, 0], [1, 0, 1, 0]])
+    });
+    add(list, "refused_7_order_7_8_9_in_one_count_plus_1", {
+        written(&[3, 3], &[[1, 3, 1, 4]])
+    });
+    add(list, "refused_8_order_9_8_count_plus_1", {
+        written(&[3, 3], &[[0, 0, 1, 4], [0, 3, 1, 0]])
+    });
+    add(list, "refused_8_order_8_and_9_in_one_count_plus_1", {
+        written(&[3, 3], &[[0, 3, 1, 4]])
     });
 }
 
@@ -637,13 +876,20 @@ fn largest(list: &mut Vec<Named>) {
     add(list, "refused_4_largest_then_many_bytes", {
         lengthened(history, 40_000)
     });
+    let unsaved = gen::history(&mut Rng::new(21), 32, 4_096);
+    let bytes = unsaved.to_bytes();
+    assert_eq!(bytes.len(), MOST_BYTES, "another seed, please");
+    let mut messages = unsaved.messages.iter();
+    assert!(messages.any(|message| unsaved.unsaved(message)));
+    add(list, "largest_history_unsaved", bytes);
 }
 
 // ---------------------------------------------------------------------------
 // By chance and by pattern.
 
-/// Kind, seed, processes and messages of the generated tables.
-const GENERATED: [(&str, u64, usize, usize); 27] = [
+/// Kind, seed, processes and messages of the generated tables. Those of the kinds
+/// that end in `-unsaved` have such messages.
+const GENERATED: [(&str, u64, usize, usize); 40] = [
     ("history", 7, 2, 6),
     ("history", 2, 2, 30),
     ("history", 6, 3, 12),
@@ -671,6 +917,19 @@ const GENERATED: [(&str, u64, usize, usize); 27] = [
     ("ring-shuffled", 8, 5, 31),
     ("ring-by-sender", 9, 7, 49),
     ("ring-every-second", 10, 32, 96),
+    ("history-unsaved", 26, 2, 6),
+    ("history-unsaved", 116, 2, 30),
+    ("history-unsaved", 128, 3, 12),
+    ("history-unsaved", 102, 5, 40),
+    ("history-unsaved", 6, 12, 70),
+    ("history-unsaved", 7, 32, 120),
+    ("arbitrary-unsaved", 1, 2, 4),
+    ("arbitrary-unsaved", 66, 4, 5),
+    ("arbitrary-unsaved", 45, 6, 14),
+    ("arbitrary-unsaved", 19, 10, 40),
+    ("clustered-unsaved", 72, 4, 12),
+    ("clustered-unsaved", 35, 9, 30),
+    ("clustered-unsaved", 1, 32, 250),
 ];
 
 fn by_chance(list: &mut Vec<Named>) {
@@ -683,6 +942,10 @@ fn by_chance(list: &mut Vec<Named>) {
             usize::from(messages(&bytes)),
         );
         assert_eq!(made, (n, m), "{name}: another seed, please");
+        let table = Table::read(&bytes).expect("an accepted table");
+        let mut messages = table.messages.iter();
+        let unsaved = messages.any(|message| table.unsaved(message));
+        assert_eq!(unsaved, name.contains("_unsaved_"), "{name}");
         add(list, &name, bytes);
     }
     let table = gen::staircase(5, 1_000);
@@ -706,8 +969,9 @@ fn corpus() -> Vec<(String, Vec<u8>, String)> {
     largest(&mut list);
     by_chance(&mut list);
     let mut all = Vec::new();
-    for (name, bytes, text) in of_the_document() {
+    for (name, bytes, text) in of_the_document().into_iter().chain(of_unsaved()) {
         assert_eq!(listing(&bytes), text, "{name}: worked out by hand");
+        enumerated(name, &bytes);
         all.push((name.to_string(), bytes, text.to_string()));
     }
     for (name, bytes) in list {
@@ -726,6 +990,9 @@ fn promised(name: &str, bytes: &[u8], text: &str) {
     let mut words = name.split('_');
     let (word, number) = (words.next(), words.next().unwrap_or(""));
     match word {
+        Some("refused") if ACCEPTED_SINCE.contains(&name) => {
+            assert!(text.starts_with("line "), "{name}: {text}");
+        }
         Some("refused") => assert_eq!(text, format!("refused {number}\n"), "{name}"),
         Some("share") => {
             assert!(text.ends_with(&format!("\nshare {number}\n")), "{name}");
