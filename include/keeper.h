@@ -153,7 +153,9 @@ uint32_t keeper_check_table(const uint8_t *table, size_t length);
    stands for what the process has become since its last one. A message sent after checkpoint y of j and
    received before checkpoint r of i (r not 0) is an orphan of a line where y is at or above the line at
    j and r at or below the line at i: received before the line, sent after it. A line without orphans is
-   consistent.
+   consistent. A message that is received and not saved yet has the count of i as its r: what i has become
+   has received it, and no checkpoint of i has. So it can be an orphan just of lines that stand at the
+   count of i.
 
    A ceiling is the highest number that a line may have at a process: that of a checkpoint, or the count.
    Of the consistent lines at or below a ceiling for each process one is the latest, at every process: the
@@ -168,7 +170,9 @@ uint32_t keeper_recovery_line(const uint8_t *table, size_t length, uint8_t *answ
 
 /* The line of a set of processes that hold (take no checkpoint now), process p being bit p of `set`:
    the line under the set's ceilings, with no holding process above its last checkpoint; the others may
-   stand at their counts. For the set of all N it is the recovery line, for the empty one it is the counts.
+   stand at their counts, with all that they have received. So where the processes of the set have failed and
+   start again from a checkpoint, it says which of the others can go on as they are, and how far back the
+   rest have to go. For the set of all N it is the recovery line, for the empty one it is the counts.
    Checks: the table's, 12, 16. The answer is N numbers by process, 2N bytes. Stack: 432. */
 uint32_t keeper_line_of_set(const uint8_t *table, size_t length, uint32_t set, uint8_t *answer,
                             size_t room, size_t *written);
@@ -179,7 +183,8 @@ uint32_t keeper_line_of_set(const uint8_t *table, size_t length, uint32_t set, u
    its count where the change does not matter to it. No step goes to this line; a fall back goes to the
    recovery line. Nor does the keep sheet protect it: whoever discards by sheets may no longer have its
    checkpoints, or the logs of messages that cross it. Under the ceilings of a set the answer is that of
-   keeper_line_of_set, byte for byte. Checks: the table's, 17, 18, 16. The answer is N numbers by process, 2N bytes. Stack: 192. */
+   keeper_line_of_set, byte for byte. Checks: the table's, 17, 18, 16. The answer is N numbers by process,
+   2N bytes. Stack: 192. */
 uint32_t keeper_line_under(const uint8_t *table, size_t length, const uint16_t *ceilings,
                            size_t ceilings_length, uint8_t *answer, size_t room, size_t *written);
 
@@ -188,7 +193,8 @@ uint32_t keeper_line_under(const uint8_t *table, size_t length, const uint16_t *
    checkpoint graph has the checkpoints of all processes, and at the end of each process its virtual
    checkpoint, whose number is the count. An edge leads from each of them to the next of its process, and
    for each received message one from checkpoint y of its sender to checkpoint r of its receiver, y being
-   its send number and r its receipt number; a waiting message has none.
+   its send number and r its receipt number: the virtual one, where the message is not saved yet. A waiting
+   message has none.
 
    The root set has one of them for each process, at first the one at the ceiling. Nothing is marked at
    first. All that is strictly reachable from the root set, by one edge or more, is marked. While one of the
@@ -218,25 +224,29 @@ uint32_t keeper_send(const uint8_t *table, size_t length, uint16_t from, uint16_
                      size_t room, size_t *written);
 
 /* The table after a save: `process` takes a checkpoint, having received the messages at the listed
-   positions. Their receipt number becomes its old count, and its count grows by one. The list has
-   `list_length` positions, strictly rising, each of a message that waits for the process; it may be
-   empty, and then NULL. Checks: the table's, 10, 13, 14, 16. The answer is as long as the table.
-   Stack: 224. */
+   positions. Their receipt number becomes its old count, and its count grows by one. With them is saved
+   what it received by keeper_receive since its last checkpoint: that has the old count as its receipt number
+   already, is not listed, and stays as it is. The list has `list_length` positions, strictly rising, each of
+   a message that waits for the process; it may be empty, and then NULL. Checks: the table's, 10, 13, 14, 16.
+   The answer is as long as the table. Stack: 224. */
 uint32_t keeper_save(const uint8_t *table, size_t length, uint16_t process, const uint16_t *list,
                      size_t list_length, uint8_t *answer, size_t room, size_t *written);
 
 /* The table after a receipt: `process` receives the messages at the listed positions, and takes no
    checkpoint. Their receipt number becomes its count, which says: received, and not saved yet. Nothing else
-   changes. The list is as that of keeper_save; a message that was received and is not saved yet does not wait
-   any more, and may not be listed again. Where the list is empty the answer is the table. Checks: the table's,
-   10, 13, 16. The answer is as long as the table. Stack: 224. */
+   changes; the next save of the process saves them. The list is as that of keeper_save; a message that is
+   received and not saved yet waits no longer, and may not be listed again, neither here nor for a save.
+   Where the list is empty the answer is the table, byte for byte. A process with 4,096 checkpoints receives
+   too: there is no check 14. Checks: the table's, 10, 13, 16. The answer is as long as the table.
+   Stack: 224. */
 uint32_t keeper_receive(const uint8_t *table, size_t length, uint16_t process, const uint16_t *list,
                         size_t list_length, uint8_t *answer, size_t room, size_t *written);
 
 /* The table after the run has fallen back to its recovery line L: each count becomes L + 1; a message
    stays where its send number is below L at its sender, and if its receipt number is above L at its
-   receiver it waits again. Those that stay keep their order and move up. Checks: the table's, 16. The
-   answer is as long as the table or shorter, by 8 bytes for each message that goes. Stack: 624.
+   receiver it waits again. What was received and not saved yet is always above L: it goes or waits again.
+   Those that stay keep their order and move up. Checks: the table's, 16. The answer is as long as the table
+   or shorter, by 8 bytes for each message that goes. Stack: 624.
 
    Numbers and positions are used again afterwards: a number above L names another checkpoint than before,
    and a position another message, since messages have gone and others have moved up. Contents that are
@@ -249,8 +259,8 @@ uint32_t keeper_fall_back(const uint8_t *table, size_t length, uint8_t *answer, 
                           size_t *written);
 
 /* The keep sheet: the checkpoints and messages whose contents must be kept, since some future of the run
-   (any list of sends, saves and fall backs) needs them; the contents of all others can be discarded. No
-   entry of the table may be dropped for that.
+   (any list of sends, receipts, saves and fall backs) needs them; the contents of all others can be
+   discarded. No entry of the table may be dropped for that.
 
    The sheet is about the checkpoints and messages of this table. Those that come later are not on it, and
    their contents are kept until the next sheet. After a fall back make a new one: the numbers and positions
@@ -259,7 +269,7 @@ uint32_t keeper_fall_back(const uint8_t *table, size_t length, uint8_t *answer, 
    What is kept comes from the N lines with one holding process each. Checkpoint c of i is kept where it
    exists and one of these lines has c at i. A message is kept where it is waiting, and where its send
    number is below one of these lines at its sender and its receipt number above that line at its
-   receiver.
+   receiver. One that is received and not saved yet does not wait: it is kept by such a line or not at all.
 
    Checks: the table's, 15, 16. The answer has 4 + 4K + 2Q bytes:
 

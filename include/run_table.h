@@ -11,7 +11,8 @@
        4 + 2N          M sends: the sender, and the number of its latest checkpoint before sending
        4 + 2N + 4M     M receipts: the receiver, and the number of its first checkpoint after receiving;
                        0 says that the message is waiting: not received yet; the receiver's count
-                       says that it was received since its latest checkpoint, and is not saved yet
+                       says that it was received since the receiver's latest checkpoint, and is not
+                       saved yet
 
    A table has exactly 4 + 2N + 8M bytes. Message k is entry k of sends and receipts; k, from 0, is its
    position. Two equal entries are two messages.
@@ -106,7 +107,8 @@ uint16_t run_table_sent(const uint8_t *table, size_t length, size_t k);
 /* its receiver, */
 uint16_t run_table_receiver(const uint8_t *table, size_t length, size_t k);
 
-/* and the number of the receiver's first checkpoint after receiving it; 0 while it is waiting. */
+/* and the number of the receiver's first checkpoint after receiving it; 0 while it is waiting, and the
+   count of the receiver while it is received and not saved yet. */
 uint16_t run_table_received(const uint8_t *table, size_t length, size_t k);
 
 #ifdef __cplusplus

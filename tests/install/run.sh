@@ -63,6 +63,7 @@ keeper_line_under keeper
 keeper_listing keeper
 keeper_marked_line keeper
 keeper_put_u16 keeper
+keeper_receive keeper
 keeper_recovery_line keeper
 keeper_refusal_words keeper
 keeper_save keeper

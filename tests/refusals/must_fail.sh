@@ -64,6 +64,13 @@ differs docs/refusals.txt '/^19 /s/, rounded up//' MARKS_TOO_SHORT
 differs docs/refusals.txt '/^keeper_marked_line /s/18 19/19 18/' keeper_marked_line
 differs docs/refusals.txt '/^keeper_marked_line /s/19 //' keeper_marked_line
 differs docs/refusals.txt '/^keeper_marked_line /d' keeper_marked_line
+differs docs/refusals.txt '/^9 /s/is above/is not below/' RECEIPT_NUMBER_TOO_HIGH
+differs docs/refusals.txt '/^10 /s/send, save or receipt/send or save/' UNKNOWN_PROCESS
+differs docs/refusals.txt '/^13 /s/a save or receipt/a save/' BAD_LIST
+differs docs/refusals.txt '/^keeper_receive /d' keeper_receive
+differs docs/refusals.txt '/^keeper_receive /s/10 13/13 10/' keeper_receive
+differs docs/refusals.txt '/^keeper_receive /s/13 16/13 14 16/' keeper_receive
+differs docs/refusals.txt '/^keeper_receive /s/10 //' keeper_receive
 
 # The headers.
 differs include/keeper.h 's/NUMBER_TOO_HIGH = 8/NUMBER_TOO_HIGH = 9/;t;s/NUMBER_TOO_HIGH = 9/NUMBER_TOO_HIGH = 8/' KEEPER_SEND_NUMBER_TOO_HIGH
@@ -84,6 +91,10 @@ differs include/keeper.h "s/Checks: the table's, 17, 18, 19, 16/Checks: the tabl
 differs include/keeper.h '/KEEPER_MARKS_TOO_SHORT = /{N;h;d;};/KEEPER_SCRATCH_TOO_SHORT = /G' KEEPER_MARKS_TOO_SHORT
 differs include/keeper.h 's/(sum of counts + N) \/ 8$/(sum of counts) \/ 8/' KEEPER_MARKS_TOO_SHORT
 differs include/keeper.h 's/return "the mark buffer is shorter/return "the mark buffer is smaller/' 'keeper_refusal_words.*KEEPER_MARKS_TOO_SHORT'
+differs include/keeper.h "s/Checks: the table's, 10, 13, 16/Checks: the table's, 10, 13, 14, 16/" keeper_receive
+differs include/keeper.h "s/Checks: the table's, 10, 13, 16/Checks: the table's, 13, 10, 16/" keeper_receive
+differs include/keeper.h 's/KEEPER_UNKNOWN_PROCESS = 10, .*/KEEPER_UNKNOWN_PROCESS = 10, \/* a process named in a send or save is N or above *\//' KEEPER_UNKNOWN_PROCESS
+differs include/keeper.h 's/return "the list of a save or receipt/return "the list of a save/' 'keeper_refusal_words.*KEEPER_BAD_LIST'
 differs include/keeper.h "s/Checks: the table's, 15, 16/Checks: the table's, 16, 15/" keeper_keep_sheet
 differs include/keeper.h "s/ Checks: the table's\\. / /" keeper_check_table
 differs include/run_table.h 's/RUN_TABLE_TOO_SHORT = 1/RUN_TABLE_TOO_SHORT = 2/' RUN_TABLE_TOO_SHORT
@@ -93,6 +104,8 @@ differs include/run_table.h '/RUN_TABLE_WRONG_LENGTH = /{h;d;};/RUN_TABLE_COUNT_
 differs include/run_table.h 's/return "a count is 0 or/return "a count is 1 or/' 'run_table_refusal_words.*COUNT_OUT_OF_RANGE'
 differs include/run_table.h '/case RUN_TABLE_WRONG_LENGTH: /d' 'run_table_refusal_words.*row 5'
 differs include/run_table.h '/case RUN_TABLE_TOO_SHORT: /{h;d;};/case RUN_TABLE_TOO_MANY_MESSAGES: /G' 'run_table_refusal_words.*row 2'
+differs include/run_table.h 's/= 9 .*/= 9     \/* a receipt number is not below the receiver'"'s count *\\//" RUN_TABLE_RECEIPT_NUMBER_TOO_HIGH
+differs include/run_table.h 's/return "a receipt number is above/return "a receipt number is not below/' 'run_table_refusal_words.*RECEIPT_NUMBER_TOO_HIGH'
 differs include/run_table.h 's/return "no refusal"/return "nothing"/' 'run_table_refusal_words.*RUN_TABLE_OK'
 differs include/run_table.h 's/case RUN_TABLE_MESSAGE_TO_ITS_SENDER: return \(.*\);/case RUN_TABLE_MESSAGE_TO_ITS_SENDER: return (\1);/' 'run_table_refusal_words.*row 8'
 differs include/keeper.h 's/case KEEPER_TABLE_FULL: return "a send meets/case KEEPER_TABLE_FULL: return "a send has/' 'keeper_refusal_words.*KEEPER_TABLE_FULL'
@@ -114,12 +127,16 @@ differs man/keeper.3 "s/^Checks: the table's, 17, 18, 16/Checks: the table's, 18
 differs man/keeper.3 '/^\.It 19 Dv/{N;h;d;};/^\.It 15 Dv/{N;G;}' KEEPER_MARKS_TOO_SHORT
 differs man/keeper.3 's/^The mark buffer is shorter than (sum of counts + N)/The mark buffer is shorter than (sum of counts)/' KEEPER_MARKS_TOO_SHORT
 differs man/keeper.3 "s/^Checks: the table's, 17, 18, 19, 16/Checks: the table's, 17, 18, 16, 19/" keeper_marked_line
+differs man/keeper.3 "s/^Checks: the table's, 10, 13, 16/Checks: the table's, 10, 13, 14, 16/" keeper_receive
+differs man/keeper.3 "/^Checks: the table's, 10, 13, 16/d" keeper_receive
+differs man/keeper.3 's/^A receipt number is above/A receipt number is not below/' KEEPER_RECEIPT_NUMBER_TOO_HIGH
 differs man/run_table_check.3 '/^\.It 3$/{N;d;}' RUN_TABLE_TOO_MANY_MESSAGES
 differs man/run_table_check.3 's/^\.Dv RUN_TABLE_WRONG_LENGTH/.Dv RUN_TABLE_LENGTH/' RUN_TABLE_WRONG_LENGTH
 differs man/run_table_check.3 '/^\.It 8$/{N;h;d;};/^\.It 9$/{N;G;}' RUN_TABLE_SEND_NUMBER_TOO_HIGH
 differs man/run_table.5 's/^\.It 7$/.It/' 'same sender and receiver'
 differs man/run_table.5 's/^A count is 0/A count is 1/' 'a count is 0'
 differs man/run_table.5 '/^\.It 2$/{N;d;}' 'N is 0 or above'
+differs man/run_table.5 's/^A receipt number is above/A receipt number is not below/' '9: a receipt number'
 
 # The manual.
 differs docs/MANUAL.md 's/^| 15 | call/| 51 | call/' '15 (call)'
@@ -134,6 +151,9 @@ differs docs/MANUAL.md '/^| 19 |/s/, rounded up//' '19 (call)'
 differs docs/MANUAL.md '/^| `uint32_t keeper_marked_line(/d' keeper_marked_line
 differs docs/MANUAL.md '/^| `uint32_t keeper_marked_line(/s/18, 19, 16/18, 16/' keeper_marked_line
 differs docs/MANUAL.md '/^| `uint32_t keeper_send(/s/10, 11, 14/10, 14/' keeper_send
+differs docs/MANUAL.md '/^| 9 |/s/is above/is not below/' '9 (table)'
+differs docs/MANUAL.md '/^| `uint32_t keeper_receive(/d' keeper_receive
+differs docs/MANUAL.md '/^| `uint32_t keeper_receive(/s/10, 13, 16/10, 13, 14, 16/' keeper_receive
 differs docs/MANUAL.md '/^| `uint32_t keeper_listing(/s/| 16 |/| |/' keeper_listing
 
 # The binding.
@@ -150,6 +170,9 @@ changed bindings/rust/src/lib.rs "s/^\\/\\/\\/ Checks: the table's, 17, 18, 16/\
 differs bindings/rust/src/refusal.rs '/^    MarksTooShort = /{h;d;};/^    ScratchTooShort = /G' MarksTooShort
 differs bindings/rust/src/refusal.rs 's/MarksTooShort = 19, call/MarksTooShort = 19, table/' MarksTooShort
 changed bindings/rust/src/lib.rs "s/^\\/\\/\\/ Checks: the table's, 17, 18, 19, 16/\\/\\/\\/ Checks: the table's, 19, 17, 18, 16/"
+differs bindings/rust/src/refusal.rs 's/a receipt number is above/a receipt number is not below/' ReceiptNumberTooHigh
+changed bindings/rust/src/lib.rs "s/^\\/\\/\\/ Checks: the table's, 10, 13, 16/\\/\\/\\/ Checks: the table's, 10, 13, 14, 16/"
+changed bindings/rust/src/lib.rs "/^\\/\\/\\/ Checks: the table's, 10, 13, 16/d"
 changed bindings/rust/src/listing_text.rs '/^\/\/\/ Checks: 16/d'
 
 # The second implementation, and the definition that is proved.
@@ -159,6 +182,8 @@ differs tests/reference/src/table.rs 's/^    \/\/ 8\. A send number is not below
 differs tests/reference/src/table.rs '/^    \/\/ 3\. /d' '3: M is above'
 differs tests/reference/src/gen.rs 's/"5\. A count is 0 or/"5. A count is/' '5: a count'
 changed tests/reference/src/steps.rs "s/^\\/\\/\\/ Checks: the table's, 10, 13, 14, 16/\\/\\/\\/ Checks: the table's, 10, 13, 16/"
+changed tests/reference/src/steps.rs "s/^\\/\\/\\/ Checks: the table's, 10, 13, 16/\\/\\/\\/ Checks: the table's, 13, 16/"
+differs tests/reference/src/table.rs 's/^    \/\/ 9\. A receipt number is above/    \/\/ 9. A receipt number is not below/' '9: a receipt number'
 changed tests/reference/src/marking.rs "s/^\\/\\/\\/ Checks: the table's, 17, 18, 19, 16/\\/\\/\\/ Checks: the table's, 17, 18, 16, 19/"
 differs crates/run_table/specs/Checks.antt '/number = 8 }/{h;d;};/number = 9 }/G' 'row 8 '
 
