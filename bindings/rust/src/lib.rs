@@ -173,7 +173,9 @@ pub fn recovery_line(table: &[u8], answer: &mut [u8]) -> Result<usize, Refusal> 
 /// The line of a set of processes that hold, in which process p is bit p: the
 /// latest consistent line in which a holding process stands at one of its
 /// checkpoints, and any other may also stand at its new state, numbered as its
-/// count. A set is one kind of ceilings, those of [`line_under`]: a holding
+/// count, which has received what is not saved yet. So where the processes of the
+/// set have failed, it says which of the others can go on as they are, and how far
+/// back the rest have to go. A set is one kind of ceilings, those of [`line_under`]: a holding
 /// process has its last checkpoint, and any other its count. The answer has the
 /// form of [`recovery_line`]'s.
 ///
@@ -265,7 +267,7 @@ pub fn line_under(table: &[u8], ceilings: &[u16], answer: &mut [u8]) -> Result<u
 /// The method works on the checkpoint graph: all checkpoints, the virtual ones
 /// included; an edge from each to the next of its process, and for each received
 /// message one from the checkpoint before its send to the checkpoint after its
-/// receipt. The root set starts at the ceilings, and all that is reachable from it
+/// receipt, the virtual one where it is not saved yet. The root set starts at the ceilings, and all that is reachable from it
 /// by one edge or more is marked. While a root is marked, each marked root gives
 /// way to the latest unmarked checkpoint of its process, and what is reachable
 /// from the new roots is marked too. The last root set is the line.
@@ -385,7 +387,9 @@ pub fn send(table: &[u8], from: u16, to: u16, answer: &mut [u8]) -> Result<usize
 /// The table after a checkpoint (save) of `process`, which first receives the
 /// waiting messages at the positions of `list`, strictly rising; it may be
 /// empty. Their receipt number becomes the old count of the process, and the
-/// count grows by one. The answer is a table as long as the one given.
+/// count grows by one. What the process received before, by [`receive`], is saved
+/// too: it has that receipt number already, and is not listed. The answer is a
+/// table as long as the one given.
 ///
 /// Checks: the table's, 10, 13, 14, 16.
 ///
@@ -420,9 +424,10 @@ pub fn save(table: &[u8], process: u16, list: &[u16], answer: &mut [u8]) -> Resu
 
 /// The table after a receipt: `process` receives the waiting messages at the
 /// positions of `list`, strictly rising, and takes no checkpoint. Their receipt
-/// number becomes the count of the process: received, and not saved yet. Nothing
-/// else changes; an empty list gives the table. The answer is a table as long as
-/// the one given.
+/// number becomes the count of the process: received, and not saved yet. They wait
+/// no longer and can't be listed again; the next [`save`] of the process saves
+/// them. Nothing else changes; an empty list gives the table. The answer is a
+/// table as long as the one given.
 ///
 /// Checks: the table's, 10, 13, 16.
 ///
@@ -436,7 +441,11 @@ pub fn save(table: &[u8], process: u16, list: &[u16], answer: &mut [u8]) -> Resu
 /// assert_eq!(next[4..8], [3, 0, 3, 0]); // the counts, as they were
 /// assert_eq!(next[44..48], [0, 0, 3, 0]); // its receipt: the count of process 0
 /// // It waits no longer.
-/// assert_eq!(receive(&next[..48].to_vec(), 0, &[4], &mut next), Err(Refusal::BadList));
+/// let received = next[..48].to_vec();
+/// assert_eq!(receive(&received, 0, &[4], &mut next), Err(Refusal::BadList));
+/// // The next save of process 0 saves it: its receipt stays, and the count is above it.
+/// assert_eq!(keeper::save(&received, 0, &[], &mut next), Ok(48));
+/// assert_eq!((&next[4..8], &next[44..48]), (&[4, 0, 3, 0][..], &[0, 0, 3, 0][..]));
 /// ```
 pub fn receive(
     table: &[u8],
@@ -463,8 +472,9 @@ pub fn receive(
 
 /// The table after the whole run has fallen back to its recovery line L: each
 /// count becomes L + 1, a message not sent before the line is removed, and of
-/// the others one received after the line waits again. Order is kept. The
-/// answer is a table, no longer than the one given.
+/// the others one received after the line waits again; so does one that was
+/// received and not saved yet. Order is kept. The answer is a table, no longer
+/// than the one given.
 ///
 /// Checks: the table's, 16. A buffer shorter than the table is enough where the
 /// answer is.
@@ -495,9 +505,10 @@ pub fn fall_back(table: &[u8], answer: &mut [u8]) -> Result<usize, Refusal> {
 }
 
 /// The keep sheet: exactly the checkpoints and messages that some future of
-/// the run needs. In 16-bit numbers, low byte first: K and Q; K processes; K
-/// checkpoint numbers, by process and then number; Q positions of messages,
-/// rising. It has 4 + 4K + 2Q bytes; [`SHEET_ROOM`] bytes are always enough.
+/// the run (any list of sends, receipts, saves and fall backs) needs. In 16-bit
+/// numbers, low byte first: K and Q; K processes; K checkpoint numbers, by process
+/// and then number; Q positions of messages, rising. It has 4 + 4K + 2Q bytes;
+/// [`SHEET_ROOM`] bytes are always enough.
 ///
 /// The first N × N numbers of the scratch hold the lines of single holders
 /// afterwards, N numbers each, the line of process 0 first;

@@ -63,7 +63,8 @@ pub fn receiver(table: &[u8], k: usize) -> u16 {
     unsafe { archive::run_table_receiver(table.as_ptr(), table.len(), k) }
 }
 
-/// The receipt number of message `k`; 0: it is waiting.
+/// The receipt number of message `k`; 0: it is waiting; the count of its receiver:
+/// it is received and not saved yet.
 pub fn received(table: &[u8], k: usize) -> u16 {
     unsafe { archive::run_table_received(table.as_ptr(), table.len(), k) }
 }

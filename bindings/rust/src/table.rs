@@ -18,7 +18,8 @@ use crate::{run_table, Refusal, Sheet, LARGEST_LINE, MOST_PROCESSES};
 /// use keeper::Table;
 /// let mut table = Table::new(2)?; // two processes with checkpoint 0 each
 /// let position = table.send(0, 1)?; // a message, at position 0
-/// table.save(1, &[position])?; // process 1 receives it and saves
+/// table.receive(1, &[position])?; // process 1 receives it
+/// table.save(1, &[])?; // and saves
 /// assert_eq!(*table.recovery_line(), [0, 0]); // it was sent after checkpoint 0 of process 0
 /// table.save(0, &[])?;
 /// assert_eq!(*table.recovery_line(), [1, 1]);
@@ -32,7 +33,22 @@ pub struct Table {
     bytes: Vec<u8>,
 }
 
-/// A message of a [`Table`].
+/// A message of a [`Table`], as the table had it when it was asked for. It is
+/// waiting, unsaved or saved: just one of [`is_waiting`](Message::is_waiting),
+/// [`is_unsaved`](Message::is_unsaved) and [`is_saved`](Message::is_saved) is true.
+///
+/// ```
+/// let mut table = keeper::Table::new(2)?;
+/// let position = table.send(0, 1)?;
+/// assert!(table.message(position).unwrap().is_waiting());
+/// table.receive(1, &[position])?;
+/// assert!(table.message(position).unwrap().is_unsaved());
+/// table.save(1, &[])?; // checkpoint 1 of process 1 has it
+/// let message = table.message(position).unwrap();
+/// assert!(message.is_saved());
+/// assert_eq!(message.received.unwrap().get(), 1);
+/// # Ok::<(), keeper::Refusal>(())
+/// ```
 #[derive(Clone, Copy, Debug, PartialEq, Eq, Hash)]
 pub struct Message {
     /// The process that sent it.
@@ -41,16 +57,29 @@ pub struct Message {
     pub sent: u16,
     /// The process that it is for.
     pub receiver: u16,
-    /// The number of the receiver's first checkpoint after receiving; `None`:
-    /// it is waiting (undelivered).
+    /// The number of the receiver's first checkpoint after receiving, which is the
+    /// receiver's count where there is none yet; `None`: it is waiting (undelivered).
     pub received: Option<NonZeroU16>,
+    /// Whether the receipt number is the receiver's count.
+    unsaved: bool,
 }
 
 impl Message {
-    /// Whether it is waiting for its receiver. A message that was received since
-    /// the receiver's latest checkpoint is waiting still.
+    /// Whether it is waiting for its receiver (undelivered): not received yet.
     pub fn is_waiting(&self) -> bool {
         self.received.is_none()
+    }
+
+    /// Whether it is received and not saved yet: its receiver has taken no
+    /// checkpoint since.
+    pub fn is_unsaved(&self) -> bool {
+        self.unsaved
+    }
+
+    /// Whether it is received, and a checkpoint of its receiver has it: the one
+    /// numbered [`received`](Message::received).
+    pub fn is_saved(&self) -> bool {
+        !self.is_waiting() && !self.is_unsaved()
     }
 }
 
@@ -165,6 +194,7 @@ impl Table {
     /// let message = table.message(3).unwrap();
     /// assert_eq!((message.sender, message.sent), (0, 2));
     /// assert_eq!((message.receiver, message.received.unwrap().get()), (1, 2));
+    /// assert!(message.is_saved());
     /// assert!(table.message(4).unwrap().is_waiting());
     /// assert_eq!(table.message(5), None);
     /// # Ok::<(), Refusal>(())
@@ -180,11 +210,15 @@ impl Table {
 
     fn message_there(&self, position: u16) -> Message {
         let k = usize::from(position);
+        let receiver = run_table::receiver(&self.bytes, k);
+        let received = run_table::received(&self.bytes, k);
         Message {
             sender: run_table::sender(&self.bytes, k),
             sent: run_table::sent(&self.bytes, k),
-            receiver: run_table::receiver(&self.bytes, k),
-            received: NonZeroU16::new(run_table::received(&self.bytes, k)),
+            receiver,
+            received: NonZeroU16::new(received),
+            // A count is never 0.
+            unsaved: received == self.count(receiver),
         }
     }
 
@@ -284,7 +318,8 @@ impl Table {
     /// A checkpoint (save) of the process, which first receives the messages at
     /// the positions listed; answers the number of the checkpoint. The positions
     /// rise strictly, and each is that of a message that waits for the process.
-    /// Refused by 10, 13 and 14, as [`save`](crate::save).
+    /// What it received before, by [`Table::receive`], is saved too and is not
+    /// listed. Refused by 10, 13 and 14, as [`save`](crate::save).
     ///
     /// ```
     /// # use keeper::{Refusal, Table};
@@ -305,9 +340,38 @@ impl Table {
         Ok(number)
     }
 
+    /// The process receives the messages at the positions listed, and takes no
+    /// checkpoint: they are unsaved until its next one. The positions rise
+    /// strictly, and each is that of a message that waits for the process; one that
+    /// is unsaved waits no longer. An empty list changes nothing. Refused by 10 and
+    /// 13, as [`receive`](crate::receive).
+    ///
+    /// ```
+    /// # use keeper::{Refusal, Table};
+    /// # let example_a: Vec<u8> = [2u16, 5, 3, 3, 0, 0, 1, 0, 1, 1, 0, 2, 1, 2, 1, 2, 0, 1, 0, 2, 1, 2, 0, 0]
+    /// #     .iter().flat_map(|number| number.to_le_bytes()).collect();
+    /// let mut table = Table::from_bytes(&example_a[..])?;
+    /// assert_eq!(table.receive(1, &[4]), Err(Refusal::BadList)); // it waits for process 0
+    /// table.receive(0, &[4])?;
+    /// let message = table.message(4).unwrap();
+    /// assert!(message.is_unsaved());
+    /// assert_eq!(message.received.unwrap().get(), table.count(0));
+    /// assert_eq!(table.receive(0, &[4]), Err(Refusal::BadList)); // it waits no longer
+    /// // Process 1 sent it after its checkpoint 2: where it holds, process 0 can't go on
+    /// // as it is any more, and then process 1 has to go back further too.
+    /// assert_eq!(*table.line_of_set(0b10)?, [1, 1]);
+    /// # Ok::<(), Refusal>(())
+    /// ```
+    pub fn receive(&mut self, process: u16, received: &[u16]) -> Result<(), Refusal> {
+        let room = self.bytes.len();
+        self.step(room, |table, answer| {
+            crate::receive(table, process, received, answer)
+        })
+    }
+
     /// The whole run falls back to its recovery line, as
     /// [`fall_back`](crate::fall_back). Answers the line and where each message
-    /// went.
+    /// went. No message is unsaved then: one that was waits again, or is gone.
     ///
     /// **Numbers and positions are used again after a fall back.** A number then
     /// names another checkpoint, and a position another message. Whoever stores
@@ -360,7 +424,8 @@ impl Table {
 
     /// The keep sheet: exactly the checkpoints and messages that some future of
     /// the run needs. The contents of all others can be discarded; no entry of
-    /// the table may be dropped for that.
+    /// the table may be dropped for that. Every message that waits is kept; one
+    /// that is unsaved only where a future needs it.
     ///
     /// It is the sheet of the table as it is now. What is saved or sent after it
     /// was made is not on it, and stays until a later sheet leaves it out.

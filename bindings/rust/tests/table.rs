@@ -8,18 +8,38 @@ use std::num::NonZeroU16;
 use common::{accepted, bytes, corpus, example_a, number_at, Chance};
 use keeper::{FellBack, Message, Refusal, Table, LARGEST_TABLE};
 
+/// What a message says of itself: sender, send number, receiver, receipt number
+/// (0: waiting), and whether it is waiting, unsaved, saved.
+type Entry = (u16, u16, u16, u16, [bool; 3]);
+
+fn entry(message: Message) -> Entry {
+    let received = message.received.map_or(0, NonZeroU16::get);
+    let is = [
+        message.is_waiting(),
+        message.is_unsaved(),
+        message.is_saved(),
+    ];
+    (message.sender, message.sent, message.receiver, received, is)
+}
+
 /// The table's messages, read from its bytes by the format's places.
-fn messages_in(table: &[u8]) -> Vec<Message> {
+fn messages_in(table: &[u8]) -> Vec<Entry> {
     let n = usize::from(number_at(table, 0));
     let m = usize::from(number_at(table, 1));
     let sends = |k: usize| 2 + n + 2 * k;
     let receipts = |k: usize| 2 + n + 2 * m + 2 * k;
     (0..m)
-        .map(|k| Message {
-            sender: number_at(table, sends(k)),
-            sent: number_at(table, sends(k) + 1),
-            receiver: number_at(table, receipts(k)),
-            received: NonZeroU16::new(number_at(table, receipts(k) + 1)),
+        .map(|k| {
+            let receiver = number_at(table, receipts(k));
+            let received = number_at(table, receipts(k) + 1);
+            let count = number_at(table, 2 + usize::from(receiver));
+            let is = [
+                received == 0,
+                received == count,
+                0 < received && received < count,
+            ];
+            let (sender, sent) = (number_at(table, sends(k)), number_at(table, sends(k) + 1));
+            (sender, sent, receiver, received, is)
         })
         .collect()
 }
@@ -75,6 +95,15 @@ fn save_is(table: &Table, process: u16, list: &[u16]) -> Result<(u16, Table), Re
     )
 }
 
+fn receive_is(table: &Table, process: u16, list: &[u16]) -> Result<Table, Refusal> {
+    step_is(
+        table,
+        |table| table.receive(process, list),
+        &|table, answer| keeper::receive(table, process, list, answer),
+    )
+    .map(|((), after)| after)
+}
+
 /// A fall back beside the call on slices. Where each message went is told from
 /// the two tables: a send entry is either in both as often or in the old one
 /// alone, and order is kept, so a message is the next one of the new table just
@@ -90,15 +119,16 @@ fn fall_back_is(table: &Table) -> (FellBack, Table) {
         .iter()
         .map(|old| {
             let next = new.get(found)?;
-            let same = (next.sender, next.sent) == (old.sender, old.sent);
+            let same = (next.0, next.1) == (old.0, old.1);
             same.then(|| {
-                assert_eq!(next.receiver, old.receiver);
+                assert_eq!(next.2, old.2);
                 found += 1;
                 found as u16 - 1
             })
         })
         .collect();
     assert_eq!(found, new.len());
+    assert!(!after.messages().any(|message| message.is_unsaved()));
     assert_eq!(fell_back.messages, expected);
     (fell_back, after)
 }
@@ -123,9 +153,12 @@ fn the_corpus_is_read_as_its_bytes_and_listings_have_it() {
         assert_eq!((table.count(n), table.count(u16::MAX)), (0, 0));
         let messages = messages_in(&case.table);
         assert_eq!(table.messages().len(), messages.len(), "{name}");
-        assert!(table.messages().eq(messages.iter().copied()), "{name}");
+        assert!(
+            table.messages().map(entry).eq(messages.iter().copied()),
+            "{name}"
+        );
         for (position, message) in (0..).zip(&messages) {
-            assert_eq!(table.message(position), Some(*message), "{name}");
+            assert_eq!(table.message(position).map(entry), Some(*message), "{name}");
         }
         assert_eq!(table.message(messages.len() as u16), None);
         assert_eq!(table.message(u16::MAX), None);
@@ -194,6 +227,23 @@ fn steps_are_those_of_the_calls_on_slices() {
                     }
                     Err(_) => refused += 1,
                 }
+                match receive_is(&table, process, list) {
+                    Ok(after) => {
+                        assert!(after.counts().eq(table.counts()));
+                        for (position, old) in (0..).zip(table.messages()) {
+                            let new = after.message(position).unwrap();
+                            match list.contains(&position) {
+                                true => {
+                                    assert!(old.is_waiting() && new.is_unsaved());
+                                    let received = new.received.map(NonZeroU16::get);
+                                    assert_eq!(received, Some(table.count(process)));
+                                }
+                                false => assert_eq!(new, old),
+                            }
+                        }
+                    }
+                    Err(_) => refused += 1,
+                }
             }
         }
         fall_back_is(&table);
@@ -204,7 +254,7 @@ fn steps_are_those_of_the_calls_on_slices() {
 #[test]
 fn chains_of_steps() {
     let mut chance = Chance(20_260_101);
-    let (mut removed, mut waiting_again) = (0, 0);
+    let (mut removed, mut waiting_again, mut unsaved, mut saved) = (0, 0, 0, 0);
     for chain in 0..60 {
         let n = 2 + chain % 7;
         let mut table = Table::new(n).unwrap();
@@ -216,27 +266,46 @@ fn chains_of_steps() {
                     for (old, position) in table.messages().zip(fell_back.messages) {
                         match position.map(|position| after.message(position).unwrap()) {
                             None => removed += 1,
-                            Some(new) if new.received != old.received => waiting_again += 1,
-                            Some(_) => {}
+                            Some(new) if new.received != old.received => {
+                                assert!(new.is_waiting());
+                                waiting_again += 1;
+                                unsaved += usize::from(old.is_unsaved());
+                            }
+                            Some(_) => assert!(!old.is_unsaved()),
                         }
                     }
                     table = after;
                 }
-                1..=11 => {
+                1..=9 => {
                     let to = (usize::from(process) + 1 + chance.below(n - 1)) % n;
                     table = send_is(&table, process, to as u16).unwrap().1;
+                }
+                10..=13 => {
+                    let mut list = waiting_for(&table, process);
+                    list.retain(|_| chance.below(3) > 0);
+                    table = receive_is(&table, process, &list).unwrap();
                 }
                 _ => {
                     let mut list = waiting_for(&table, process);
                     list.retain(|_| chance.below(3) > 0);
-                    table = save_is(&table, process, &list).unwrap().1;
+                    let is_unsaved =
+                        |message: &Message| message.is_unsaved() && message.receiver == process;
+                    saved += table.messages().filter(is_unsaved).count();
+                    let (number, after) = save_is(&table, process, &list).unwrap();
+                    for (old, new) in table.messages().zip(after.messages()) {
+                        if is_unsaved(&old) {
+                            assert!(new.is_saved());
+                            assert_eq!(new.received.map(NonZeroU16::get), Some(number));
+                        }
+                    }
+                    table = after;
                 }
             }
         }
     }
     assert!(
-        removed > 100 && waiting_again > 10,
-        "{removed} {waiting_again}"
+        removed > 100 && waiting_again > 10 && unsaved > 10 && saved > 100,
+        "{removed} {waiting_again} {unsaved} {saved}"
     );
 }
 
@@ -272,6 +341,8 @@ fn thirty_two_processes() {
     assert_eq!(table.send(32, 0), Err(Refusal::UnknownProcess));
     assert_eq!(table.send(0, 32), Err(Refusal::UnknownProcess));
     assert_eq!(table.save(32, &[]), Err(Refusal::UnknownProcess));
+    assert_eq!(table.receive(32, &[]), Err(Refusal::UnknownProcess));
+    assert_eq!(table.receive(31, &[]), Ok(()));
     assert_eq!(table.save(31, &[]), Ok(1));
     assert_eq!(table.line_of_set(u32::MAX), Ok(table.recovery_line()));
     assert_eq!(table.line_of_set(1 << 31).unwrap()[31], 1);
@@ -290,12 +361,16 @@ fn a_table_full_of_messages() {
     assert_eq!(table.send(0, 1), Err(Refusal::TableFull));
     assert_eq!(table.send(0, 2), Err(Refusal::UnknownProcess));
     assert_eq!(table, full);
-    // All that wait for process 1, the longest list that can be; then all others.
+    // All that wait for process 1, the longest list that can be; then all others,
+    // which are received first.
     let list: Vec<u16> = (0..4_096).step_by(2).collect();
     assert_eq!(table.save(1, &list), Ok(1));
     let list: Vec<u16> = (1..4_096).step_by(2).collect();
-    assert_eq!(table.save(0, &list), Ok(1));
-    assert_eq!(table.messages().filter(Message::is_waiting).count(), 0);
+    assert_eq!(table.receive(0, &list), Ok(()));
+    assert_eq!(table.messages().filter(Message::is_unsaved).count(), 2_048);
+    assert_eq!(table.save(0, &list), Err(Refusal::BadList));
+    assert_eq!(table.save(0, &[]), Ok(1));
+    assert_eq!(table.messages().filter(Message::is_saved).count(), 4_096);
     assert_eq!(table.send(1, 0), Err(Refusal::TableFull));
     assert_eq!(table.keep_sheet().messages().len(), 0);
     let (_, after) = fall_back_is(&table);
@@ -316,6 +391,12 @@ fn a_count_of_4096() {
     assert_eq!(table.save(1, &[0]), Err(Refusal::TableFull));
     assert_eq!(table.save(1, &[1]), Err(Refusal::BadList));
     assert_eq!(table, full);
+    // A receipt takes no room: its number is 4,096.
+    assert_eq!(table.receive(1, &[1]), Err(Refusal::BadList));
+    assert_eq!(table.receive(1, &[0]), Ok(()));
+    let received = table.message(0).unwrap();
+    assert!(received.is_unsaved() && received.received == NonZeroU16::new(4_096));
+    assert_eq!(table.save(1, &[]), Err(Refusal::TableFull));
     assert_eq!(table.save(0, &[]), Ok(1));
     assert_eq!(*table.line_of_set(0).unwrap(), [2, 4_096]);
     assert!(table.keep_sheet().has_checkpoint(1, 4_095));
@@ -330,17 +411,21 @@ fn lists_that_are_refused() {
     }
     table.send(0, 2).unwrap();
     table.save(1, &[1]).unwrap();
+    table.send(0, 1).unwrap();
+    table.receive(1, &[4]).unwrap();
     let before = table.clone();
     let long: Vec<u16> = (0..=u16::MAX).collect();
-    let lists: [&[u16]; 11] = [
+    let lists: [&[u16]; 13] = [
         &[2, 0],          // falling
         &[0, 0],          // doubled
         &[0, 2, 2],       // doubled at the end
         &[1],             // received
         &[0, 1, 2],       // one of them received
         &[3],             // for another
-        &[4],             // M
-        &[0, 2, 4],       // M at the end
+        &[4],             // received and not saved yet
+        &[0, 2, 4],       // one of them so
+        &[5],             // M
+        &[0, 2, 5],       // M at the end
         &[0, u16::MAX],   // far beyond M
         &[0, 2, 2, 2, 2], // more than there are messages
         &long,            // every position that there is a number for
@@ -348,11 +433,19 @@ fn lists_that_are_refused() {
     for list in lists {
         assert_eq!(save_is(&table, 1, list).map(|_| ()), Err(Refusal::BadList));
         assert_eq!(table.save(1, list), Err(Refusal::BadList));
+        assert_eq!(
+            receive_is(&table, 1, list).map(|_| ()),
+            Err(Refusal::BadList)
+        );
+        assert_eq!(table.receive(1, list), Err(Refusal::BadList));
         assert_eq!(table, before);
     }
     assert_eq!(table.save(3, &[0]), Err(Refusal::UnknownProcess));
-    assert_eq!(table.save(1, &[0, 2]), Ok(2));
+    assert_eq!(table.receive(3, &[0]), Err(Refusal::UnknownProcess));
+    assert_eq!(table.receive(1, &[2]), Ok(()));
+    assert_eq!(table.save(1, &[0]), Ok(2));
     assert_eq!(table.save(2, &[3]), Ok(1));
+    assert!(table.messages().all(|message| message.is_saved()));
 }
 
 #[test]
@@ -378,7 +471,14 @@ fn a_table_is_shown_by_its_counts_and_messages() {
     let shown = format!("{:?}", example_a());
     assert!(shown.starts_with("Table { counts: [3, 3], messages: [Message { sender: 0, sent: 0, "));
     assert!(
-        shown.ends_with("receiver: 0, received: None }] }"),
+        shown.ends_with("receiver: 0, received: None, unsaved: false }] }"),
+        "{shown}"
+    );
+    let mut table = example_a();
+    table.receive(0, &[4]).unwrap();
+    let shown = format!("{table:?}");
+    assert!(
+        shown.ends_with("receiver: 0, received: Some(3), unsaved: true }] }"),
         "{shown}"
     );
 }

@@ -137,7 +137,8 @@ pub fn latest(table: &Table, ceilings: &[u16]) -> Vec<u16> {
     latest.next().expect("one of them is the latest").clone()
 }
 
-/// A small table: any numbers within their limits.
+/// A small table: any numbers within their limits, receipts of the count among
+/// them, which are not saved yet.
 pub fn small(chance: &mut Chance) -> Table {
     let n = 1 + chance.below(3);
     let m = if n == 1 { 0 } else { chance.below(7) };
@@ -147,7 +148,7 @@ pub fn small(chance: &mut Chance) -> Table {
         let sender = chance.below(n);
         let receiver = (sender + 1 + chance.below(n - 1)) % n;
         sends.extend([sender, chance.below(counts[sender])]);
-        receipts.extend([receiver, chance.below(counts[receiver])]);
+        receipts.extend([receiver, chance.below(counts[receiver] + 1)]);
     }
     let numbers = [vec![n, m], counts, sends, receipts].concat();
     let numbers: Vec<u16> = numbers.into_iter().map(|number| number as u16).collect();
