@@ -285,6 +285,14 @@ pub fn save(input: &Input, arguments: &Arguments) -> Result<Stepped, Failure> {
     })
 }
 
+pub fn receive(input: &Input, arguments: &Arguments) -> Result<Stepped, Failure> {
+    let process = arguments.the_number("PROCESS");
+    let list = arguments.numbers("POSITION");
+    stepped(input, &Call::Receive { process, list }, |table| {
+        table.receive(process, list)
+    })
+}
+
 pub fn fall_back(input: &Input, arguments: &Arguments) -> Result<Stepped, Failure> {
     let mut table = input.accepted()?;
     let FellBack { line, messages } = table.fall_back();

@@ -11,7 +11,8 @@ use legend::Legend;
 pub use shapes::escape;
 use shapes::{
     arrow, bracket, dot, label, label_over_lines, open_arrows, polyline, short, virtual_dot,
-    width_of, wrap, Box2, Cut, Point, Space, Style, BRACKET, DOT, FAINT, INK, KEPT, PLAIN, WAITING,
+    width_of, wrap, Box2, Cut, Point, Space, Style, BRACKET, DOT, FAINT, INK, KEPT, PLAIN, UNSAVED,
+    UNSAVED_KEPT, WAITING,
 };
 
 const LEFT: f64 = 104.0;
@@ -68,8 +69,10 @@ fn scale(view: &View, timed: bool) -> Scale {
 }
 
 fn style(message: &Message) -> &'static Style {
-    match (message.waiting(), message.kept) {
-        (true, _) => &WAITING,
+    match (message.unsaved, message.kept) {
+        _ if message.waiting() => &WAITING,
+        (true, true) => &UNSAVED_KEPT,
+        (true, false) => &UNSAVED,
         (false, true) => &KEPT,
         (false, false) => &PLAIN,
     }
@@ -179,10 +182,16 @@ fn message_title(run: &Run, k: usize) -> String {
             lines_of(&run.crossed(message))
         ),
     };
-    format!(
-        "{sent}, received by process {} before its checkpoint {}, {kept}",
-        message.to, message.received
-    )
+    match message.unsaved {
+        true => format!(
+            "{sent}, to process {}: received, not saved, {kept}",
+            message.to
+        ),
+        false => format!(
+            "{sent}, received by process {} before its checkpoint {}, {kept}",
+            message.to, message.received
+        ),
+    }
 }
 
 /// Why there is no picture.
@@ -369,7 +378,7 @@ impl<'a> Picture<'a> {
         self.hold_lines();
         self.under_line();
         // The bold arrows over the thin ones.
-        for style in [&PLAIN, &KEPT, &WAITING] {
+        for style in [&PLAIN, &UNSAVED, &KEPT, &UNSAVED_KEPT, &WAITING] {
             self.arrows(style);
         }
         self.dots();
@@ -634,14 +643,16 @@ impl<'a> Picture<'a> {
     }
 
     fn arrows(&mut self, of: &Style) {
+        let own = |k: &usize| style(&self.run.messages[*k]).class == of.class;
+        let drawn: Vec<(usize, Vec<Point>, Cut)> = (0..self.run.messages.len())
+            .filter(own)
+            .filter_map(|k| self.arrow(k).map(|(corners, cut)| (k, corners, cut)))
+            .collect();
+        if drawn.is_empty() {
+            return;
+        }
         open_arrows(&mut self.svg, "messages", of);
-        for (k, message) in self.run.messages.iter().enumerate() {
-            if style(message).class != of.class {
-                continue;
-            }
-            let Some((corners, cut)) = self.arrow(k) else {
-                continue;
-            };
+        for (k, corners, cut) in drawn {
             arrow(
                 &mut self.svg,
                 of,
@@ -789,14 +800,16 @@ impl<'a> Picture<'a> {
     }
 
     /// The position of a message and its end that is left out, as in the text
-    /// form of a table.
-    fn other_end(&self, k: usize, cut: Cut) -> Option<String> {
+    /// form of a table: the longest first.
+    fn other_end(&self, k: usize, cut: Cut) -> Vec<String> {
         let message = &self.run.messages[k];
+        let received = || format!("m{k} to {}.{}", message.to, message.received);
         match cut {
-            Cut::Nowhere => None,
-            Cut::AtTail => Some(format!("m{k} from {}.{}", message.from, message.sent)),
-            Cut::AtTip if message.waiting() => Some(format!("m{k} to {}", message.to)),
-            Cut::AtTip => Some(format!("m{k} to {}.{}", message.to, message.received)),
+            Cut::Nowhere => vec![],
+            Cut::AtTail => vec![format!("m{k} from {}.{}", message.from, message.sent)],
+            Cut::AtTip if message.waiting() => vec![format!("m{k} to {}", message.to)],
+            Cut::AtTip if message.unsaved => vec![format!("{} unsaved", received()), received()],
+            Cut::AtTip => vec![received()],
         }
     }
 }

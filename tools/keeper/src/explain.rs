@@ -16,6 +16,10 @@ pub enum Call<'a> {
         process: u16,
         list: &'a [u16],
     },
+    Receive {
+        process: u16,
+        list: &'a [u16],
+    },
     /// The line of these processes.
     Hold(&'a [u16]),
     /// The line under these ceilings.
@@ -119,13 +123,7 @@ fn in_table(table: &[u8], refusal: Refusal) -> Option<String> {
             let (sender, sent) = (run_table::sender(table, k), run_table::sent(table, k));
             let (receiver, received) =
                 (run_table::receiver(table, k), run_table::received(table, k));
-            let has = |process: u16| {
-                let count = run_table::count(table, process.into());
-                format!(
-                    "process {process} has {}",
-                    plural(count.into(), "checkpoint")
-                )
-            };
+            let count = |process: u16| run_table::count(table, process.into());
             match refusal {
                 Refusal::UnknownProcessInMessage if usize::from(sender) >= n => {
                     format!("message {k} is from process {sender}, and N is {n}")
@@ -136,15 +134,14 @@ fn in_table(table: &[u8], refusal: Refusal) -> Option<String> {
                 Refusal::MessageToItsSender => {
                     format!("message {k} is from process {sender} to itself")
                 }
-                Refusal::SendNumberTooHigh => {
-                    format!("message {k} has send number {sent}, and {}", has(sender))
-                }
-                Refusal::ReceiptNumberTooHigh => {
-                    format!(
-                        "message {k} has receipt number {received}, and {}",
-                        has(receiver)
-                    )
-                }
+                Refusal::SendNumberTooHigh => format!(
+                    "message {k} has send number {sent}, and process {sender} has {}",
+                    plural(count(sender).into(), "checkpoint")
+                ),
+                Refusal::ReceiptNumberTooHigh => format!(
+                    "message {k} has receipt number {received}, above the count {} of process {receiver}",
+                    count(receiver)
+                ),
                 _ => return None,
             }
         }
@@ -159,7 +156,9 @@ fn in_call(table: &[u8], call: &Call, refusal: Refusal) -> Option<String> {
     };
     match (refusal, call) {
         (Refusal::UnknownProcess, Call::Send { from, to }) => unknown(&[*from, *to]),
-        (Refusal::UnknownProcess, Call::Save { process, .. }) => unknown(&[*process]),
+        (Refusal::UnknownProcess, Call::Save { process, .. } | Call::Receive { process, .. }) => {
+            unknown(&[*process])
+        }
         (Refusal::UnknownProcessInSet, Call::Hold(processes)) => unknown(processes),
         (Refusal::WrongCeilingCount, Call::Under(ceilings)) => {
             let processes = if n == 1 { "process" } else { "processes" };
@@ -177,7 +176,9 @@ fn in_call(table: &[u8], call: &Call, refusal: Refusal) -> Option<String> {
         (Refusal::SendToItself, Call::Send { from, .. }) => {
             Some(format!("process {from} does not send to itself"))
         }
-        (Refusal::BadList, Call::Save { process, list }) => in_list(table, *process, list),
+        (Refusal::BadList, Call::Save { process, list } | Call::Receive { process, list }) => {
+            in_list(table, *process, list)
+        }
         (Refusal::TableFull, Call::Send { .. }) => {
             Some(format!("the table has {m} messages, and takes no more"))
         }
@@ -191,7 +192,8 @@ fn in_call(table: &[u8], call: &Call, refusal: Refusal) -> Option<String> {
     }
 }
 
-/// What is the matter with a save's list: the first position that is not right.
+/// What is the matter with the list of a save or receipt: the first position that
+/// is not right.
 fn in_list(table: &[u8], process: u16, list: &[u16]) -> Option<String> {
     let (_, m) = sizes(table);
     for (place, position) in list.iter().enumerate() {
@@ -213,9 +215,13 @@ fn in_list(table: &[u8], process: u16, list: &[u16]) -> Option<String> {
             ));
         }
         let received = run_table::received(table, k);
+        let not_waiting = format!("message {k} does not wait for process {process}");
+        if received == run_table::count(table, process.into()) {
+            return Some(format!("{not_waiting}: it is received, and not saved yet"));
+        }
         if received != 0 {
             return Some(format!(
-                "message {k} does not wait for process {process}: it was received before checkpoint {received}"
+                "{not_waiting}: it was received before checkpoint {received}"
             ));
         }
     }

@@ -1,8 +1,8 @@
 //! Where the events of a run stand in time, and how arrows run between them.
 //!
 //! A table says of a send only that it lies between checkpoints y and y + 1 of
-//! its process, and of a receipt that it lies between r - 1 and r. An order of
-//! time has these and every send before its receipt. Where there is one, each
+//! its process, and of a receipt that it lies between r - 1 and r, the virtual
+//! checkpoints included. An order of time has these and every send before its receipt. Where there is one, each
 //! column takes at most one event of each process, as early as the order
 //! allows; where there is none, events stand by checkpoint number.
 //!

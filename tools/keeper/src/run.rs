@@ -10,9 +10,11 @@ pub struct Message {
     /// The number of the sender's latest checkpoint before sending.
     pub sent: usize,
     pub to: usize,
-    /// The number of the receiver's first checkpoint after receiving; 0: it
-    /// is waiting.
+    /// The number of the receiver's first checkpoint after receiving, the virtual
+    /// one where it is not saved yet; 0: it is waiting.
     pub received: usize,
+    /// Whether it is received and not saved yet.
+    pub unsaved: bool,
     pub kept: bool,
 }
 
@@ -80,6 +82,7 @@ impl Run {
                 sent: message.sent.into(),
                 to: message.receiver.into(),
                 received: message.received.map_or(0, |number| number.get().into()),
+                unsaved: message.is_unsaved(),
                 kept: sheet.has_message(position),
             });
         let hold_line = |p| places(sheet.line(p).expect("a line of each process"));
@@ -109,7 +112,7 @@ impl Run {
     }
 
     /// The number of the checkpoint before which the arrow of message k ends:
-    /// the virtual one for a waiting message.
+    /// the virtual one for a waiting message, and for one that is not saved yet.
     pub fn ends_before(&self, k: usize) -> usize {
         let message = &self.messages[k];
         if message.waiting() {

@@ -5,8 +5,13 @@
 //! processes 2
 //! states 3 3
 //! message 0.0 -> 1.2
+//! message 0.1 -> 1.3 unsaved
 //! message 1.2 -> 0 waiting
 //! ```
+//!
+//! A message whose receipt number is its receiver's count is received and not
+//! saved yet. `unsaved` says so, is written always and may be left out; behind
+//! another number it is an error.
 //!
 //! What is read here is the form alone. Whether the numbers make a table is
 //! the library's to say.
@@ -148,6 +153,28 @@ impl Line<'_> {
         }
     }
 
+    /// The word `unsaved` behind a receipt number, where it stands there: the
+    /// number must be the count of the receiver.
+    fn unsaved(&mut self, received: u16, receiver: u16, counts: &[u16]) -> Result<(), SyntaxError> {
+        let touching = !matches!(self.bytes.get(self.at), Some(b' ' | b'\t'));
+        self.skip_blanks();
+        let length = self.run(u8::is_ascii_alphanumeric);
+        if touching || &self.bytes[self.at..self.at + length] != b"unsaved" {
+            return Ok(());
+        }
+        let since = match counts.get(usize::from(receiver)) {
+            Some(count) if *count == received => {
+                self.at += length;
+                return Ok(());
+            }
+            Some(count) => format!("the count of process {receiver} is {count}"),
+            None => format!("there is no process {receiver}"),
+        };
+        self.error(format!(
+            "no `unsaved` behind receipt number {received}, since {since}"
+        ))
+    }
+
     fn end(&mut self, after: &str) -> Result<(), SyntaxError> {
         match self.at_end() {
             true => Ok(()),
@@ -225,7 +252,8 @@ pub fn read(text: &[u8]) -> Result<Read, SyntaxError> {
         line.skip_blanks();
         line.sign("->", "`->`")?;
         line.skip_blanks();
-        receipts.push(line.number("the receiver")?);
+        let receiver = line.number("the receiver")?;
+        receipts.push(receiver);
         if line.bytes.get(line.at) == Some(&b'.') {
             line.at += 1;
             let start = line.at;
@@ -235,6 +263,7 @@ pub fn read(text: &[u8]) -> Result<Read, SyntaxError> {
                 return line.error("a receipt number of at least 1 (of a message not received, `waiting` after the receiver)");
             }
             receipts.push(received);
+            line.unsaved(received, receiver, &counts)?;
         } else {
             let touching = !matches!(line.bytes.get(line.at), None | Some(b' ' | b'\t' | b'#'));
             if touching || line.at_end() || line.word("waiting").is_err() {
@@ -271,13 +300,12 @@ pub fn write(table: &[u8]) -> String {
     text.push('\n');
     for k in 0..usize::from(run_table::messages(table)) {
         let (sender, sent) = (run_table::sender(table, k), run_table::sent(table, k));
-        let _ = write!(
-            text,
-            "message {sender}.{sent} -> {}",
-            run_table::receiver(table, k)
-        );
+        let receiver = run_table::receiver(table, k);
+        let count = run_table::count(table, receiver.into());
+        let _ = write!(text, "message {sender}.{sent} -> {receiver}");
         let _ = match run_table::received(table, k) {
             0 => writeln!(text, " waiting"),
+            received if received == count => writeln!(text, ".{received} unsaved"),
             received => writeln!(text, ".{received}"),
         };
     }

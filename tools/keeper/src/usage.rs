@@ -279,11 +279,13 @@ Reads the text of a run table and writes the table. The text:
   processes 2
   states 3 3
   message 0.0 -> 1.2
+  message 0.1 -> 1.3 unsaved
   message 1.2 -> 0 waiting
 
 The counts of checkpoints stand after `states`. A line `message J.Y -> I.R` stands for each message, in the order of \
-positions: sent by process J after its checkpoint Y, received by process I before its checkpoint R, or `waiting`. \
-Errors name the line and the column. The library checks the table.",
+positions: sent by process J after its checkpoint Y, received by process I before its checkpoint R, or `waiting`. Where R \
+is the count of I, the message is received and not saved yet, and `unsaved` may stand behind it; it stands behind no other \
+number. Errors name the line and the column. The library checks the table.",
         work: Work::Alone(command::encode),
     },
     Subcommand {
@@ -293,7 +295,8 @@ Errors name the line and the column. The library checks the table.",
         options: &[&OUTPUT],
         short: "the text of a table",
         words: "\
-Reads a run table and writes its text (`keeper encode --help` shows the form). `encode` makes the same bytes of it again.",
+Reads a run table and writes its text (`keeper encode --help` shows the form), with `unsaved` behind each message that is \
+received and not saved yet. `encode` makes the same bytes of it again.",
         work: Work::Answer(command::decode),
     },
     Subcommand {
@@ -335,8 +338,9 @@ process), `checkpoints` (an array of objects with `process` and `number`), `mess
         short: "the recovery line, the line of the processes that hold, or the line under ceilings",
         words: "\
 Reads a run table and writes a line, one decimal number for each process: the recovery line, or the line of each \
-PROCESS named, which hold (take no checkpoint), or with --under the line under a ceiling for each process. A file whose \
-name is a number is written `./7`.
+PROCESS named, which hold (take no checkpoint), or with --under the line under a ceiling for each process. Where the \
+processes that hold have failed and start again from a checkpoint, their line says which of the others can go on as they \
+are, with what they received and did not save yet: those at their counts. A file whose name is a number is written `./7`.
 
 The line under ceilings is the latest consistent one with no process above its ceiling. It is for taking up a run from \
 before something was changed: the ceiling of a process is its last checkpoint before the change, or its count where the \
@@ -433,8 +437,32 @@ the latest checkpoint of FROM, waiting.",
         short: "the table after a checkpoint that receives those messages",
         words: "\
 Reads a run table and writes the table after a checkpoint of PROCESS, before which it received the messages at each \
-POSITION, rising, that wait for it. Messages count from 0. A file whose name is a number is written `./7`.",
+POSITION, rising, that wait for it. What it received by `receive` before is saved too, and is not named. Messages count \
+from 0. A file whose name is a number is written `./7`.",
         work: Work::Step(command::save),
+    },
+    Subcommand {
+        name: "receive",
+        arguments: &[
+            Argument {
+                name: "PROCESS",
+                takes: Takes::Number,
+                times: Times::Once,
+            },
+            Argument {
+                name: "POSITION",
+                takes: Takes::Number,
+                times: Times::Any,
+            },
+        ],
+        file: true,
+        options: STEP_OPTIONS,
+        short: "the table after those messages were received and not saved",
+        words: "\
+Reads a run table and writes the table after PROCESS received the messages at each POSITION, rising, that wait for it, \
+and took no checkpoint. They are received and not saved until its next `save`, and wait no longer. Where no POSITION is \
+named the table is written as it is. Messages count from 0. A file whose name is a number is written `./7`.",
+        work: Work::Step(command::receive),
     },
     Subcommand {
         name: "fall-back",
@@ -443,7 +471,8 @@ POSITION, rising, that wait for it. Messages count from 0. A file whose name is 
         options: &[&MOVES, &TEXT_IN, &TEXT_OUT, &TEXT, &OUTPUT],
         short: "the table after the run fell back to its recovery line",
         words: "\
-Reads a run table and writes the table after the whole run has fallen back to its recovery line.
+Reads a run table and writes the table after the whole run has fallen back to its recovery line. A message that was \
+sent after that line is removed. Of the others, one that was received after the line, or is not saved yet, waits again.
 
 Numbers and positions are used again afterwards: a number names another checkpoint then, and a position another \
 message, since the messages that stay move up. Whoever stores contents by number or position can mix up what the keeper \
@@ -462,8 +491,8 @@ protects: store them by an identity of your own, and carry it along a fall back.
         short: "the steps of a script, one after another",
         words: "\
 Reads a script, and makes its steps on the table of FILE. A line is a subcommand with its arguments and options, without \
-FILE: `send 0 1`, `save 1 0`, `fall back`, `list`, `line`, `sheet`, `check`, `why 1.2`, `draw`; `text` is the text of the \
-table. What follows `#` is skipped. A script that begins with `new` reads no FILE. SCRIPT is standard input where it is `-`.
+FILE: `send 0 1`, `receive 1 0`, `save 1`, `fall back`, `list`, `line`, `sheet`, `check`, `why 1.2`, `draw`; `text` is the \
+text of the table. What follows `#` is skipped. A script that begins with `new` reads no FILE. SCRIPT is standard input where it is `-`.
 
   new 2
   send 0 1
@@ -483,7 +512,8 @@ are found before the first step is made.",
         short: "the run as a diagram in SVG",
         words: "\
 Reads a run table and writes the run as a space-time diagram in SVG: a lifeline for each process, checkpoints as dots \
-and messages as arrows, with what is kept and the recovery line. Time runs to the right where some order of time fits \
+and messages as arrows, with what is kept and the recovery line. The arrow of a message that is received and not saved has \
+a hollow head and ends before the square of its receiver, what that process has become. Time runs to the right where some order of time fits \
 the table; else places are by checkpoint number, and the legend says so.
 
 --hold and --under exclude each other. What the options leave out is counted below the picture. Of a message whose other end is left out a short piece is \

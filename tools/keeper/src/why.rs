@@ -78,6 +78,7 @@ impl fmt::Display for Found {
                 let receiver = message.receiver;
                 write!(to, "Message {position} ({sender}.{sent} -> {receiver}")?;
                 match message.received {
+                    Some(received) if message.is_unsaved() => write!(to, ".{received} unsaved)"),
                     Some(received) => write!(to, ".{received})"),
                     None => write!(to, " waiting)"),
                 }

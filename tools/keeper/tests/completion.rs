@@ -71,6 +71,7 @@ fn bash() {
     assert_eq!(offered(&["keeper", ""]), names);
     assert_eq!(offered(&["keeper", "de"]), ["decode"]);
     assert_eq!(offered(&["keeper", "se"]), ["send"]);
+    assert_eq!(offered(&["keeper", "re"]), ["receive"]);
     assert_eq!(offered(&["keeper", "zz"]), [""; 0]);
     for row in SUBCOMMANDS {
         let mut names: Vec<&str> = row
@@ -93,6 +94,14 @@ fn bash() {
         ["run two.table", "run.table"]
     );
     assert_eq!(offered(&["keeper", "send", "0", "1", "st"]), ["steps.txt"]);
+    assert_eq!(
+        offered(&["keeper", "receive", "1", "0", "st"]),
+        ["steps.txt"]
+    );
+    assert_eq!(
+        offered(&["keeper", "receive", "1", "--text-o"]),
+        ["--text-out"]
+    );
     assert_eq!(offered(&["keeper", "run", "st"]), ["steps.txt"]);
     assert_eq!(
         offered(&["keeper", "run", "steps.txt", "run."]),
@@ -195,6 +204,8 @@ fn zsh() {
         ("keeper list -ost", "keeper list -osteps.txt "),
         ("keeper send 0 1 st", "keeper send 0 1 steps.txt "),
         ("keeper save 0 1 st", "keeper save 0 1 steps.txt "),
+        ("keeper rec", "keeper receive "),
+        ("keeper receive 0 1 st", "keeper receive 0 1 steps.txt "),
         ("keeper run steps.txt fo", "keeper run steps.txt folder/"),
         ("keeper completion z", "keeper completion zsh "),
         ("keeper help com", "keeper help completion "),

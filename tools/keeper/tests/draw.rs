@@ -77,8 +77,10 @@ struct Dot {
 
 /// The arrow of a message.
 struct Drawn {
-    /// `plain`, `kept` or `waiting`.
+    /// `plain`, `kept`, `unsaved`, `unsaved-kept` or `waiting`.
     class: String,
+    /// Whether its head is white within.
+    hollow: bool,
     /// The corners of its shaft, and the tip of its head.
     shaft: Vec<(f64, f64)>,
     tip: (f64, f64),
@@ -147,13 +149,15 @@ impl Picture {
                     let mut own = all.iter().filter(|one| one.parent == Some(place));
                     own.find(|one| one.is(class))
                 };
+                let filled = parts("head").expect("a head").attribute("fill");
                 let head = points(parts("head").expect("a head"));
                 let class = element.within.iter().find(|class| *class != "messages");
                 let arrow = Drawn {
                     class: class.expect("a class").clone(),
+                    hollow: filled == Some("#ffffff"),
                     shaft: points(parts("shaft").expect("a shaft")),
-                    // The tip is the middle of an open head and the first of a
-                    // filled one.
+                    // The tip is the middle of an open head and the first of any
+                    // other.
                     tip: head[usize::from(element.is_within("waiting"))],
                     ring: parts("cut").map(|ring| (ring.number("cx"), ring.number("cy"))),
                 };
@@ -277,8 +281,10 @@ fn the_checker_of_xml_checks() {
 }
 
 #[test]
-fn corpus_is_drawn_well_formed_and_whole() {
-    for (name, run) in runs() {
+fn runs_are_drawn_well_formed_and_whole() {
+    let mut classes: BTreeMap<&str, usize> = BTreeMap::new();
+    let any = any_runs(8, 60).into_iter();
+    for (name, run) in runs().into_iter().chain(any).chain(histories(400..440, 9)) {
         let svg = draw(&run, Some("A <title> & \"more\""));
         let picture = Picture::read(&svg);
         let all =
@@ -298,18 +304,42 @@ fn corpus_is_drawn_well_formed_and_whole() {
         );
         for (k, arrow) in &picture.arrows {
             let message = &run.messages[*k];
-            let class = match (message.waiting(), message.kept) {
-                (true, _) => "waiting",
+            let unsaved = message.received == run.counts[message.to];
+            let class = match (unsaved, message.kept) {
+                _ if message.waiting() => "waiting",
+                (true, true) => "unsaved-kept",
+                (true, false) => "unsaved",
                 (false, true) => "kept",
                 (false, false) => "plain",
             };
             assert_eq!(arrow.class, class, "{name}: {k}");
+            assert_eq!(arrow.hollow, unsaved, "{name}: {k}");
             assert_eq!(arrow.ring, None, "{name}: {k}");
+            *classes.entry(class).or_default() += 1;
+        }
+        // The legend explains what is drawn, and nothing else.
+        let legend = picture.texts("legend");
+        for (class, words) in ENTRIES {
+            let is_drawn = picture.arrows.values().any(|arrow| arrow.class == class);
+            assert_eq!(legend.contains(&words), is_drawn, "{name}: {words}");
         }
         assert!(!picture.notes().contains("Left out"), "{name}");
         picture.assert_inside(&name);
     }
+    assert!(
+        classes.len() == 5 && classes.values().all(|drawn| *drawn > 100),
+        "{classes:?}"
+    );
 }
+
+/// What the legend says of each kind of arrow.
+const ENTRIES: [(&str, &str); 5] = [
+    ("kept", "message, kept"),
+    ("plain", "message, not kept"),
+    ("unsaved-kept", "received, not saved (kept)"),
+    ("unsaved", "received, not saved (not kept)"),
+    ("waiting", "message, waiting (kept)"),
+];
 
 /// Runs that steps have left, which time can order.
 fn histories(seeds: std::ops::Range<u64>, most_processes: usize) -> Vec<(String, Run)> {
@@ -435,7 +465,10 @@ impl Events {
                 let received = events.checkpoint(message.to, message.received);
                 events.after.push((send, receipt));
                 events.after.push((received - 1, receipt));
-                events.after.push((receipt, received));
+                // Not saved yet: no checkpoint comes after it.
+                if message.received < run.counts[message.to] {
+                    events.after.push((receipt, received));
+                }
             }
         }
         events
@@ -494,7 +527,7 @@ fn the_grid_is_for_tables_without_an_order() {
     let mut random = Random(7);
     let (mut with, mut without) = (0, 0);
     for _ in 0..600 {
-        let run = read(&random.table(4, 16, 4));
+        let run = read(&random.table(4, 30, 5));
         let order = has_order_by_taking_away(&run);
         assert_eq!(layout::has_order(&run), order);
         // The legend speaks of an order just where the table gives one.
@@ -765,7 +798,7 @@ fn titles_of_example_a() {
 
 #[test]
 fn titles_say_what_stands_there_and_why_it_is_kept() {
-    let mut kept = 0;
+    let (mut kept, mut not_saved) = (0, 0);
     for (name, run) in runs().into_iter().chain(any_runs(11, 80)) {
         let titles = Picture::read(&draw(&run, None)).titles;
         let count = checkpoints(&run) + run.counts.len() + run.messages.len();
@@ -827,8 +860,18 @@ fn titles_say_what_stands_there_and_why_it_is_kept() {
                     !title.ends_with("not kept"),
                     "{name}: {title}"
                 );
+                let unsaved = message.received == run.counts[message.to];
+                assert_eq!(
+                    unsaved,
+                    title.contains(": received, not saved, "),
+                    "{name}: {title}"
+                );
+                not_saved += usize::from(unsaved);
                 if !message.waiting() {
-                    assert_eq!(message.received, numbers[4], "{name}: {title}");
+                    match unsaved {
+                        true => assert_eq!(numbers.len(), 4, "{name}: {title}"),
+                        false => assert_eq!(message.received, numbers[4], "{name}: {title}"),
+                    }
                     let crosses = |line: &[usize]| {
                         message.sent < line[message.from] && message.received > line[message.to]
                     };
@@ -837,7 +880,111 @@ fn titles_say_what_stands_there_and_why_it_is_kept() {
             }
         }
     }
-    assert!(kept > 1_000, "{kept}");
+    assert!(kept > 1_000 && not_saved > 100, "{kept} {not_saved}");
+}
+
+/// Three processes of which 0 has received three messages and 1 one since their
+/// last checkpoints. The lines of 0 and of 1 holding are 1 1 2, and that of 2 is
+/// 1 1 1: message 1 crosses all of them, and message 2 the first two.
+const NOT_SAVED: &str = "\
+processes 3
+states 2 2 2
+message 1.1 -> 0.2
+message 2.0 -> 0.2 unsaved
+message 2.1 -> 0.2
+message 0.1 -> 1.2
+message 0.0 -> 1.1
+message 1.1 -> 2 waiting
+";
+
+#[test]
+fn what_is_not_saved_in_words_and_in_its_place() {
+    let picture = |arguments: &[&str]| {
+        let arguments = [&["draw", "--text"], arguments].concat();
+        let svg = String::from_utf8(done(&arguments, NOT_SAVED.as_bytes())).expect("UTF-8");
+        Picture::read(&svg)
+    };
+    let whole = picture(&[]);
+    let messages: Vec<&String> = whole
+        .titles
+        .iter()
+        .filter(|title| title.starts_with("message "))
+        .collect();
+    assert_eq!(
+        messages,
+        [
+            "message 0: from process 1 after its checkpoint 1, to process 0: received, not saved, not kept",
+            "message 1: from process 2 after its checkpoint 0, to process 0: received, not saved, \
+             kept: sent before and received after the lines of processes 0-2, each alone holding",
+            "message 2: from process 2 after its checkpoint 1, to process 0: received, not saved, \
+             kept: sent before and received after the lines of processes 0-1, each alone holding",
+            "message 3: from process 0 after its checkpoint 1, to process 1: received, not saved, not kept",
+            "message 4: from process 0 after its checkpoint 0, received by process 1 before its checkpoint 1, not kept",
+            "message 5: from process 1 after its checkpoint 1, waiting for process 2, kept",
+        ]
+    );
+    // Whatever is left out or drawn as well, an arrow that has its tip ends on the
+    // lifeline, between the last dot and the square; those to one process apart.
+    for arguments in [
+        &[][..],
+        &["--hold", "all"],
+        &["--hold", "1"],
+        &["--under", "1,-,2"],
+        &["--last", "1"],
+        &["--kept-only"],
+        &["--kept-only", "--hold", "all"],
+        &["--processes", "2,0"],
+        &["--processes", "0", "--last", "1"],
+    ] {
+        let picture = picture(arguments);
+        picture.assert_inside(&format!("{arguments:?}"));
+        for (to, positions) in [(0, &[0, 1, 2][..]), (1, &[3])] {
+            let Some(square) = picture.dots.get(&(to, 2)) else {
+                continue;
+            };
+            assert_eq!(square.class, "virtual");
+            let own = picture.dots.iter().filter(|((p, _), _)| *p == to);
+            let dots = own.filter(|(_, dot)| dot.class != "virtual");
+            let last = dots.map(|(_, dot)| dot.at.0).fold(0.0, f64::max);
+            let mut tips = Vec::new();
+            for position in positions {
+                let Some(arrow) = picture.arrows.get(position) else {
+                    assert!(arguments.contains(&"--kept-only"), "{arguments:?}");
+                    continue;
+                };
+                assert!(arrow.hollow, "{arguments:?}: {position}");
+                assert!((arrow.tip.1 - square.at.1).abs() < 0.11, "{arguments:?}");
+                tips.push(arrow.tip.0);
+            }
+            tips.sort_by(f64::total_cmp);
+            let room = [&[last + 5.0][..], &tips, &[square.at.0 - 5.0]].concat();
+            assert!(
+                room.windows(2).all(|pair| pair[1] - pair[0] > 5.0),
+                "{arguments:?}: {room:?}"
+            );
+        }
+    }
+    // Only what is kept: two of them.
+    let kept = picture(&["--kept-only"]);
+    assert_eq!(kept.arrows.keys().copied().collect::<Vec<_>>(), [1, 2, 5]);
+    assert_eq!(kept.arrows[&1].class, "unsaved-kept");
+    let legend = kept.texts("legend");
+    assert!(legend.contains(&"received, not saved (kept)"), "{legend:?}");
+    assert!(!legend.contains(&"received, not saved (not kept)"));
+    // The end that is left out, as the text form has it.
+    let sender = picture(&["--processes", "2"]);
+    let labels = sender.texts("positions");
+    assert_eq!(
+        labels,
+        ["m1 to 0.2 unsaved", "m2", "m5 from 1.1"],
+        "as much as there is room for"
+    );
+    assert_eq!(sender.arrows[&2].class, "unsaved-kept");
+    let sender = picture(&["--processes", "1"]);
+    assert_eq!(sender.arrows[&0].class, "unsaved");
+    let receiver = picture(&["--processes", "0"]);
+    let labels = receiver.texts("positions");
+    assert!(labels.contains(&"m1 from 2.0"), "{labels:?}");
 }
 
 #[test]
@@ -1165,6 +1312,43 @@ fn a_waiting_arrow_ends_right_of_its_receivers_last_checkpoint() {
         }
     }
     assert!(seen > 2_000, "{seen}");
+}
+
+/// On the lifeline, between the last checkpoint that its receiver has and the
+/// virtual one, whether time has an order or not.
+#[test]
+fn an_arrow_that_is_not_saved_ends_before_its_receivers_square() {
+    let (mut timed, mut grid) = (0, 0);
+    for (name, run) in any_runs(6, 60).into_iter().chain(histories(500..520, 12)) {
+        let has_order = layout::has_order(&run);
+        for choice in choices(run.counts.len()) {
+            let svg = draw::draw(&run, &choice, None).expect("not too large");
+            let picture = Picture::read(&svg);
+            for (k, arrow) in &picture.arrows {
+                let message = &run.messages[*k];
+                let count = run.counts[message.to];
+                let Some(square) = picture.dots.get(&(message.to, count)) else {
+                    continue;
+                };
+                if message.received != count {
+                    continue;
+                }
+                let own = picture
+                    .dots
+                    .iter()
+                    .filter(|((p, c), _)| *p == message.to && *c < count);
+                let last = own.map(|(_, dot)| dot.at.0).fold(0.0, f64::max);
+                assert!(last < arrow.tip.0, "{name} {choice:?}: {k}");
+                assert!(arrow.tip.0 < square.at.0, "{name} {choice:?}: {k}");
+                assert!(
+                    (arrow.tip.1 - square.at.1).abs() < 0.11,
+                    "{name} {choice:?}: {k}"
+                );
+                *if has_order { &mut timed } else { &mut grid } += 1;
+            }
+        }
+    }
+    assert!(timed > 1_000 && grid > 1_000, "{timed} {grid}");
 }
 
 #[test]

@@ -393,6 +393,101 @@ fn saves() {
 }
 
 #[test]
+fn receives() {
+    let a = example_a();
+    let after = bytes(&[
+        2, 5, 3, 3, 0, 0, 1, 0, 1, 1, 0, 2, 1, 2, 1, 2, 0, 1, 0, 2, 1, 2, 0, 3,
+    ]);
+    assert_eq!(done(&["receive", "0", "4"], &a), after);
+    // No list: the table as it is, also where the file is named.
+    assert_eq!(done(&["receive", "0"], &a), a);
+    assert_eq!(done(&["receive", "1", "-"], &after), after);
+    let text = done(&["receive", "--text-out", "0", "4"], &a);
+    let text = String::from_utf8(text).expect("UTF-8");
+    assert!(text.ends_with("message 1.2 -> 0.3 unsaved\n"), "{text}");
+    assert_eq!(
+        done(&["receive", "--text", "1"], text.as_bytes()),
+        text.as_bytes()
+    );
+    assert_eq!(done(&["receive", "--text-in", "0"], text.as_bytes()), after);
+    // A save saves it, by whichever way it was received.
+    let saved = done(&["save", "0", "4"], &a);
+    assert_eq!(done(&["save", "0"], &after), saved);
+    // The file of -o.
+    let table = fresh("receives.table");
+    assert_eq!(done(&["receive", "0", "4", "-o", &table], &a), b"");
+    assert_eq!(fs::read(&table).expect("read"), after);
+    let refused: &[(&[&str], &str)] = &[
+        (
+            &["1", "4"],
+            "13: message 4 does not wait for process 1: it is for process 0",
+        ),
+        (
+            &["0", "1", "4"],
+            "13: message 1 does not wait for process 0: it was received before checkpoint 1",
+        ),
+        (&["0", "4", "4"], "13: positions rise: 4 does not follow 4"),
+        (&["0", "4", "3"], "13: positions rise: 3 does not follow 4"),
+        (&["0", "5"], "13: message 5: there are only 5 (M is 5)"),
+        (&["2"], "10: there is no process 2 (N is 2)"),
+        (&["2", "9"], "10: there is no process 2 (N is 2)"),
+        (&["65535", "4"], "10: there is no process 65535 (N is 2)"),
+    ];
+    for (arguments, words) in refused {
+        let arguments = [&["receive"], *arguments].concat();
+        fails(&arguments, &a, 1, &format!("refused {words}"));
+        // The file is left as it is.
+        let arguments = [&arguments[..], &["-o", &table]].concat();
+        fails(&arguments, &a, 1, &format!("refused {words}"));
+        assert_eq!(fs::read(&table).expect("read"), after);
+    }
+    let message =
+        "refused 13: message 4 does not wait for process 0: it is received, and not saved yet";
+    fails(&["receive", "0", "4"], &after, 1, message);
+    fails(&["save", "0", "4"], &after, 1, message);
+    let message = "refused 13: message 0: there are none (M is 0)";
+    fails(&["receive", "0", "0"], &bytes(&[2, 0, 1, 1]), 1, message);
+    fails(
+        &["receive", "0"],
+        &a[..47],
+        1,
+        "(standard input): refused 4: the table has 47 bytes, and 48 are needed for N = 2 and M = 5",
+    );
+    // A process that takes no more checkpoints receives still.
+    let full = |received: u16| bytes(&[2, 1, 1, 4096, 0, 0, 1, received]);
+    assert_eq!(done(&["receive", "1", "0"], &full(0)), full(4096));
+    let message = "refused 14: process 1 has 4096 checkpoints, and takes no more";
+    fails(&["save", "1"], &full(4096), 1, message);
+    let message = "receive has no option `--moves` (see `keeper receive --help`)";
+    fails(&["receive", "--moves", "0"], &a, 2, message);
+}
+
+/// What processes received and did not save counts where others hold: message 4
+/// of example A was sent after checkpoint 2 of process 1.
+#[test]
+fn lines_with_what_is_not_saved() {
+    let after = done(&["receive", "0", "4"], &example_a());
+    for (arguments, line) in [
+        (&["line"][..], "1 1"),
+        (&["line", "0"], "1 1"),
+        (&["line", "1"], "1 1"),
+        (&["line", "--marking", "1"], "1 1"),
+        (&["line", "--under", "3,2"], "1 1"),
+        (&["line", "--under", "-,-"], "3 3"),
+        (&["line", "--marking", "--under", "-,-"], "3 3"),
+        (&["line", "--under", "2,-"], "1 1"),
+    ] {
+        let expected = format!("{line}\n");
+        assert_eq!(
+            done(arguments, &after),
+            expected.as_bytes(),
+            "{arguments:?}"
+        );
+    }
+    assert_eq!(done(&["line", "1"], &example_a()), b"3 2\n");
+}
+
+#[test]
 fn falls_back() {
     let after = bytes(&[2, 2, 2, 2, 0, 0, 1, 0, 1, 0, 0, 1]);
     assert_eq!(done(&["fall-back"], &example_a()), after);
@@ -424,6 +519,39 @@ fn steps_chain_as_texts() {
         text = done(step, &text);
     }
     assert_eq!(text, b"processes 2\nstates 2 2\nmessage 0.0 -> 1.1\n");
+    for (step, after) in [
+        (
+            &["send", "--text", "1", "0"][..],
+            "2 2\nmessage 0.0 -> 1.1\nmessage 1.1 -> 0 waiting\n",
+        ),
+        (
+            &["receive", "--text", "0", "1"],
+            "2 2\nmessage 0.0 -> 1.1\nmessage 1.1 -> 0.2 unsaved\n",
+        ),
+        (
+            &["save", "--text", "1"],
+            "2 3\nmessage 0.0 -> 1.1\nmessage 1.1 -> 0.2 unsaved\n",
+        ),
+        (
+            &["fall-back", "--text"],
+            "2 3\nmessage 0.0 -> 1.1\nmessage 1.1 -> 0 waiting\n",
+        ),
+        (
+            &["receive", "--text", "0", "1"],
+            "2 3\nmessage 0.0 -> 1.1\nmessage 1.1 -> 0.2 unsaved\n",
+        ),
+        (
+            &["save", "--text", "0"],
+            "3 3\nmessage 0.0 -> 1.1\nmessage 1.1 -> 0.2\n",
+        ),
+    ] {
+        text = done(step, &text);
+        assert_eq!(
+            String::from_utf8_lossy(&text),
+            format!("processes 2\nstates {after}"),
+            "{step:?}"
+        );
+    }
 }
 
 #[test]
@@ -496,6 +624,17 @@ message 4 removed
     assert_eq!(
         done(&["fall-back", "--moves"], &run),
         b"line 1 0 1\nmessage 0 removed\nmessage 1 0\n"
+    );
+    // What is received and not saved: message 0 was sent after the line and goes,
+    // message 1 was sent before it, moves up and waits again.
+    let text = "processes 2\nstates 2 1\nmessage 0.1 -> 1.1 unsaved\nmessage 0.0 -> 1.1 unsaved\n";
+    assert_eq!(
+        done(&["fall-back", "--moves", "--text-in"], text.as_bytes()),
+        b"line 1 0\nmessage 0 removed\nmessage 1 0\n"
+    );
+    assert_eq!(
+        done(&["fall-back", "--text"], text.as_bytes()),
+        b"processes 2\nstates 2 1\nmessage 0.0 -> 1 waiting\n"
     );
 }
 
@@ -581,6 +720,7 @@ fn a_full_device_is_an_error() {
         "line --marking \"$table\"",
         "decode \"$table\"",
         "send 0 1 \"$table\"",
+        "receive 0 4 \"$table\"",
         "sheet \"$table\"",
         "why 0.0 \"$table\"",
         "fall-back --moves \"$table\"",
@@ -607,6 +747,7 @@ fn a_closed_pipe_ends_silently() {
         (&["list"][..], example_a()),
         (&["decode"], example_a()),
         (&["send", "0", "1"], example_a()),
+        (&["receive", "0", "4"], example_a()),
         (&["fall-back", "--moves"], example_a()),
         // A refusal, too, says nothing then.
         (&["list"], vec![1, 2, 3]),
@@ -682,6 +823,22 @@ fn wrong_usage() {
         (
             &["save", "0", "m4", "run.table"],
             "`m4` is not a number from 0 to 65535 (see `keeper save --help`)",
+        ),
+        (
+            &["receive"],
+            "receive needs PROCESS (see `keeper receive --help`)",
+        ),
+        (
+            &["receive", "x"],
+            "`x` is not a number from 0 to 65535 (see `keeper receive --help`)",
+        ),
+        (
+            &["receive", "0", "m4", "run.table"],
+            "`m4` is not a number from 0 to 65535 (see `keeper receive --help`)",
+        ),
+        (
+            &["receive", "0", "65536"],
+            "`65536` is not a number from 0 to 65535 (see `keeper receive --help`)",
         ),
         (
             &["line", "all", "run.table"],

@@ -59,17 +59,57 @@ checkpoint 1 1
 }
 
 #[test]
+fn receipts_in_a_script() {
+    let script = "\
+new 3
+send 0 1
+send 2 1
+receive 1 0 1   # process 1 has both, and has not saved them
+text
+line 0
+line 2
+save 2
+line 0
+save 1
+text
+fall back
+receive 1
+text
+";
+    let expected = "\
+processes 3
+states 1 1 1
+message 0.0 -> 1.1 unsaved
+message 2.0 -> 1.1 unsaved
+0 0 1
+1 0 0
+0 0 2
+processes 3
+states 1 2 2
+message 0.0 -> 1.1
+message 2.0 -> 1.1
+processes 3
+states 1 1 2
+message 2.0 -> 1 waiting
+";
+    assert_eq!(answers(script), expected);
+}
+
+#[test]
 fn steps_are_the_subcommands_steps() {
     let path = corpus_folder().join("example_a.table");
     let path = path.to_str().expect("UTF-8");
     let (table, script) = (fresh("scripts.table"), fresh("scripts.steps"));
-    fs::write(&script, "send 0 1\nsave 1 5\nfall back\nsave 0").expect("written");
+    let steps = "send 0 1\nreceive 0 4\nsave 1 5\nfall back\nreceive 1 0\nsave 0";
+    fs::write(&script, steps).expect("written");
     assert_eq!(done(&["run", &script, path, "-o", &table], b""), b"");
     let mut expected = example_a();
     for step in [
         &["send", "0", "1"][..],
+        &["receive", "0", "4"],
         &["save", "1", "5"],
         &["fall-back"],
+        &["receive", "1", "0"],
         &["save", "0"],
     ] {
         expected = done(step, &expected);
@@ -149,6 +189,21 @@ fn a_line_that_fails() {
             "2: save 0 4: refused 13: message 4 does not wait for process 0: it was received before checkpoint 3",
         ),
         (
+            "receive 0 4\nreceive 0\nreceive 0 4",
+            1,
+            "3: receive 0 4: refused 13: message 4 does not wait for process 0: it is received, and not saved yet",
+        ),
+        (
+            "line\nreceive 5",
+            1,
+            "2: receive 5: refused 10: there is no process 5 (N is 2)",
+        ),
+        (
+            "receive",
+            2,
+            "1: receive: receive needs PROCESS (see `keeper receive --help`)",
+        ),
+        (
             "why 1.3",
             1,
             "1: why 1.3: there is no checkpoint 3 of process 1: it has 3 checkpoints",
@@ -197,12 +252,12 @@ fn a_line_that_fails() {
         (
             "line\nsned 0 1",
             2,
-            "2: sned 0 1: there is no step `sned`; there are new, decode, check, list, line, sheet, why, send, save, fall-back, draw",
+            "2: sned 0 1: there is no step `sned`; there are new, decode, check, list, line, sheet, why, send, save, receive, fall-back, draw",
         ),
         (
             "fall",
             2,
-            "1: fall: there is no step `fall`; there are new, decode, check, list, line, sheet, why, send, save, fall-back, draw",
+            "1: fall: there is no step `fall`; there are new, decode, check, list, line, sheet, why, send, save, receive, fall-back, draw",
         ),
         (
             "send 0",

@@ -140,8 +140,8 @@ fn checks() {
             "8: message 1 has send number 5, and process 1 has 1 checkpoint",
         ),
         (
-            &[2, 2, 3, 1, 0, 2, 1, 0, 1, 0, 0, 3],
-            "9: message 1 has receipt number 3, and process 0 has 3 checkpoints",
+            &[2, 2, 3, 1, 0, 2, 1, 0, 1, 0, 0, 4],
+            "9: message 1 has receipt number 4, above the count 3 of process 0",
         ),
     ];
     for (numbers, words) in cases {
@@ -159,9 +159,16 @@ fn checks() {
         1,
         "(standard input): refused 1: the table is empty",
     );
-    let text = b"processes 2\nstates 1 1\nmessage 0.0 -> 1.1\n";
-    let message = "(standard input):3: refused 9: message 0 has receipt number 1, and process 1 has 1 checkpoint";
+    let text = b"processes 2\nstates 1 1\nmessage 0.0 -> 1.2\n";
+    let message = "(standard input):3: refused 9: message 0 has receipt number 2, above the count 1 of process 1";
     fails(&["check", "--text"], text, 1, message);
+    // A receipt number of the count is received and not saved yet.
+    let text = b"processes 2\nstates 1 1\nmessage 0.0 -> 1.1\n";
+    assert_eq!(done(&["check", "--text"], text), b"");
+    assert_eq!(
+        done(&["check"], &bytes(&[2, 2, 3, 1, 0, 2, 1, 0, 1, 0, 0, 3])),
+        b""
+    );
 }
 
 #[test]
@@ -468,6 +475,31 @@ fn json_in_full() {
     assert_eq!(
         done(&["sheet", "--text", "--json"], &text),
         done(&["sheet", "--json"], &a)
+    );
+}
+
+/// A message each way between two processes that have not saved: of what waits
+/// all is kept, and of what is received by both nothing.
+#[test]
+fn received_and_not_saved_is_not_always_kept() {
+    let text = |ends: [&str; 2]| {
+        let [one, other] = ends;
+        format!("processes 2\nstates 1 1\nmessage 0.0 -> {one}\nmessage 1.0 -> {other}\n")
+    };
+    let kept = |ends: [&str; 2]| {
+        let rows = done(&["sheet", "--text"], text(ends).as_bytes());
+        String::from_utf8(rows).expect("ASCII")
+    };
+    let states = "checkpoint 0 0\ncheckpoint 1 0\n";
+    let both = format!("{states}message 0\nmessage 1\n");
+    assert_eq!(kept(["1 waiting", "0 waiting"]), both);
+    assert_eq!(kept(["1.1 unsaved", "0 waiting"]), both);
+    assert_eq!(kept(["1.1 unsaved", "0.1 unsaved"]), states);
+    let unsaved = text(["1.1", "0.1"]);
+    assert_eq!(
+        String::from_utf8(done(&["list", "--json", "--text"], unsaved.as_bytes())).expect("UTF-8"),
+        "{\"line\":[0,0],\"hold\":[[0,0],[0,0]],\"checkpoints\":[{\"process\":0,\"number\":0},\
+         {\"process\":1,\"number\":0}],\"messages\":[],\"share\":100}\n"
     );
 }
 

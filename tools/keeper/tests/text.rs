@@ -21,6 +21,50 @@ fn example_a_both_ways() {
     assert_eq!(done(&["decode", "-"], &example_a()), TEXT_OF_A.as_bytes());
 }
 
+/// Example A, whose last message process 0 has received and not saved.
+#[test]
+fn received_and_not_saved_both_ways() {
+    let table = bytes(&[
+        2, 5, 3, 3, 0, 0, 1, 0, 1, 1, 0, 2, 1, 2, 1, 2, 0, 1, 0, 2, 1, 2, 0, 3,
+    ]);
+    let text = TEXT_OF_A.replace("0 waiting", "0.3 unsaved");
+    assert_eq!(done(&["decode"], &table), text.as_bytes());
+    assert_eq!(done(&["encode"], text.as_bytes()), table);
+    // The word may be left out, and may have blanks and a comment around it.
+    for end in [
+        "0.3",
+        "0.3 ",
+        "0.3#",
+        "0.3\tunsaved",
+        "0.3 \t unsaved\t# yes",
+        "0.3 unsaved#",
+        "0.03 unsaved",
+        "0.3 unsaved\r",
+    ] {
+        let text = TEXT_OF_A.replace("0 waiting", end);
+        assert_eq!(done(&["encode"], text.as_bytes()), table, "{end:?}");
+    }
+    // One that is saved has no word behind it.
+    assert!(!TEXT_OF_A.contains("unsaved"));
+    let saved = done(&["save", "0", "--text-out"], &table);
+    let saved = String::from_utf8(saved).expect("UTF-8");
+    assert!(saved.ends_with("states 4 3\nmessage 0.0 -> 1.2\nmessage 1.0 -> 0.1\nmessage 1.1 -> 0.2\nmessage 0.2 -> 1.2\nmessage 1.2 -> 0.3\n"), "{saved}");
+    // The first line that is not in the form is told, and the form before checks.
+    let text = "processes 2\nstates 0 2\nmessage 0.0 -> 1.2 unsaved\nmessage 1.9 -> 0.1 unsaved\n";
+    let message = "(standard input):4:20: expected no `unsaved` behind receipt number 1, \
+                   since the count of process 0 is 0, found `unsaved`";
+    fails(&["encode"], text.as_bytes(), 2, message);
+    // The largest count, and one above it, which the library refuses.
+    let most = "processes 2\nstates 1 4096\nmessage 0.0 -> 1.4096 unsaved\n";
+    let table = bytes(&[2, 1, 1, 4096, 0, 0, 1, 4096]);
+    assert_eq!(done(&["encode"], most.as_bytes()), table);
+    assert_eq!(done(&["decode"], &table), most.as_bytes());
+    let more = most.replace("4096", "4097");
+    let message =
+        "(standard input):2: refused 5: process 1 has 4097 checkpoints, and must have 1 to 4096";
+    fails(&["encode"], more.as_bytes(), 1, message);
+}
+
 #[test]
 fn comments_blanks_and_line_ends() {
     let text = "\u{feff}# a run \u{2192} of two\r\n\n  processes\t02 # two\r\nstates 3  3\n \t \n\
@@ -73,6 +117,19 @@ const ERRORS: &[(&str, usize, usize, &str)] = &[
     ("processes 2\nstates 3 3\nmessage 0.0 -> 1.0\n", 3, 18, "a receipt number of at least 1 (of a message not received, `waiting` after the receiver), found `0`"),
     ("processes 2\nstates 3 3\nmessage 0.0 -> 1.65536\n", 3, 18, "the receipt number of at most 65535, found `65536`"),
     ("processes 2\nstates 3 3\nmessage 0.0 -> 1.2 waiting\n", 3, 20, "the end of the line after the message, found `waiting`"),
+    ("processes 2\nstates 3 3\nmessage 0.0 -> 1.2 unsaved\n", 3, 20, "no `unsaved` behind receipt number 2, since the count of process 1 is 3, found `unsaved`"),
+    ("processes 2\nstates 3 3\nmessage 0.0 -> 1.4 unsaved\n", 3, 20, "no `unsaved` behind receipt number 4, since the count of process 1 is 3, found `unsaved`"),
+    // The receiver's count, and not the sender's; and the first line that is wrong.
+    ("processes 2\nstates 3 4\nmessage 0.0 -> 1.4 unsaved\nmessage 1.0 -> 0.4\tunsaved # no\nmessage 0.0 -> 1.3 unsaved\n", 4, 20, "no `unsaved` behind receipt number 4, since the count of process 0 is 3, found `unsaved`"),
+    ("processes 2\nstates 3 3\nmessage 0.0 -> 2.3 unsaved\n", 3, 20, "no `unsaved` behind receipt number 3, since there is no process 2, found `unsaved`"),
+    ("processes 2\nstates 3 3\nmessage 0.0 -> 1.3unsaved\n", 3, 19, "the end of the line after the message, found `unsaved`"),
+    ("processes 2\nstates 3 3\nmessage 0.0 -> 1.3 Unsaved\n", 3, 20, "the end of the line after the message, found `Unsaved`"),
+    ("processes 2\nstates 3 3\nmessage 0.0 -> 1.3 unsaved2\n", 3, 20, "the end of the line after the message, found `unsaved2`"),
+    ("processes 2\nstates 3 3\nmessage 0.0 -> 1.3 saved\n", 3, 20, "the end of the line after the message, found `saved`"),
+    ("processes 2\nstates 3 3\nmessage 0.0 -> 1.3 unsaved unsaved\n", 3, 28, "the end of the line after the message, found `unsaved`"),
+    ("processes 2\nstates 3 3\nmessage 0.0 -> 1.3 unsaved.\n", 3, 27, "the end of the line after the message, found `.`"),
+    ("processes 2\nstates 3 3\nmessage 0.0 -> 1 unsaved\n", 3, 18, "`.` and the receipt number, or `waiting`, found `unsaved`"),
+    ("processes 2\nstates 3 3\nmessage 0.0 -> 1 waiting unsaved\n", 3, 26, "the end of the line after the message, found `unsaved`"),
     ("processes 2\nstates 3 3\nmessage 0.0 -> 1 waiting 2\n", 3, 26, "the end of the line after the message, found `2`"),
     ("processes 2\nstates 3 3\n\tmessage 0.0 -> 1.2\r\n\n message 0.0 -> 1.2 \x07\n", 5, 21, "the end of the line after the message, found `\\u{7}`"),
 ];
@@ -100,8 +157,8 @@ fn refused_texts_and_their_lines() {
         ("processes 1\nstates 4097\n", ":2", "5: process 0 has 4097 checkpoints, and must have 1 to 4096"),
         ("processes 2\nstates 3 3\nmessage 0.0 -> 1.1\n#\nmessage 0.0 -> 2.1\nmessage 3.0 -> 1.1\n", ":5", "6: message 1 is for process 2, and N is 2"),
         ("processes 2\nstates 3 3\nmessage 0.3 -> 1.1\nmessage 1.0 -> 1 waiting\n", ":4", "7: message 1 is from process 1 to itself"),
-        ("processes 2\nstates 3 3\nmessage 0.0 -> 1.3\nmessage 0.3 -> 1.1\n", ":4", "8: message 1 has send number 3, and process 0 has 3 checkpoints"),
-        ("processes 2\nstates 3 4\nmessage 0.0 -> 1.3\nmessage 0.2 -> 1.4\nmessage 0.2 -> 1.5\n", ":4", "9: message 1 has receipt number 4, and process 1 has 4 checkpoints"),
+        ("processes 2\nstates 3 3\nmessage 0.0 -> 1.4\nmessage 0.3 -> 1.1\n", ":4", "8: message 1 has send number 3, and process 0 has 3 checkpoints"),
+        ("processes 2\nstates 5 4\nmessage 0.0 -> 1.3\nmessage 0.2 -> 1.4\nmessage 0.2 -> 1.5\n", ":5", "9: message 2 has receipt number 5, above the count 4 of process 1"),
     ];
     for (text, place, words) in cases {
         let message = format!("(standard input){place}: refused {words}");
@@ -136,7 +193,7 @@ fn decode_then_encode_over_the_corpus() {
 
 #[test]
 fn decode_then_encode_over_random_tables() {
-    let mut random = Random(1);
+    let (mut random, mut unsaved) = (Random(1), 0);
     for round in 0..3_000 {
         let table = match round % 4 {
             0 => random.table(32, 60, 4_096),
@@ -151,7 +208,27 @@ fn decode_then_encode_over_random_tables() {
         let text = text::write(&table);
         let read = text::read(text.as_bytes()).expect("what was written is read");
         assert_eq!(read.table, table, "{text}");
+        // The word says what the number says: without it the same is read.
+        unsaved += text.matches(" unsaved\n").count();
+        let without = text.replace(" unsaved\n", "\n");
+        let read = text::read(without.as_bytes()).expect("the word may be left out");
+        assert_eq!(read.table, table, "{without}");
+        // Behind any other receipt it is refused, in its line.
+        let received =
+            |line: &&str| line.contains("->") && !line.ends_with(|c: char| c.is_alphabetic());
+        let lines: Vec<&str> = text.lines().collect();
+        let places: Vec<usize> = (0..lines.len())
+            .filter(|at| received(&lines[*at]))
+            .collect();
+        if let Some(at) = places.get(random.below(places.len().max(1))) {
+            let mut lies: Vec<String> = lines.iter().map(|line| line.to_string()).collect();
+            lies[*at] += " unsaved";
+            let error = text::read(lies.join("\n").as_bytes()).expect_err("it is saved");
+            assert_eq!((error.line, error.column), (at + 1, lines[*at].len() + 2));
+            assert_eq!(error.found, "`unsaved`");
+        }
     }
+    assert!(unsaved > 1_000, "{unsaved}");
 }
 
 #[test]

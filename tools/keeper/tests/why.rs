@@ -3,7 +3,7 @@
 
 mod common;
 
-use common::{bytes, corpus, done, example_a, fails, keeper, refused};
+use common::{bytes, corpus, done, example_a, fails, fresh, keeper, refused};
 use keeper::{Message, Refusal, Table};
 use keeper_command::why::{Item, Reasons};
 
@@ -17,6 +17,7 @@ fn needs(table: &Table, line: &[u16], item: Item) -> bool {
                 sent,
                 receiver,
                 received,
+                ..
             } = table.message(position).expect("there");
             let received = received.map_or(0, |number| number.get());
             sent < line[usize::from(sender)]
@@ -145,7 +146,7 @@ fn agrees_with_the_listings_of_the_corpus() {
 }
 
 /// Every table with that many processes, at most so many checkpoints of each
-/// and at most two messages.
+/// and at most two messages, received and not saved yet among them.
 fn small(n: u16, most: u16) -> Vec<Table> {
     let mut heads: Vec<Vec<u16>> = vec![vec![]];
     for _ in 0..n {
@@ -160,7 +161,7 @@ fn small(n: u16, most: u16) -> Vec<Table> {
         for sender in 0..n {
             for receiver in (0..n).filter(|receiver| *receiver != sender) {
                 for sent in 0..counts[usize::from(sender)] {
-                    for received in 0..counts[usize::from(receiver)] {
+                    for received in 0..=counts[usize::from(receiver)] {
                         entries.push(([sender, sent], [receiver, received]));
                     }
                 }
@@ -289,6 +290,56 @@ line
 # not received by process 1 before the line.
 "
     );
+}
+
+/// What is received and not saved is kept where a line needs it, and else not.
+#[test]
+fn a_message_that_is_not_saved() {
+    // Two processes, of which one has saved after sending: message 0 crosses the
+    // line of process 1 holding.
+    let text = "processes 2\nstates 2 1\nmessage 0.0 -> 1.1 unsaved\n";
+    let script = done(&["why", "--text-in", "m0"], text.as_bytes());
+    assert_eq!(
+        String::from_utf8(script).expect("UTF-8"),
+        "\
+# Message 0 (0.0 -> 1.1 unsaved) is kept: a future needs it.
+# The line of process 1 alone holding needs it.
+# The future without a step, which begins and ends with this table:
+line
+# 1 0
+# This recovery line at its end is crossed by it: sent by process 0 before the line,
+# not received by process 1 before the line.
+"
+    );
+    // A message each way: neither process can go on where the other holds.
+    let text = "processes 2\nstates 1 1\nmessage 0.0 -> 1.1\nmessage 1.0 -> 0.1\n";
+    let script = done(&["why", "--text-in", "m1"], text.as_bytes());
+    assert_eq!(
+        String::from_utf8(script).expect("UTF-8"),
+        "\
+# Message 1 (1.0 -> 0.1 unsaved) is not kept: no future needs it.
+# The line of each process that alone holds passes it by:
+line 0
+# 0 0: sent after it: process 1 stands at 0, and 0 is not below that
+line 1
+# 0 0: sent after it: process 1 stands at 0, and 0 is not below that
+# It is proved that no future needs what these lines pass by: docs/ASSURANCE.md,
+# demand-3 and nothing-off-the-sheet-is-needed.
+"
+    );
+    // A process that stands at its virtual checkpoint has received it.
+    let text =
+        "processes 3\nstates 1 1 2\nmessage 0.0 -> 1.1\nmessage 1.0 -> 0.1\nmessage 2.0 -> 1.1\n";
+    let script = done(&["why", "--text", "m2"], text.as_bytes());
+    let script = String::from_utf8(script).expect("UTF-8");
+    assert!(
+        script.starts_with("# Message 2 (2.0 -> 1.1 unsaved) is kept: a future needs it.\n"),
+        "{script}"
+    );
+    let again = done(&["why", "--text-in", "m2"], text.as_bytes());
+    let table = fresh("unsaved.table");
+    done(&["encode", "-o", &table], text.as_bytes());
+    assert_eq!(done(&["run", "-", &table], &again), b"0 0 1\n");
 }
 
 #[test]

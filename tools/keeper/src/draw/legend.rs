@@ -4,7 +4,7 @@ use std::fmt::Write;
 
 use super::shapes::{
     arrow, bracket, dot, escape, open_arrows, points, short, virtual_dot, width_of, wrap,
-    write_label, Cut, Point, Style, FAINT, INK, KEPT, PLAIN, WAITING,
+    write_label, Cut, Point, Style, FAINT, INK, KEPT, PLAIN, UNSAVED, UNSAVED_KEPT, WAITING,
 };
 use super::{
     hold_paint, labels_messages, style, under_paint, MOST_HOLD_ENTRIES, RECOVERY_PAINT,
@@ -206,6 +206,8 @@ fn entries(view: &View, layout: &Layout) -> Vec<(Sample, String)> {
     let arrows = [
         (&KEPT, "message, kept"),
         (&PLAIN, "message, not kept"),
+        (&UNSAVED_KEPT, "received, not saved (kept)"),
+        (&UNSAVED, "received, not saved (not kept)"),
         (&WAITING, "message, waiting (kept)"),
     ];
     for (own, words) in arrows {

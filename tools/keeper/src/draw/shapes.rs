@@ -314,7 +314,18 @@ pub struct Style {
     pub width: f64,
     pub dashes: &'static str,
     head: f64,
-    open: bool,
+    shape: Head,
+}
+
+/// The head of an arrow.
+#[derive(Clone, Copy, PartialEq)]
+enum Head {
+    /// Of the arrow's colour.
+    Filled,
+    /// White within.
+    Hollow,
+    /// Two strokes.
+    Open,
 }
 
 pub const PLAIN: Style = Style {
@@ -323,7 +334,7 @@ pub const PLAIN: Style = Style {
     width: 1.1,
     dashes: "",
     head: 8.0,
-    open: false,
+    shape: Head::Filled,
 };
 pub const KEPT: Style = Style {
     class: "kept",
@@ -331,7 +342,21 @@ pub const KEPT: Style = Style {
     width: 2.4,
     dashes: "",
     head: 11.0,
-    open: false,
+    shape: Head::Filled,
+};
+/// Received and not saved yet: as the two above, with a head that is hollow as
+/// the square is.
+pub const UNSAVED: Style = Style {
+    class: "unsaved",
+    head: 10.0,
+    shape: Head::Hollow,
+    ..PLAIN
+};
+pub const UNSAVED_KEPT: Style = Style {
+    class: "unsaved-kept",
+    head: 12.0,
+    shape: Head::Hollow,
+    ..KEPT
 };
 pub const WAITING: Style = Style {
     class: "waiting",
@@ -339,7 +364,7 @@ pub const WAITING: Style = Style {
     width: 2.0,
     dashes: "6 4",
     head: 10.0,
-    open: true,
+    shape: Head::Open,
 };
 
 /// Where an arrow is cut: the rest of it is not drawn.
@@ -365,7 +390,7 @@ pub fn arrow(svg: &mut String, style: &Style, corners: &[Point], cut: Cut, title
     };
     let half = style.head * 0.36;
     let mut shaft = corners.to_vec();
-    if !style.open {
+    if style.shape != Head::Open {
         *shaft.last_mut().expect("two") = back(style.head * 0.8, 0.0);
     }
     let (one, other) = (back(style.head, half), back(style.head, -half));
@@ -383,13 +408,18 @@ pub fn arrow(svg: &mut String, style: &Style, corners: &[Point], cut: Cut, title
         "<polyline class=\"shaft\" points=\"{}\"/>",
         points(&shaft)
     );
-    let _ = match style.open {
-        true => write!(
+    let _ = match style.shape {
+        Head::Open => write!(
             svg,
             "<polyline class=\"head\" points=\"{}\" stroke-dasharray=\"none\"/>",
             points(&[one, tip, other])
         ),
-        false => write!(
+        Head::Hollow => write!(
+            svg,
+            "<polygon class=\"head\" points=\"{}\" fill=\"#ffffff\" stroke-width=\"1.2\"/>",
+            points(&[tip, one, other])
+        ),
+        Head::Filled => write!(
             svg,
             "<polygon class=\"head\" points=\"{}\" fill=\"{}\" stroke=\"none\"/>",
             points(&[tip, one, other]),

@@ -155,7 +155,8 @@ impl Random {
         ((self.0 >> 33) as usize) % bound
     }
 
-    /// An accepted table: any processes and numbers within their limits.
+    /// An accepted table: any processes and numbers within their limits, receipts
+    /// that are not saved yet among them.
     pub fn table(
         &mut self,
         most_processes: usize,
@@ -174,7 +175,7 @@ impl Random {
             let sender = self.below(n);
             let receiver = (sender + 1 + self.below(n - 1)) % n;
             sends.extend([sender, self.below(counts[sender])]);
-            receipts.extend([receiver, self.below(counts[receiver])]);
+            receipts.extend([receiver, self.below(counts[receiver] + 1)]);
         }
         let numbers = [n, m]
             .into_iter()
@@ -194,6 +195,7 @@ impl Random {
                 let to = (process + 1 + self.below(n - 1)) % n;
                 keeper::send(&table, process as u16, to as u16, &mut answer)
             } else {
+                // Received, and saved mostly.
                 let m = keeper::run_table::messages(&table);
                 let mut list = Vec::new();
                 for k in 0..usize::from(m) {
@@ -203,7 +205,10 @@ impl Random {
                         list.push(k as u16);
                     }
                 }
-                keeper::save(&table, process as u16, &list, &mut answer)
+                match self.below(3) {
+                    0 => keeper::receive(&table, process as u16, &list, &mut answer),
+                    _ => keeper::save(&table, process as u16, &list, &mut answer),
+                }
             };
             table = answer[..written.expect("within the limits")].to_vec();
         }
