@@ -6,7 +6,8 @@
 
 enum { MOST_PROCESSES = 32, MOST_MESSAGES = 4096, MOST_STATES = 4096 };
 
-/* A message (j, y) to (i, r), and the next message of the same sender. */
+/* A message (j, y) to (i, r), and the next message of the same sender. r is 0 while it waits, and the count of i
+   where it was received and is not saved yet. */
 struct message {
     unsigned j, y, i, r;
     int next;
@@ -61,7 +62,7 @@ static uint32_t read_run(const uint8_t *table, size_t length, struct run *run)
         if (run->message[k].y >= run->count[run->message[k].j])
             return 8;
     for (unsigned k = 0; k < m; k++)
-        if (run->message[k].r >= run->count[run->message[k].i])
+        if (run->message[k].r > run->count[run->message[k].i])
             return 9;
     for (unsigned p = 0; p < n; p++)
         run->first[p] = -1;
@@ -378,6 +379,31 @@ uint32_t MODEL(send)(const uint8_t *table, size_t length, uint16_t from, uint16_
     return answer_run(&run, answer, room, written);
 }
 
+/* The list of a save or a receipt: whether it is strictly rising and of messages that wait for the process. One that
+   was received and is not saved yet has the count, and waits no more. */
+static bool waits_whole(const struct run *run, unsigned process, const uint16_t *list, size_t entries)
+{
+    for (size_t at = 0; at < entries; at++) {
+        if (list[at] >= run->m)
+            return false;
+        if (at > 0 && list[at] <= list[at - 1])
+            return false;
+        const struct message *message = &run->message[list[at]];
+        if (message->i != process || message->r != 0)
+            return false;
+    }
+    return true;
+}
+
+/* The listed messages are received: the next state of the process, whose number is its count, will be the first
+   that has them. */
+static void receive_listed(struct run *run, unsigned process, const uint16_t *list, size_t entries)
+{
+    for (size_t at = 0; at < entries; at++)
+        run->message[list[at]].r = run->count[process];
+}
+
+/* What was received before the save has the number of the state that is saved now, and keeps it. */
 uint32_t MODEL(save)(const uint8_t *table, size_t length, uint16_t process, const uint16_t *list, size_t entries,
                      uint8_t *answer, size_t room, size_t *written)
 {
@@ -386,20 +412,27 @@ uint32_t MODEL(save)(const uint8_t *table, size_t length, uint16_t process, cons
         return refusal;
     if (process >= run.n)
         return 10;
-    for (size_t at = 0; at < entries; at++) {
-        if (list[at] >= run.m)
-            return 13;
-        if (at > 0 && list[at] <= list[at - 1])
-            return 13;
-        const struct message *message = &run.message[list[at]];
-        if (message->i != process || message->r != 0)
-            return 13;
-    }
+    if (!waits_whole(&run, process, list, entries))
+        return 13;
     if (run.count[process] == MOST_STATES)
         return 14;
-    for (size_t at = 0; at < entries; at++)
-        run.message[list[at]].r = run.count[process];
+    receive_listed(&run, process, list, entries);
     run.count[process]++;
+    return answer_run(&run, answer, room, written);
+}
+
+/* "Receipts since the last save count", of the change requests. */
+uint32_t MODEL(receive)(const uint8_t *table, size_t length, uint16_t process, const uint16_t *list, size_t entries,
+                        uint8_t *answer, size_t room, size_t *written)
+{
+    uint32_t refusal = read_run(table, length, &run);
+    if (refusal != 0)
+        return refusal;
+    if (process >= run.n)
+        return 10;
+    if (!waits_whole(&run, process, list, entries))
+        return 13;
+    receive_listed(&run, process, list, entries);
     return answer_run(&run, answer, room, written);
 }
 

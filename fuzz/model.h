@@ -20,6 +20,7 @@ __typeof__(keeper_line_under) MODEL(line_under);
 __typeof__(keeper_marked_line) MODEL(marked_line);
 __typeof__(keeper_send) MODEL(send);
 __typeof__(keeper_save) MODEL(save);
+__typeof__(keeper_receive) MODEL(receive);
 __typeof__(keeper_fall_back) MODEL(fall_back);
 __typeof__(keeper_keep_sheet) MODEL(keep_sheet);
 __typeof__(keeper_listing) MODEL(listing);

@@ -6,8 +6,9 @@
    Mode, bit 0: the table is raw, else it is built. Raw: two bytes of length, then the bytes themselves.
    Built: N, M and the counts, then four bytes for each message; the numbers are brought into their ranges, so
    that the table is accepted. Bit 1: counts are near 4,096. Bit 2: one of the table's numbers is then replaced
-   by two bytes of the input. Bit 3: one byte is added to the table, or taken away. Bits 4 to 7 all set: the
-   messages are repeated up to nearly 4,096, which is slow and so is rare.
+   by two bytes of the input. Bit 3: one byte is added to the table, or taken away. Bits 4 to 6 are 6: messages
+   may be received and unsaved. Bits 5 to 7 all set: the messages are repeated up to nearly 4,096, which is slow
+   and so is rare.
 
    A call is a byte for which call, a byte for the lengths of the answer buffer and the scratch, and its
    arguments. The low four bits of the first byte say which: 14 and 15 are the line under a list of ceilings,
@@ -15,7 +16,9 @@
    (0 and 7) has no answer: the listing, which takes any bytes too and no more than they, is made behind it, and
    its buffer is by the byte of lengths. Behind the line under a list of ceilings comes the line by marking, with
    the same list and the same room: bits 3 to 5 of the byte of lengths say how long its mark buffer is, bits 6 and
-   7 what stands in it before, and it takes no byte of its own. */
+   7 what stands in it before, and it takes no byte of its own. With every save comes the receipt of the same list
+   by the same process. Bits 4 to 6 of the first byte say by which of the two answers a chain of steps goes on: by
+   the receipt's where they are 6, else by the save's. */
 #include "model.h"
 
 #include <stdbool.h>
@@ -70,15 +73,18 @@ struct loan {
 static struct loan before, by_archive, by_model;
 
 /* A call with its arguments. */
-enum { CHECK_TABLE, RECOVERY_LINE, LINE_OF_SET, SEND, SAVE, FALL_BACK, KEEP_SHEET, LINE_UNDER, LISTING, MARKED_LINE };
+enum {
+    CHECK_TABLE, RECOVERY_LINE, LINE_OF_SET, SEND, SAVE, FALL_BACK, KEEP_SHEET, LINE_UNDER, LISTING, MARKED_LINE,
+    RECEIVE
+};
 struct call {
     unsigned which;
     uint32_t set;
     uint16_t from, to;
     size_t entries, numbers, marks, room;
 };
-static const char *const names[] = {"check_table", "recovery_line", "line_of_set", "send",    "save",
-                                    "fall_back",   "keep_sheet",    "line_under",  "listing", "marked_line"};
+static const char *const names[] = {"check_table", "recovery_line", "line_of_set", "send",        "save",   "fall_back",
+                                    "keep_sheet",  "line_under",    "listing",     "marked_line", "receive"};
 
 static uint32_t of_archive(const struct call *call, struct loan *loan)
 {
@@ -92,6 +98,9 @@ static uint32_t of_archive(const struct call *call, struct loan *loan)
     case SAVE:
         return keeper_save(table, table_length, call->from, loan->list + GUARDS, call->entries, answer, call->room,
                            &loan->written[1]);
+    case RECEIVE:
+        return keeper_receive(table, table_length, call->from, loan->list + GUARDS, call->entries, answer, call->room,
+                              &loan->written[1]);
     case FALL_BACK: return keeper_fall_back(table, table_length, answer, call->room, &loan->written[1]);
     case KEEP_SHEET:
         return keeper_keep_sheet(table, table_length, loan->scratch + GUARDS, call->numbers, answer, call->room,
@@ -118,6 +127,9 @@ static uint32_t of_model(const struct call *call, struct loan *loan)
     case SAVE:
         return model_save(table, table_length, call->from, loan->list + GUARDS, call->entries, answer, call->room,
                           &loan->written[1]);
+    case RECEIVE:
+        return model_receive(table, table_length, call->from, loan->list + GUARDS, call->entries, answer, call->room,
+                             &loan->written[1]);
     case FALL_BACK: return model_fall_back(table, table_length, answer, call->room, &loan->written[1]);
     case KEEP_SHEET:
         return model_keep_sheet(table, table_length, loan->scratch + GUARDS, call->numbers, answer, call->room,
@@ -277,7 +289,7 @@ static size_t built_table(struct input *input, unsigned mode)
     unsigned m = given;
     if (n == 1)
         given = m = 0;
-    if (given > 0 && mode >= 240)
+    if (given > 0 && mode >= 224)
         m = 4096 - byte(input) % 3;
     set_number(0, n);
     set_number(1, m);
@@ -296,6 +308,8 @@ static size_t built_table(struct input *input, unsigned mode)
             /* Counts near the limit have their own high numbers. */
             unsigned of_j = get_number(2 + j), of_i = get_number(2 + i);
             y = (mode & 2) != 0 && y >= 128 ? of_j - 1 - (y - 128) : y % of_j;
+            if ((mode & 0x70) == 0x60)
+                of_i++;
             r = (mode & 2) != 0 && r >= 128 ? of_i - 1 - (r - 128) : r % of_i;
         } else {
             j = get_number(sends + 2 * (size_t)(k - given));
@@ -329,8 +343,9 @@ static void list_is_set(struct call *call, size_t entries)
     }
 }
 
-/* A list for a save: entries of the input, or the positions that wait for the process, all or every other,
-   perhaps with one of them changed. */
+/* A list for a save and a receipt: entries of the input, or the positions that wait for the process, all or every
+   other, perhaps with one of them changed. Where the upper four bits of its byte are 10, the positions that were
+   received and are unsaved are among them. */
 static void make_list(struct input *input, struct call *call)
 {
     unsigned kind = byte(input);
@@ -345,8 +360,10 @@ static void make_list(struct input *input, struct call *call)
     } else if (length == 4 + 2 * n + 8 * m) {
         size_t receipts = 2 + n + 2 * m, seen = 0;
         for (size_t k = 0; k < m && entries < MOST_POSITIONS; k++) {
-            bool waits = get_number(receipts + 2 * k) == call->from && get_number(receipts + 2 * k + 1) == 0;
-            if (waits && ((kind & 2) == 0 || seen++ % 2 == 0))
+            unsigned r = get_number(receipts + 2 * k + 1);
+            bool unsaved = (kind & 0xF0) == 0xA0 && call->from < n && r == get_number(2 + call->from);
+            bool listed = get_number(receipts + 2 * k) == call->from && (r == 0 || unsaved);
+            if (listed && ((kind & 2) == 0 || seen++ % 2 == 0))
                 list[entries++] = (uint16_t)k;
         }
         if ((kind & 4) != 0 && entries > 0) {
@@ -440,6 +457,49 @@ static void marking_behind(struct call *call, uint32_t refusal, size_t n, unsign
         differ("the line by marking is not the line under the ceilings", call, got, refusal);
 }
 
+/* The length of the answer of a call, as the model has it; 0 where it is refused. */
+static size_t answer_size(const struct call *call)
+{
+    struct call unbounded = *call;
+    unbounded.room = LARGEST_ROOM;
+    memcpy(by_model.list, before.list, sizeof(uint16_t) * (GUARDS + call->entries + GUARDS));
+    return of_model(&unbounded, &by_model) == 0 ? by_model.written[1] : 0;
+}
+
+/* A save and the receipt of the same list by the same process; the call is one of them, and is made last. Of the
+   archive the numbers are the same, but where the save meets 14, and so are the tables, but for the count of the
+   process, which the save makes larger by one. A receipt has room for its answer, or one byte less, where the save
+   has no answer. */
+static uint32_t save_and_receipt(const struct call *call, size_t size, unsigned lengths)
+{
+    static struct step {
+        uint32_t number;
+        uint8_t answer[KEEPER_LARGEST_TABLE];
+    } save, receipt;
+    struct call other = *call;
+    other.which = call->which == SAVE ? RECEIVE : SAVE;
+    size_t size_of_other = answer_size(&other);
+    if (size == 0 && size_of_other > 0)
+        other.room = size_of_other - ((lengths & 7) == 0);
+    const struct call *const calls[2] = {&other, call};
+    for (int at = 0; at < 2; at++) {
+        struct step *step = calls[at]->which == SAVE ? &save : &receipt;
+        step->number = compare(calls[at]);
+        if (step->number == 0)
+            memcpy(step->answer, by_archive.answer + GUARDS, by_archive.written[1]);
+    }
+    bool full = save.number == 14 && (receipt.number == 0 || receipt.number == 16);
+    if (save.number != receipt.number && !full)
+        differ("the number of a save beside that of the receipt", call, save.number, receipt.number);
+    if (save.number == 0) {
+        size_t count = 4 + 2 * (size_t)call->from;
+        keeper_put_u16(receipt.answer, count, (uint16_t)(keeper_u16_at(receipt.answer, count) + 1));
+        if (memcmp(save.answer, receipt.answer, table_length) != 0)
+            differ("a save is not the receipt of its list and one count more", call, save.number, receipt.number);
+    }
+    return call->which == SAVE ? save.number : receipt.number;
+}
+
 static void one_call(struct input *input)
 {
     unsigned first = byte(input), lengths = byte(input);
@@ -460,8 +520,11 @@ static void one_call(struct input *input)
         named = call.which == SEND ? byte(input) : 0;
         call.to = (uint16_t)(named == 255 ? number(input) : named % (n + 1));
     }
-    if (call.which == SAVE)
+    if (call.which == SAVE) {
         make_list(input, &call);
+        if ((first & 0x70) == 0x60)
+            call.which = RECEIVE;
+    }
     if (call.which == LINE_UNDER)
         make_ceilings(input, &call, n);
     if (call.which == KEEP_SHEET) {
@@ -473,11 +536,7 @@ static void one_call(struct input *input)
         default: call.numbers = n * n; break;
         }
     }
-    /* The length of the answer, as the model has it. */
-    struct call unbounded = call;
-    unbounded.room = LARGEST_ROOM;
-    memcpy(by_model.list, before.list, sizeof(uint16_t) * (GUARDS + call.entries + GUARDS));
-    size_t answer = of_model(&unbounded, &by_model) == 0 ? by_model.written[1] : 0;
+    size_t answer = answer_size(&call);
     switch (lengths & 7) {
     case 0: call.room = answer > 0 ? answer - 1 : 0; break;
     case 1: call.room = answer + 1 + byte(input) % 40; break;
@@ -491,10 +550,11 @@ static void one_call(struct input *input)
         break;
     default: call.room = answer; break;
     }
-    uint32_t got = compare(&call);
+    bool lists = call.which == SAVE || call.which == RECEIVE;
+    uint32_t got = lists ? save_and_receipt(&call, answer, lengths) : compare(&call);
     if (call.which == LINE_UNDER)
         marking_behind(&call, got, n, lengths);
-    bool step = call.which == SEND || call.which == SAVE || call.which == FALL_BACK;
+    bool step = lists || call.which == SEND || call.which == FALL_BACK;
     if ((first & 128) != 0 && step && got == 0) {
         memcpy(table_bytes + GUARDS, by_archive.answer + GUARDS, by_archive.written[1]);
         table_is_set(by_archive.written[1]);
