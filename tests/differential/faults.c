@@ -12,6 +12,7 @@
     __typeof__(keeper_marked_line) fault##k##_marked_line;      \
     __typeof__(keeper_send) fault##k##_send;                    \
     __typeof__(keeper_save) fault##k##_save;                    \
+    __typeof__(keeper_receive) fault##k##_receive;              \
     __typeof__(keeper_fall_back) fault##k##_fall_back;          \
     __typeof__(keeper_keep_sheet) fault##k##_keep_sheet;        \
     __typeof__(keeper_listing) fault##k##_listing;
@@ -20,8 +21,8 @@
 
 #define FAULT(k)                                                                                             \
     {fault##k##_check_table, fault##k##_recovery_line, fault##k##_line_of_set, fault##k##_line_under,        \
-     fault##k##_marked_line, fault##k##_send,          fault##k##_save,        fault##k##_fall_back,         \
-     fault##k##_keep_sheet,  fault##k##_listing},
+     fault##k##_marked_line, fault##k##_send,          fault##k##_save,        fault##k##_receive,           \
+     fault##k##_fall_back,   fault##k##_keep_sheet,    fault##k##_listing},
 static const struct {
     __typeof__(keeper_check_table) *check_table;
     __typeof__(keeper_recovery_line) *recovery_line;
@@ -30,6 +31,7 @@ static const struct {
     __typeof__(keeper_marked_line) *marked_line;
     __typeof__(keeper_send) *send;
     __typeof__(keeper_save) *save;
+    __typeof__(keeper_receive) *receive;
     __typeof__(keeper_fall_back) *fall_back;
     __typeof__(keeper_keep_sheet) *keep_sheet;
     __typeof__(keeper_listing) *listing;
@@ -87,6 +89,11 @@ uint32_t keeper_send(TABLE, uint16_t from, uint16_t to, ANSWER)
 uint32_t keeper_save(TABLE, uint16_t process, const uint16_t *list, size_t list_length, ANSWER)
 {
     return faults[chosen()].save(table, length, process, list, list_length, answer, room, written);
+}
+
+uint32_t keeper_receive(TABLE, uint16_t process, const uint16_t *list, size_t list_length, ANSWER)
+{
+    return faults[chosen()].receive(table, length, process, list, list_length, answer, room, written);
 }
 
 uint32_t keeper_fall_back(TABLE, ANSWER)
