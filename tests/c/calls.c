@@ -70,11 +70,13 @@ static int holds(const struct lent *l, const void *contents, size_t count)
 }
 
 /* ---- one call */
-enum call { CHECK_TABLE, RECOVERY_LINE, LINE_OF_SET, LINE_UNDER, MARKED_LINE, SEND, SAVE, FALL_BACK, KEEP_SHEET, LISTING };
+enum call {
+    CHECK_TABLE, RECOVERY_LINE, LINE_OF_SET, LINE_UNDER, MARKED_LINE, SEND, SAVE, RECEIVE, FALL_BACK, KEEP_SHEET, LISTING
+};
 
 static const char *const names[] = {
     "keeper_check_table", "keeper_recovery_line", "keeper_line_of_set", "keeper_line_under", "keeper_marked_line",
-    "keeper_send", "keeper_save", "keeper_fall_back", "keeper_keep_sheet", "keeper_listing",
+    "keeper_send", "keeper_save", "keeper_receive", "keeper_fall_back", "keeper_keep_sheet", "keeper_listing",
 };
 
 struct question {
@@ -82,9 +84,9 @@ struct question {
     const uint8_t *table;
     size_t length;
     uint32_t set;
-    uint16_t from; /* a save's process too */
+    uint16_t from; /* the process of a save or receipt too */
     uint16_t to;
-    const uint16_t *list; /* a save's, or one of ceilings */
+    const uint16_t *list; /* of a save or receipt, or of ceilings */
     size_t list_length;
     size_t numbers;
     size_t marks; /* the length of the mark buffer */
@@ -119,6 +121,8 @@ static uint32_t call(const struct question *q, uint8_t *table, uint16_t *list, u
         return keeper_send(table, q->length, q->from, q->to, answer, q->room, written);
     case SAVE:
         return keeper_save(table, q->length, q->from, list, q->list_length, answer, q->room, written);
+    case RECEIVE:
+        return keeper_receive(table, q->length, q->from, list, q->list_length, answer, q->room, written);
     case FALL_BACK:
         return keeper_fall_back(table, q->length, answer, q->room, written);
     case KEEP_SHEET:
@@ -374,9 +378,9 @@ static void example_a_steps(void)
                                      1, 2, 0, 1, 0, 2, 1, 2, 0, 0, 1, 0 };
     static const uint16_t saved_0[] = { 2, 5, 4, 3, 0, 0, 1, 0, 1, 1, 0, 2, 1, 2, 1, 2, 0, 1, 0, 2, 1, 2, 0, 3 };
     static const uint16_t saved_1[] = { 2, 5, 3, 4, 0, 0, 1, 0, 1, 1, 0, 2, 1, 2, 1, 2, 0, 1, 0, 2, 1, 2, 0, 0 };
+    static const uint16_t received_0[] = { 2, 5, 3, 3, 0, 0, 1, 0, 1, 1, 0, 2, 1, 2, 1, 2, 0, 1, 0, 2, 1, 2, 0, 3 };
     static const uint16_t fallen[] = { 2, 2, 2, 2, 0, 0, 1, 0, 1, 0, 0, 1 };
-    static const uint16_t four[] = { 4 }, twice[] = { 4, 4 }, falling[] = { 4, 3 }, beyond[] = { 5 }, cut[] = { 260 },
-                          far[] = { 4, 65535 }, received[] = { 0 };
+    static const uint16_t four[] = { 4 };
     struct question q = about(SEND, a_bytes, A_SIZE);
     of_numbers("A, 0 to 1", q, sent, 28);
     q.call = FALL_BACK;
@@ -384,9 +388,14 @@ static void example_a_steps(void)
     q.call = SAVE;
     q.from = 1;
     of_numbers("A, 1 with no list", q, saved_1, 24);
+    q.call = RECEIVE;
+    of_numbers("A, 1 with no list", q, example_a, 24);
     q.from = 0;
+    of_numbers("A, 0 with no list", q, example_a, 24);
     q.list = four;
     q.list_length = 1;
+    of_numbers("A, 0 with message 4", q, received_0, 24);
+    q.call = SAVE;
     of_numbers("A, 0 with message 4", q, saved_0, 24);
     for (q.room = 0; q.room <= 64; q.room += 64) {
         q.call = SEND;
@@ -404,29 +413,56 @@ static void example_a_steps(void)
         refuses("A, 65535 to 65535", &q, KEEPER_UNKNOWN_PROCESS);
         q.from = 1, q.to = 1;
         refuses("A, 1 to 1", &q, KEEPER_SEND_TO_ITSELF);
-        q.call = SAVE;
-        q.from = 2, q.list = four, q.list_length = 1;
-        refuses("A, 2", &q, KEEPER_UNKNOWN_PROCESS);
-        q.from = 256;
-        refuses("A, 256", &q, KEEPER_UNKNOWN_PROCESS);
-        q.from = 65535, q.list = beyond;
-        refuses("A, 65535", &q, KEEPER_UNKNOWN_PROCESS);
-        q.from = 1, q.list = four;
-        refuses("A, message 4 waits for 0", &q, KEEPER_BAD_LIST);
-        q.from = 0, q.list = beyond;
-        refuses("A, position 5", &q, KEEPER_BAD_LIST);
-        q.list = cut;
-        refuses("A, position 260", &q, KEEPER_BAD_LIST);
-        q.list = received;
-        q.from = 1;
-        refuses("A, message 0 is received", &q, KEEPER_BAD_LIST);
-        q.from = 0, q.list = twice, q.list_length = 2;
-        refuses("A, message 4 twice", &q, KEEPER_BAD_LIST);
-        q.list = falling;
-        refuses("A, falling", &q, KEEPER_BAD_LIST);
-        q.list = far;
-        refuses("A, position 65535", &q, KEEPER_BAD_LIST);
     }
+}
+
+/* What a save and a receipt refuse alike; with no room, with one byte less than the answer needs, and with enough. */
+static void example_a_lists(void)
+{
+    static const uint16_t four[] = { 4 }, twice[] = { 4, 4 }, falling[] = { 4, 3 }, beyond[] = { 5 }, cut[] = { 260 },
+                          far[] = { 4, 65535 }, received[] = { 0 };
+    static const size_t rooms[] = { 0, A_SIZE - 1, A_SIZE, 64 };
+    static const size_t lengths[] = { 256, 257, 65535, 65536, 65536 + 1 };
+    struct question q = about(SAVE, a_bytes, A_SIZE);
+    size_t i, l;
+    int c;
+    for (l = 1; l < sizeof many / sizeof many[0]; l++)
+        many[l] = 65535;
+    many[0] = 4;
+    for (c = 0; c < 2; c++)
+        for (i = 0; i < sizeof rooms / sizeof rooms[0]; i++) {
+            q.call = c == 0 ? SAVE : RECEIVE;
+            q.room = rooms[i];
+            q.list = four, q.list_length = 1;
+            q.from = 2;
+            refuses("A, 2", &q, KEEPER_UNKNOWN_PROCESS);
+            q.from = 256;
+            refuses("A, 256", &q, KEEPER_UNKNOWN_PROCESS);
+            q.from = 65535, q.list = beyond;
+            refuses("A, 65535", &q, KEEPER_UNKNOWN_PROCESS);
+            q.list_length = 0;
+            refuses("A, 65535 with no list", &q, KEEPER_UNKNOWN_PROCESS);
+            q.from = 1, q.list = four, q.list_length = 1;
+            refuses("A, message 4 waits for 0", &q, KEEPER_BAD_LIST);
+            q.from = 0, q.list = beyond;
+            refuses("A, position 5", &q, KEEPER_BAD_LIST);
+            q.list = cut;
+            refuses("A, position 260", &q, KEEPER_BAD_LIST);
+            q.list = received;
+            q.from = 1;
+            refuses("A, message 0 is received", &q, KEEPER_BAD_LIST);
+            q.from = 0, q.list = twice, q.list_length = 2;
+            refuses("A, message 4 twice", &q, KEEPER_BAD_LIST);
+            q.list = falling;
+            refuses("A, falling", &q, KEEPER_BAD_LIST);
+            q.list = far;
+            refuses("A, position 65535", &q, KEEPER_BAD_LIST);
+            q.list = many;
+            for (l = 0; l < sizeof lengths / sizeof lengths[0]; l++) {
+                q.list_length = lengths[l];
+                refuses("A, message 4 and many more", &q, KEEPER_BAD_LIST);
+            }
+        }
 }
 
 static void example_a_sheet(void)
@@ -522,6 +558,206 @@ static void shares(void)
         share_of(cases[i].kept, cases[i].total, cases[i].share);
 }
 
+/* ---- messages that are received and unsaved, in every call */
+
+/* An accepted table, a sheet, the listing that goes with it, and the lines of single holders. */
+static void sheet_and_listing(const char *what, const uint8_t *table, size_t length, const uint16_t *numbers, size_t count,
+                              const uint16_t *lines, size_t line_numbers, const char *text)
+{
+    uint8_t sheet[128];
+    struct answer a = { KEEPER_OK, sheet, 0, NULL, 0, 0 }, t = { KEEPER_OK, (const uint8_t *)text, 0, NULL, 0, 0 };
+    struct question check = about(CHECK_TABLE, table, length);
+    refuses(what, &check, KEEPER_OK);
+    a.size = put_numbers(sheet, numbers, count);
+    a.lines = lines;
+    a.line_numbers = line_numbers;
+    answers(what, about(KEEP_SHEET, table, length), a);
+    t.size = strlen(text);
+    answers(what, about(LISTING, table, length), t);
+}
+
+/* Counts 1 1, (0,0) to (1,1) and (1,0) to (0,1), both unsaved: where one process holds, the other has received what it has
+   not sent yet. So neither message crosses a line, and neither is kept. */
+static void two_unsaved(void)
+{
+    static const uint16_t numbers[] = { 2, 2, 1, 1, 0, 0, 1, 0, 1, 1, 0, 1 };
+    static const uint16_t saved_0[] = { 2, 2, 2, 1, 0, 0, 1, 0, 1, 1, 0, 1 };
+    static const uint16_t saved_1[] = { 2, 2, 1, 2, 0, 0, 1, 0, 1, 1, 0, 1 };
+    static const uint16_t sent[] = { 2, 3, 1, 1, 0, 0, 1, 0, 0, 0, 1, 1, 0, 1, 1, 0 };
+    static const uint16_t fallen[] = { 2, 0, 1, 1 };
+    static const uint16_t counts[] = { 1, 1 }, zeros[] = { 0, 0 }, lines[] = { 0, 0, 0, 0 };
+    static const uint16_t sheet[] = { 2, 0, 0, 1, 0, 0 }, first[] = { 0 }, second[] = { 1 };
+    uint8_t table[24];
+    uint16_t list[2];
+    struct question q = about(SEND, table, put_numbers(table, numbers, 12));
+    of_numbers("two unsaved, 0 to 1", q, sent, 16);
+    of_numbers("two unsaved", about(RECOVERY_LINE, table, sizeof table), zeros, 2);
+    of_numbers("two unsaved", about(FALL_BACK, table, sizeof table), fallen, 4);
+    q.call = LINE_OF_SET;
+    for (q.set = 0; q.set < 4; q.set++)
+        of_numbers("two unsaved, sets", q, q.set == 0 ? counts : zeros, 2);
+    q.call = LINE_UNDER;
+    q.list = list;
+    q.list_length = 2;
+    for (list[0] = 0; list[0] < 2; list[0]++)
+        for (list[1] = 0; list[1] < 2; list[1]++) {
+            of_numbers("two unsaved, ceilings", q, list[0] == 1 && list[1] == 1 ? counts : zeros, 2);
+            of_marks("two unsaved, ceilings", q, list[0] == 1 && list[1] == 1 ? counts : zeros, 2, 1);
+        }
+    sheet_and_listing("two unsaved", table, sizeof table, sheet, 6, lines, 4,
+                      "line 0 0\nhold 0 0 0\nhold 1 0 0\ncheckpoint 0 0\ncheckpoint 1 0\nshare 100\n");
+    for (q.from = 0; q.from < 2; q.from++) {
+        q.list_length = 0;
+        q.call = SAVE;
+        of_numbers("two unsaved, a save", q, q.from == 0 ? saved_0 : saved_1, 12);
+        q.call = RECEIVE;
+        of_numbers("two unsaved, a receipt of nothing", q, numbers, 12);
+        q.list_length = 1;
+        q.list = q.from == 0 ? second : first;
+        refuses("two unsaved, listed again", &q, KEEPER_BAD_LIST);
+        q.call = SAVE;
+        refuses("two unsaved, listed by a save", &q, KEEPER_BAD_LIST);
+        q.list = q.from == 0 ? first : second;
+        refuses("two unsaved, that of the other", &q, KEEPER_BAD_LIST);
+        q.call = RECEIVE;
+        refuses("two unsaved, that of the other", &q, KEEPER_BAD_LIST);
+    }
+}
+
+/* Counts 2 3 1: (0,0) to (1,3), (0,1) to (1,3), (1,2) to (0,2) and (1,1) to (2,1) are unsaved, (2,0) to (1,1) is saved, and
+   (0,1) to 2 waits. Of the unsaved ones the first alone crosses a line, is kept, and waits again after a fall back. */
+static void four_unsaved(void)
+{
+    static const uint16_t numbers[] = { 3, 6, 2, 3, 1, 0, 0, 0, 1, 1, 2, 2, 0, 1, 1, 0, 1,
+                                        1, 3, 1, 3, 0, 2, 1, 1, 2, 1, 2, 0 };
+    static const uint16_t sets[8][3] = { { 2, 3, 1 }, { 1, 2, 1 }, { 1, 2, 1 }, { 1, 2, 1 },
+                                         { 1, 0, 0 }, { 1, 0, 0 }, { 1, 0, 0 }, { 1, 0, 0 } };
+    /* By the ceilings of 0, 1 and 2. */
+    static const uint16_t under[3][4][2][3] = {
+        { { { 0, 0, 0 }, { 0, 0, 0 } }, { { 0, 0, 0 }, { 0, 0, 0 } },
+          { { 0, 0, 0 }, { 0, 2, 1 } }, { { 0, 0, 0 }, { 0, 2, 1 } } },
+        { { { 1, 0, 0 }, { 1, 0, 0 } }, { { 1, 0, 0 }, { 1, 0, 0 } },
+          { { 1, 0, 0 }, { 1, 2, 1 } }, { { 1, 0, 0 }, { 1, 2, 1 } } },
+        { { { 1, 0, 0 }, { 1, 0, 0 } }, { { 1, 0, 0 }, { 1, 0, 0 } },
+          { { 1, 0, 0 }, { 1, 2, 1 } }, { { 1, 0, 0 }, { 2, 3, 1 } } },
+    };
+    static const uint16_t lines[] = { 1, 2, 1, 1, 2, 1, 1, 0, 0 };
+    static const uint16_t sheet[] = { 4, 2, 0, 1, 1, 2, 1, 0, 2, 0, 0, 5 };
+    static const uint16_t fallen[] = { 3, 1, 2, 1, 1, 0, 0, 1, 0 };
+    static const uint16_t waiting[] = { 5 }, both[] = { 4, 5 };
+    uint16_t after[29], list[3];
+    uint8_t table[58];
+    struct question q = about(LINE_OF_SET, table, put_numbers(table, numbers, 29));
+    for (q.set = 0; q.set < 8; q.set++)
+        of_numbers("four unsaved, sets", q, sets[q.set], 3);
+    of_numbers("four unsaved", about(RECOVERY_LINE, table, sizeof table), sets[7], 3);
+    of_numbers("four unsaved", about(FALL_BACK, table, sizeof table), fallen, 9);
+    sheet_and_listing("four unsaved", table, sizeof table, sheet, 12, lines, 9,
+                      "line 1 0 0\nhold 0 1 2 1\nhold 1 1 2 1\nhold 2 1 0 0\ncheckpoint 0 1\ncheckpoint 1 0\ncheckpoint 1 2\n"
+                      "checkpoint 2 0\nmessage 0\nmessage 5\nshare 67\n");
+    q.call = LINE_UNDER;
+    q.list = list;
+    q.list_length = 3;
+    for (list[0] = 0; list[0] < 3; list[0]++)
+        for (list[1] = 0; list[1] < 4; list[1]++)
+            for (list[2] = 0; list[2] < 2; list[2]++) {
+                of_numbers("four unsaved, ceilings", q, under[list[0]][list[1]][list[2]], 3);
+                of_marks("four unsaved, ceilings", q, under[list[0]][list[1]][list[2]], 3, 2);
+            }
+    /* A save changes one count and nothing else; what waits is received beside what is unsaved, by the same number. */
+    for (q.from = 0; q.from < 3; q.from++) {
+        memcpy(after, numbers, sizeof after);
+        q.list_length = 0;
+        q.call = RECEIVE;
+        of_numbers("four unsaved, a receipt of nothing", q, after, 29);
+        after[2 + q.from]++;
+        q.call = SAVE;
+        of_numbers("four unsaved, a save", q, after, 29);
+    }
+    q.from = 2;
+    q.list = waiting;
+    q.list_length = 1;
+    after[28] = 1;
+    of_numbers("four unsaved, a save with message 5", q, after, 29);
+    after[4] = 1;
+    q.call = RECEIVE;
+    of_numbers("four unsaved, a receipt of message 5", q, after, 29);
+    for (q.call = SAVE; q.call <= RECEIVE; q.call = (enum call)(q.call + 1)) {
+        q.from = 2, q.list = both, q.list_length = 2;
+        refuses("four unsaved, 4 and 5", &q, KEEPER_BAD_LIST);
+        q.list = waiting, q.list_length = 1;
+        for (q.from = 0; q.from < 2; q.from++)
+            refuses("four unsaved, message 5 waits for 2", &q, KEEPER_BAD_LIST);
+    }
+}
+
+/* A with receipt (0,3) in the last entry, which is unsaved: where 1 holds, 0 is put back. With (0,2) there the lines are the
+   same. (0,4) is among the refused tables. */
+static void case_f(void)
+{
+    static const uint16_t line[] = { 1, 1 }, counts[] = { 3, 3 }, lines[] = { 1, 1, 1, 1 }, sheet[] = { 2, 1, 0, 1, 1, 1, 0 };
+    static const uint16_t fallen[] = { 2, 2, 2, 2, 0, 0, 1, 0, 1, 0, 0, 1 };
+    uint16_t numbers[A_NUMBERS], receipt;
+    uint8_t table[A_SIZE];
+    struct question q = about(LINE_OF_SET, table, sizeof table);
+    memcpy(numbers, example_a, sizeof numbers);
+    for (receipt = 2; receipt < 4; receipt++) {
+        numbers[A_NUMBERS - 1] = receipt;
+        put_numbers(table, numbers, A_NUMBERS);
+        for (q.set = 0; q.set < 4; q.set++)
+            of_numbers("case F", q, q.set == 0 ? counts : line, 2);
+        of_numbers("case F", about(RECOVERY_LINE, table, sizeof table), line, 2);
+        of_numbers("case F", about(FALL_BACK, table, sizeof table), fallen, 12);
+        sheet_and_listing("case F", table, sizeof table, sheet, 7, lines, 4,
+                          "line 1 1\nhold 0 1 1\nhold 1 1 1\ncheckpoint 0 1\ncheckpoint 1 1\nmessage 0\nshare 33\n");
+    }
+}
+
+/* Steps, each on the table before it. What was received before a save is saved by it and keeps its number; of what is
+   unsaved when the run falls back, position 3 waits again and position 4 is gone. */
+static void steps_with_receipts(void)
+{
+    static const struct {
+        enum call call;
+        uint16_t from, to, list[2];
+        size_t list_length, count;
+        uint16_t after[24];
+    } steps[] = {
+        { SEND, 0, 1, { 0 }, 0, 8, { 2, 1, 1, 1, 0, 0, 1, 0 } },
+        { RECEIVE, 1, 0, { 0 }, 1, 8, { 2, 1, 1, 1, 0, 0, 1, 1 } },
+        { SEND, 1, 0, { 0 }, 0, 12, { 2, 2, 1, 1, 0, 0, 1, 0, 1, 1, 0, 0 } },
+        { RECEIVE, 0, 0, { 1 }, 1, 12, { 2, 2, 1, 1, 0, 0, 1, 0, 1, 1, 0, 1 } },
+        { RECEIVE, 0, 0, { 0 }, 0, 12, { 2, 2, 1, 1, 0, 0, 1, 0, 1, 1, 0, 1 } },
+        { SAVE, 0, 0, { 0 }, 0, 12, { 2, 2, 2, 1, 0, 0, 1, 0, 1, 1, 0, 1 } },
+        { SEND, 0, 1, { 0 }, 0, 16, { 2, 3, 2, 1, 0, 0, 1, 0, 0, 1, 1, 1, 0, 1, 1, 0 } },
+        { SEND, 1, 0, { 0 }, 0, 20, { 2, 4, 2, 1, 0, 0, 1, 0, 0, 1, 1, 0, 1, 1, 0, 1, 1, 0, 0, 0 } },
+        { SAVE, 1, 0, { 2 }, 1, 20, { 2, 4, 2, 2, 0, 0, 1, 0, 0, 1, 1, 0, 1, 1, 0, 1, 1, 1, 0, 0 } },
+        { SAVE, 0, 0, { 0 }, 0, 20, { 2, 4, 3, 2, 0, 0, 1, 0, 0, 1, 1, 0, 1, 1, 0, 1, 1, 1, 0, 0 } },
+        { SEND, 1, 0, { 0 }, 0, 24, { 2, 5, 3, 2, 0, 0, 1, 0, 0, 1, 1, 0, 1, 1, 1, 1, 0, 1, 1, 1, 0, 0, 0, 0 } },
+        { RECEIVE, 0, 0, { 3, 4 }, 2, 24, { 2, 5, 3, 2, 0, 0, 1, 0, 0, 1, 1, 0, 1, 1, 1, 1, 0, 1, 1, 1, 0, 3, 0, 3 } },
+        { FALL_BACK, 0, 0, { 0 }, 0, 20, { 2, 4, 3, 2, 0, 0, 1, 0, 0, 1, 1, 0, 1, 1, 0, 1, 1, 1, 0, 0 } },
+        { RECEIVE, 0, 0, { 3 }, 1, 20, { 2, 4, 3, 2, 0, 0, 1, 0, 0, 1, 1, 0, 1, 1, 0, 1, 1, 1, 0, 3 } },
+        { SAVE, 0, 0, { 0 }, 0, 20, { 2, 4, 4, 2, 0, 0, 1, 0, 0, 1, 1, 0, 1, 1, 0, 1, 1, 1, 0, 3 } },
+        { SEND, 1, 0, { 0 }, 0, 24, { 2, 5, 4, 2, 0, 0, 1, 0, 0, 1, 1, 0, 1, 1, 1, 1, 0, 1, 1, 1, 0, 3, 0, 0 } },
+        { RECEIVE, 0, 0, { 4 }, 1, 24, { 2, 5, 4, 2, 0, 0, 1, 0, 0, 1, 1, 0, 1, 1, 1, 1, 0, 1, 1, 1, 0, 3, 0, 4 } },
+        { SAVE, 1, 0, { 0 }, 0, 24, { 2, 5, 4, 3, 0, 0, 1, 0, 0, 1, 1, 0, 1, 1, 1, 1, 0, 1, 1, 1, 0, 3, 0, 4 } },
+        { FALL_BACK, 0, 0, { 0 }, 0, 24, { 2, 5, 4, 3, 0, 0, 1, 0, 0, 1, 1, 0, 1, 1, 1, 1, 0, 1, 1, 1, 0, 3, 0, 0 } },
+    };
+    static const uint16_t start[] = { 2, 0, 1, 1 };
+    uint8_t table[A_SIZE];
+    struct question q = about(SEND, table, put_numbers(table, start, 4));
+    size_t i;
+    for (i = 0; i < sizeof steps / sizeof steps[0]; i++) {
+        q.call = steps[i].call;
+        q.from = steps[i].from;
+        q.to = steps[i].to;
+        q.list = steps[i].list;
+        q.list_length = steps[i].list_length;
+        of_numbers("steps with receipts", q, steps[i].after, steps[i].count);
+        q.length = put_numbers(table, steps[i].after, steps[i].count);
+    }
+}
+
 /* ---- refused tables, in every call: with arguments and room that are right, and with none that is */
 static void refused_in_every_call(void)
 {
@@ -560,7 +796,7 @@ static void refused_in_every_call(void)
 }
 
 /* ---- the largest tables: N = 32, counts 1, every message (0,0) to (1,0), waiting or received at 1 */
-static uint8_t large[KEEPER_LARGEST_TABLE], other[KEEPER_LARGEST_TABLE];
+static uint8_t large[KEEPER_LARGEST_TABLE], unsaved[KEEPER_LARGEST_TABLE], other[KEEPER_LARGEST_TABLE];
 
 static void put_number(uint8_t *to, size_t place, uint16_t number)
 {
@@ -618,6 +854,87 @@ static void ceilings_of_32(void)
     }
 }
 
+/* The lines of `unsaved`, the largest table with every message received by process 1 and unsaved. Where 0 holds, 1 has
+   received what 0 has not sent yet, and is put back. */
+static void lines_of_unsaved(void)
+{
+    static const struct {
+        uint32_t set;
+        size_t back[2]; /* the processes at 0; all others are at 1 */
+    } cases[] = { { 0, { 99, 99 } }, { 1, { 0, 1 } }, { 2, { 1, 1 } }, { 4, { 2, 2 } }, { 0x80000000u, { 31, 31 } } };
+    uint16_t line[32], ceilings[32];
+    struct question q = about(LINE_OF_SET, unsaved, KEEPER_LARGEST_TABLE);
+    size_t i, p;
+    q.list = ceilings;
+    q.list_length = 32;
+    for (i = 0; i < sizeof cases / sizeof cases[0]; i++) {
+        for (p = 0; p < 32; p++) {
+            line[p] = p != cases[i].back[0] && p != cases[i].back[1];
+            ceilings[p] = (cases[i].set >> p & 1) == 0;
+        }
+        q.call = LINE_OF_SET;
+        q.set = cases[i].set;
+        of_numbers("4,096 unsaved", q, line, 32);
+        q.call = LINE_UNDER;
+        of_numbers("4,096 unsaved", q, line, 32);
+        of_marks("4,096 unsaved", q, line, 32, 8);
+    }
+    memset(line, 0, sizeof line);
+    of_numbers("4,096 unsaved", about(RECOVERY_LINE, unsaved, KEEPER_LARGEST_TABLE), line, 32);
+}
+
+/* Receipts of 4,096 messages, all but the first and all but the last: their number is the count, which stays. There is no
+   14, and 13 where the list goes on to M. Then a save and a fall back; nothing is received twice. */
+static void most_unsaved(void)
+{
+    static uint16_t list[KEEPER_MOST_MESSAGES + 1];
+    static const uint16_t first[] = { 0 }, last[] = { 4095 };
+    struct answer a = { KEEPER_OK, unsaved, KEEPER_LARGEST_TABLE, NULL, 0, 0 };
+    struct question q = about(RECEIVE, large, KEEPER_LARGEST_TABLE);
+    size_t i;
+    for (i = 0; i < sizeof list / sizeof list[0]; i++)
+        list[i] = (uint16_t)i;
+    put_large(unsaved, 4096, 1, 1);
+    q.from = 1;
+    q.list = list;
+    q.list_length = 4096;
+    answers("4,096 messages received", q, a);
+    memcpy(other, unsaved, sizeof other);
+    a.bytes = other;
+    put_number(other, 35 + 2 * 4096, 0);
+    q.list = list + 1;
+    q.list_length = 4095;
+    answers("all but the first received", q, a);
+    put_number(other, 35 + 2 * 4096, 1);
+    put_number(other, 35 + 2 * (4096 + 4095), 0);
+    q.list = list;
+    answers("all but the last received", q, a);
+    for (q.room = 0; q.room <= KEEPER_LARGEST_TABLE; q.room += KEEPER_LARGEST_TABLE) {
+        q.from = 1, q.list_length = 4097;
+        refuses("4,097 messages", &q, KEEPER_BAD_LIST);
+        q.from = 32, q.list_length = 4096;
+        refuses("32 receives", &q, KEEPER_UNKNOWN_PROCESS);
+    }
+    lines_of_unsaved();
+    q = about(RECEIVE, unsaved, KEEPER_LARGEST_TABLE);
+    q.from = 1;
+    a.bytes = unsaved;
+    answers("4,096 unsaved, no list", q, a);
+    q.list_length = 1;
+    q.list = first;
+    refuses("4,096 unsaved, the first is listed", &q, KEEPER_BAD_LIST);
+    q.list = last;
+    refuses("4,096 unsaved, the last is listed", &q, KEEPER_BAD_LIST);
+    q.call = SAVE;
+    refuses("4,096 unsaved, the last is listed", &q, KEEPER_BAD_LIST);
+    q.list_length = 0;
+    put_large(other, 4096, 2, 1);
+    a.bytes = other;
+    answers("4,096 unsaved", q, a);
+    a.size = put_large(other, 0, 1, 0);
+    answers("4,096 unsaved", about(FALL_BACK, unsaved, KEEPER_LARGEST_TABLE), a);
+}
+
 static void largest(void)
 {
     static uint16_t list[KEEPER_MOST_MESSAGES], lines[KEEPER_SCRATCH_NUMBERS], line[32];
@@ -662,6 +979,7 @@ static void largest(void)
     of_numbers("31 holds", q, line, 32);
     same("largest line", KEEPER_LINE_SIZE(32), KEEPER_LARGEST_LINE);
     ceilings_of_32();
+    most_unsaved();
     /* A fall back drops every message: an answer much shorter than the table. */
     a.size = put_large(other, 0, 1, 0);
     answers("all wait", about(FALL_BACK, large, KEEPER_LARGEST_TABLE), a);
@@ -693,6 +1011,9 @@ static void largest(void)
     a.line_numbers = KEEPER_SCRATCH_SIZE(32);
     same("largest scratch", a.line_numbers, KEEPER_SCRATCH_NUMBERS);
     answers("all wait", about(KEEP_SHEET, large, KEEPER_LARGEST_TABLE), a);
+    /* Where they are unsaved the line of 0 has 1 at 0, and all of them cross the line of 1. */
+    lines[1] = 0;
+    answers("4,096 unsaved", about(KEEP_SHEET, unsaved, KEEPER_LARGEST_TABLE), a);
     a.bytes = (const uint8_t *)text;
     a.size = n;
     a.lines = NULL;
@@ -707,6 +1028,8 @@ static void full_counts(void)
     uint16_t numbers[] = { 2, 1, 4096, 1, 1, 0, 0, 0 };
     uint16_t after[] = { 2, 1, 4096, 1, 1, 0, 0, 4095 };
     uint16_t after_1[] = { 2, 1, 4095, 2, 1, 0, 0, 0 };
+    uint16_t received[] = { 2, 1, 4096, 1, 1, 0, 0, 4096 };
+    uint16_t received_4095[] = { 2, 1, 4095, 1, 1, 0, 0, 4095 };
     uint8_t table[16];
     struct question q = about(SAVE, table, put_numbers(table, numbers, 8));
     refuses("count 4,096, no list", &q, KEEPER_TABLE_FULL);
@@ -719,14 +1042,72 @@ static void full_counts(void)
     refuses("count 4,096, bad list", &q, KEEPER_BAD_LIST);
     q.from = 2;
     refuses("count 4,096, process 2", &q, KEEPER_UNKNOWN_PROCESS);
+    /* A receipt meets no 14. */
+    q.call = RECEIVE;
+    refuses("count 4,096, process 2", &q, KEEPER_UNKNOWN_PROCESS);
+    q.from = 0;
+    refuses("count 4,096, bad list", &q, KEEPER_BAD_LIST);
+    q.list = first;
+    of_numbers("count 4,096", q, received, 8);
+    q.list_length = 0;
+    of_numbers("count 4,096, no list", q, numbers, 8);
     numbers[2] = 4095;
     put_numbers(table, numbers, 8);
-    q.from = 0;
+    q.call = SAVE;
     q.list = first;
+    q.list_length = 1;
     of_numbers("count 4,095", q, after, 8);
+    q.call = RECEIVE;
+    of_numbers("count 4,095", q, received_4095, 8);
+    q.call = SAVE;
     q.from = 1;
     q.list_length = 0;
     of_numbers("count 1", q, after_1, 8);
+}
+
+/* Unsaved there: a message (1,0) to (0,4096). The largest number that a table can have, and one above it. */
+static void full_unsaved(void)
+{
+    static const uint16_t first[] = { 0 };
+    static const uint16_t lists[][2] = { { 4096, 1 }, { 4095, 1 }, { 4096, 0 }, { 4095, 0 }, { 0, 1 } };
+    static const uint16_t lines[][2] = { { 4096, 1 }, { 4095, 1 }, { 4095, 0 }, { 4095, 0 }, { 0, 1 } };
+    static const uint16_t hold_0[] = { 4095, 1 }, hold_1[] = { 4095, 0 };
+    static const uint16_t fallen[] = { 2, 0, 4096, 1 }, above[] = { 2, 1, 4096, 1, 1, 0, 0, 4097 };
+    uint16_t numbers[] = { 2, 1, 4096, 1, 1, 0, 0, 4096 }, saved_1[] = { 2, 1, 4096, 2, 1, 0, 0, 4096 };
+    uint8_t table[16];
+    struct question q = about(SAVE, table, put_numbers(table, numbers, 8));
+    size_t i;
+    refuses("count 4,096 and unsaved", &q, KEEPER_TABLE_FULL);
+    q.call = CHECK_TABLE;
+    refuses("count 4,096 and unsaved", &q, KEEPER_OK);
+    q.call = SAVE;
+    q.list = first;
+    q.list_length = 1;
+    refuses("count 4,096, the unsaved one is listed", &q, KEEPER_BAD_LIST);
+    q.call = RECEIVE;
+    refuses("count 4,096, the unsaved one is listed", &q, KEEPER_BAD_LIST);
+    q.list_length = 0;
+    of_numbers("count 4,096 and unsaved", q, numbers, 8);
+    q.call = SAVE;
+    q.from = 1;
+    of_numbers("count 4,096 and unsaved, 1 saves", q, saved_1, 8);
+    q.call = FALL_BACK;
+    of_numbers("count 4,096 and unsaved", q, fallen, 4);
+    q.call = LINE_OF_SET;
+    q.set = 1;
+    of_numbers("count 4,096 and unsaved, 0 holds", q, hold_0, 2);
+    q.set = 2;
+    of_numbers("count 4,096 and unsaved, 1 holds", q, hold_1, 2);
+    q.call = LINE_UNDER;
+    q.list_length = 2;
+    for (i = 0; i < sizeof lists / sizeof lists[0]; i++) {
+        q.list = lists[i];
+        of_numbers("count 4,096 and unsaved, ceilings", q, lines[i], 2);
+        of_marks("count 4,096 and unsaved, ceilings", q, lines[i], 2, 513);
+    }
+    put_numbers(table, above, 8);
+    q = about(CHECK_TABLE, table, sizeof table);
+    refuses("receipt number 4,097", &q, KEEPER_RECEIPT_NUMBER_TOO_HIGH);
 }
 
 /* Ceilings there: a message (1,0) to (0,4095). */
@@ -915,7 +1296,7 @@ static void both_methods(void)
             put_number(table, 2 + n + 2 * k, (uint16_t)j);
             put_number(table, 3 + n + 2 * k, (uint16_t)chance(counts[j]));
             put_number(table, 2 + n + 2 * m + 2 * k, (uint16_t)i);
-            put_number(table, 3 + n + 2 * m + 2 * k, (uint16_t)chance(counts[i]));
+            put_number(table, 3 + n + 2 * m + 2 * k, (uint16_t)chance(counts[i] + 1));
         }
         q = about(MARKED_LINE, table, KEEPER_TABLE_SIZE(n, m));
         q.list = list;
@@ -1061,11 +1442,17 @@ int main(void)
     example_a_lines();
     example_a_ceilings();
     example_a_steps();
+    example_a_lists();
     example_a_sheet();
     shares();
+    two_unsaved();
+    four_unsaved();
+    case_f();
+    steps_with_receipts();
     refused_in_every_call();
     largest();
     full_counts();
+    full_unsaved();
     full_ceilings();
     sizes_of_marks();
     domino();

@@ -14,6 +14,7 @@ __typeof__(keeper_line_under) faulty_line_under;
 __typeof__(keeper_marked_line) faulty_marked_line;
 __typeof__(keeper_send) faulty_send;
 __typeof__(keeper_save) faulty_save;
+__typeof__(keeper_receive) faulty_receive;
 __typeof__(keeper_fall_back) faulty_fall_back;
 __typeof__(keeper_keep_sheet) faulty_keep_sheet;
 __typeof__(keeper_listing) faulty_listing;
@@ -26,9 +27,57 @@ static int fault(int number)
     return asked == number;
 }
 
+/* Of a table with N, M and a length that fit: the place of the receipt number of message k, and the count of its
+   receiver, with which an unsaved message is received. */
+static size_t receipt_place(const uint8_t *table, size_t k)
+{
+    return 4 + 2 * (size_t)keeper_u16_at(table, 0) + 4 * (size_t)keeper_u16_at(table, 2) + 4 * k + 2;
+}
+
+static uint16_t receiver_of(const uint8_t *table, size_t k)
+{
+    return keeper_u16_at(table, receipt_place(table, k) - 2);
+}
+
+static uint16_t count_of(const uint8_t *table, size_t k)
+{
+    return keeper_u16_at(table, 4 + 2 * (size_t)receiver_of(table, k));
+}
+
+static int is_unsaved(const uint8_t *table, size_t k)
+{
+    return keeper_u16_at(table, receipt_place(table, k)) == count_of(table, k);
+}
+
+/* A copy of a table that the checks 1 to 8 let through, in which the receipt numbers so far above the count of their
+   receiver are lowered by a number, or wait. */
+enum { WAITS = 65535 };
+
+static const uint8_t *lowered(const uint8_t *table, size_t length, unsigned above, unsigned by)
+{
+    static uint8_t copy[KEEPER_LARGEST_TABLE];
+    size_t k, m = keeper_u16_at(table, 2);
+    memcpy(copy, table, length);
+    for (k = 0; k < m; k++) {
+        unsigned number = keeper_u16_at(table, receipt_place(table, k));
+        if (number == count_of(table, k) + above)
+            keeper_put_u16(copy, receipt_place(table, k), (uint16_t)(by == WAITS ? 0 : number - by));
+    }
+    return copy;
+}
+
+/* The table, or, where that is asked for and the table is accepted, a copy in which what is unsaved is lowered. */
+static const uint8_t *lowered_if(int asked, const uint8_t *table, size_t length, unsigned by)
+{
+    if (!asked || keeper_check_table(table, length) != KEEPER_OK) return table;
+    return lowered(table, length, 0, by);
+}
+
 uint32_t faulty_check_table(const uint8_t *table, size_t length)
 {
     uint32_t r = keeper_check_table(table, length);
+    if (fault(164) && r == KEEPER_OK && memcmp(lowered(table, length, 0, 1), table, length) != 0) return KEEPER_RECEIPT_NUMBER_TOO_HIGH;
+    if (fault(165) && r == KEEPER_RECEIPT_NUMBER_TOO_HIGH) return keeper_check_table(lowered(table, length, 1, 1), length);
     if (fault(1) && length == 0) return KEEPER_WRONG_LENGTH;
     if (fault(2) && r == KEEPER_WRONG_LENGTH) return KEEPER_OK;
     if (fault(3) && r == KEEPER_RECEIPT_NUMBER_TOO_HIGH) return KEEPER_SEND_NUMBER_TOO_HIGH;
@@ -56,6 +105,8 @@ uint32_t faulty_line_of_set(const uint8_t *table, size_t length, uint32_t set, u
     if (fault(14) && room == 0 && keeper_check_table(table, length) == KEEPER_OK) return KEEPER_ANSWER_TOO_SHORT;
     if (fault(15)) set = ~set & 3u;
     if (fault(16) && length >= 4 && (set >> table[0]) != 0) return KEEPER_UNKNOWN_PROCESS_IN_SET;
+    table = lowered_if(fault(166), table, length, WAITS);
+    table = lowered_if(fault(167), table, length, 1);
     return keeper_line_of_set(table, length, set, answer, room, written);
 }
 
@@ -84,6 +135,8 @@ uint32_t faulty_line_under(const uint8_t *table, size_t length, const uint16_t *
     if (fault(58)) ceilings_length &= 0xFFFF;
     if (fault(59) && n != 0 && ceilings_length > n) ceilings_length = n;
     if (fault(60) && ceilings_length == 0) return KEEPER_WRONG_CEILING_COUNT;
+    table = lowered_if(fault(168), table, length, WAITS);
+    table = lowered_if(fault(169), table, length, 1);
     r = keeper_line_under(table, length, fits && n != 0 ? other : ceilings, ceilings_length, answer, room, written);
     if (fault(61) && r == KEEPER_OK) memset(answer, 0, *written);
     for (p = 0; p < n; p++)
@@ -133,6 +186,8 @@ static void faulty_marking(const uint8_t *table, const uint16_t *ceilings, uint1
                 size_t j = keeper_u16_at(table, send), y = keeper_u16_at(table, send + 2);
                 size_t i = keeper_u16_at(table, receipt), r = keeper_u16_at(table, receipt + 2);
                 if (r == 0 && !fault(93) && !fault(94)) continue;
+                if (fault(170) && is_unsaved(table, k)) continue;
+                if (fault(171) && is_unsaved(table, k)) r--;
                 if (fault(94) && r == 0) r = keeper_u16_at(table, 4 + 2 * i);
                 if (fault(95)) { size_t s = j; j = i; i = s; s = y; y = r; r = s; }
                 if (fault(96)) y++;
@@ -264,15 +319,20 @@ uint32_t faulty_send(const uint8_t *table, size_t length, uint16_t from, uint16_
     if (fault(21) && r == KEEPER_OK && room == *written) return KEEPER_ANSWER_TOO_SHORT;
     if (fault(22) && r == KEEPER_ANSWER_TOO_SHORT && room > 0) answer[0] = 2;
     if (fault(23) && r == KEEPER_UNKNOWN_PROCESS) *written = 0;
+    if (fault(172) && r == KEEPER_OK) keeper_put_u16(answer, *written - 2, keeper_u16_at(table, 4 + 2 * (size_t)to));
     return r;
 }
 
 uint32_t faulty_save(const uint8_t *table, size_t length, uint16_t process, const uint16_t *list, size_t list_length,
                      uint8_t *answer, size_t room, size_t *written)
 {
+    size_t k, m;
+    int any = 0;
     uint32_t r;
     if (fault(24)) list_length = 0;
     if (fault(47)) process &= 0xFF;
+    if (fault(173)) list_length &= 0xFFFF;
+    if (fault(174)) list_length &= 0xFF;
     r = keeper_save(table, length, process, list, list_length, answer, room, written);
     if (fault(25) && r == KEEPER_OK && list_length > 0) ((uint16_t *)(uintptr_t)list)[0] ^= 1;
     if (fault(26) && r == KEEPER_BAD_LIST && length == 16) return KEEPER_TABLE_FULL;
@@ -280,16 +340,184 @@ uint32_t faulty_save(const uint8_t *table, size_t length, uint16_t process, cons
     if (fault(28) && r == KEEPER_TABLE_TOO_SHORT) return KEEPER_WRONG_LENGTH;
     if (fault(29) && r == KEEPER_OK) memcpy(answer, table, length);
     if (fault(30) && list == NULL && r == KEEPER_OK) return KEEPER_BAD_LIST;
+    if (fault(175) && r == KEEPER_BAD_LIST)
+        return keeper_save(lowered(table, length, 0, WAITS), length, process, list, list_length, answer, room, written);
+    if (r != KEEPER_OK) return r;
+    m = keeper_u16_at(table, 2);
+    for (k = 0; k < m; k++) {
+        size_t place = receipt_place(table, k);
+        if (!is_unsaved(table, k)) continue;
+        if (fault(176) && receiver_of(table, k) != process) keeper_put_u16(answer, place, 0);
+        if (receiver_of(table, k) != process) continue;
+        any = 1;
+        if (fault(177)) keeper_put_u16(answer, place, (uint16_t)(count_of(table, k) + 1));
+        if (fault(178)) keeper_put_u16(answer, place, (uint16_t)(count_of(table, k) - 1));
+        if (fault(179)) keeper_put_u16(answer, place, 0);
+    }
+    if (fault(180) && any && list_length == 0) memcpy(answer, table, length);
     return r;
+}
+
+/* What a receipt does to the table that it succeeded on; `answer` is what the archive made of it. */
+static void faulty_receipts(const uint8_t *table, size_t length, uint16_t process, const uint16_t *list, size_t list_length,
+                            uint8_t *answer)
+{
+    size_t i, k, m = keeper_u16_at(table, 2), place = 4 + 2 * (size_t)process;
+    uint16_t count = keeper_u16_at(table, place);
+    for (i = 0; i < list_length; i++) {
+        size_t at = receipt_place(table, list[i]);
+        if (fault(181)) keeper_put_u16(answer, at, (uint16_t)(count - 1));
+        if (fault(182)) keeper_put_u16(answer, at, (uint16_t)(count + 1));
+        if (fault(183) && i == 0) keeper_put_u16(answer, at, 0);
+        if (fault(184) && i == list_length - 1) keeper_put_u16(answer, at, 0);
+        if (fault(185) && i > 0) keeper_put_u16(answer, at, 0);
+        if (fault(186)) keeper_put_u16(answer, at, keeper_u16_at(table, 4));
+        if (fault(187)) keeper_put_u16(answer, at, (uint16_t)(count & 0xFFF));
+    }
+    for (k = 0; k < m; k++) {
+        size_t at = receipt_place(table, k);
+        if (receiver_of(table, k) != process) continue;
+        if (fault(188) && keeper_u16_at(table, at) == 0) keeper_put_u16(answer, at, count);
+        if (fault(189) && is_unsaved(table, k)) keeper_put_u16(answer, at, 0);
+    }
+    if (fault(190)) keeper_put_u16(answer, place, (uint16_t)(count + 1));
+    if (fault(191) && list_length > 0) keeper_put_u16(answer, place, (uint16_t)(count + 1));
+    if (fault(192) && list_length == 0) keeper_put_u16(answer, place, (uint16_t)(count + 1));
+    if (fault(193)) memcpy(answer, table, length);
+    if (fault(194)) keeper_put_u16(answer, 2, (uint16_t)(m + 1));
+}
+
+uint32_t faulty_receive(const uint8_t *table, size_t length, uint16_t process, const uint16_t *list, size_t list_length,
+                        uint8_t *answer, size_t room, size_t *written)
+{
+    static uint8_t large[KEEPER_LARGEST_TABLE + 8];
+    uint16_t *entries = (uint16_t *)(uintptr_t)list;
+    int accepted = keeper_check_table(table, length) == KEEPER_OK;
+    uint32_t r;
+    if (fault(195)) list_length = 0;
+    if (fault(196)) list_length &= 0xFFFF;
+    if (fault(197)) list_length &= 0xFF;
+    if (fault(198)) process &= 0xFF;
+    if (fault(199) && process >= 32) return KEEPER_UNKNOWN_PROCESS;
+    if (fault(200) && list_length > 0 && list[0] >= 4096) return KEEPER_BAD_LIST;
+    if (fault(201) && room < length) return KEEPER_ANSWER_TOO_SHORT;
+    if (fault(202) && accepted && room < length) return KEEPER_ANSWER_TOO_SHORT;
+    if (fault(203) && accepted && process < table[0] && room < length) return KEEPER_ANSWER_TOO_SHORT;
+    if (fault(204) && keeper_save(table, length, process, list, list_length, large, sizeof large, written) == KEEPER_TABLE_FULL)
+        return KEEPER_TABLE_FULL;
+    if (fault(205) && accepted && keeper_u16_at(table, 2) == 4096) return KEEPER_TABLE_FULL;
+    if (fault(206) && accepted && process < table[0] && list_length == 0) return KEEPER_BAD_LIST;
+    if (fault(207) && list == NULL) return KEEPER_BAD_LIST;
+    if (fault(208) && accepted && process < table[0] && list_length == 0 && room >= length) return *written = length, KEEPER_OK;
+    if (fault(209) && accepted && process < table[0] && list_length == 0 && room >= length) return *written = 0, KEEPER_OK;
+    if (fault(210) && room == length + 5000) room = length - 1;
+    r = keeper_receive(table, length, process, list, list_length, answer, room, written);
+    if (fault(211) && r == KEEPER_BAD_LIST)
+        r = keeper_receive(lowered(table, length, 0, WAITS), length, process, list, list_length, answer, room, written);
+    if (fault(212) && r == KEEPER_BAD_LIST) r = keeper_receive(table, length, process, list, list_length - 1, answer, room, written);
+    if (fault(213) && r == KEEPER_BAD_LIST) r = keeper_receive(table, length, process, list, 0, answer, room, written);
+    if (fault(214) && r == KEEPER_BAD_LIST && process + 1u < table[0])
+        r = keeper_receive(table, length, (uint16_t)(process + 1), list, list_length, answer, room, written);
+    if (fault(215) && r == KEEPER_UNKNOWN_PROCESS) r = keeper_receive(table, length, 0, list, list_length, answer, room, written);
+    if (fault(216) && r == KEEPER_UNKNOWN_PROCESS && list_length > 0 && list[0] > 4) return KEEPER_BAD_LIST;
+    if (fault(217) && r == KEEPER_UNKNOWN_PROCESS && process == table[0]) r = keeper_receive(table, length, 0, list, 0, answer, room, written);
+    if (fault(218) && r == KEEPER_OK && room == length) return KEEPER_ANSWER_TOO_SHORT;
+    if (fault(219) && r == KEEPER_OK && room < length + 8) return KEEPER_ANSWER_TOO_SHORT;
+    if (fault(220) && r == KEEPER_ANSWER_TOO_SHORT && room + 1 == length) {
+        r = keeper_receive(table, length, process, list, list_length, large, sizeof large, written);
+        memcpy(answer, large, room);
+    }
+    if (fault(221) && r == KEEPER_ANSWER_TOO_SHORT) return *written = length, KEEPER_OK;
+    if (fault(222) && r == KEEPER_ANSWER_TOO_SHORT) *written = length;
+    if (fault(223) && r == KEEPER_ANSWER_TOO_SHORT && room > 0) memcpy(answer, table, room);
+    if (fault(224) && r == KEEPER_BAD_LIST) *written = 0;
+    if (fault(225) && r == KEEPER_BAD_LIST && room > 0) answer[room - 1] = 0;
+    if (fault(226) && r == KEEPER_UNKNOWN_PROCESS) *written = 0;
+    if (fault(227) && r == KEEPER_UNKNOWN_PROCESS && room > 0) answer[0] = 0;
+    if (fault(228) && r == KEEPER_WRONG_LENGTH && room > 0) answer[0] = 0;
+    if (fault(229) && r == KEEPER_RECEIPT_NUMBER_TOO_HIGH) *written = 0;
+    if (fault(230) && r == KEEPER_RECEIPT_NUMBER_TOO_HIGH) return KEEPER_OK;
+    if (r != KEEPER_OK) return r;
+    faulty_receipts(table, length, process, list, list_length, answer);
+    if (fault(231) && room > length) answer[length] = 0;
+    if (fault(232) && room > length) answer[room - 1] = 0;
+    if (fault(233)) answer[room] = 0;
+    if (fault(234)) answer[-1] = 0;
+    if (fault(235)) *written = length - 1;
+    if (fault(236)) *written = room;
+    if (fault(237) && list_length > 0) entries[0] ^= 1;
+    if (fault(238) && list_length > 0) entries[list_length - 1] ^= 1;
+    if (fault(239) && list != NULL) entries[list_length] ^= 1;
+    if (fault(240)) ((uint8_t *)(uintptr_t)table)[length - 1] ^= 1;
+    if (fault(241) && ((uintptr_t)table & 1) != 0) answer[0] ^= 1;
+    if (fault(242) && list == NULL) answer[length - 1] ^= 1;
+    return r;
+}
+
+/* The table after a fall back; right where no fault of it is asked for. */
+static size_t faulty_rollback(const uint8_t *table, size_t length, uint8_t *answer)
+{
+    uint8_t line[KEEPER_LARGEST_LINE], kept[KEEPER_MOST_MESSAGES];
+    size_t n = keeper_u16_at(table, 0), m = keeper_u16_at(table, 2), k, p, size, left = 0, at = 0;
+    keeper_recovery_line(table, length, line, sizeof line, &size);
+    for (k = 0; k < m; k++) {
+        size_t sender = keeper_u16_at(table, 4 + 2 * n + 4 * k), sent = keeper_u16_at(table, 4 + 2 * n + 4 * k + 2);
+        kept[k] = sent < keeper_u16_at(line, 2 * sender);
+        if (fault(243) && is_unsaved(table, k)) kept[k] = 0;
+        if (fault(244) && is_unsaved(table, k)) kept[k] = 1;
+        left += kept[k];
+    }
+    size = KEEPER_TABLE_SIZE(n, left);
+    keeper_put_u16(answer, 0, (uint16_t)n);
+    keeper_put_u16(answer, 2, (uint16_t)left);
+    for (p = 0; p < n; p++)
+        keeper_put_u16(answer, 4 + 2 * p, (uint16_t)(keeper_u16_at(line, 2 * p) + 1));
+    for (k = 0; k < m; k++) {
+        uint16_t number = keeper_u16_at(table, receipt_place(table, k)), at_line = keeper_u16_at(line, 2 * (size_t)receiver_of(table, k));
+        if (!kept[k]) continue;
+        if (number > at_line && !(fault(245) && is_unsaved(table, k))) number = 0;
+        if (fault(246) && is_unsaved(table, k)) number = (uint16_t)(at_line + 1);
+        if (fault(247) && is_unsaved(table, k)) number = at_line;
+        memcpy(answer + 4 + 2 * n + 4 * at, table + 4 + 2 * n + 4 * k, 4);
+        keeper_put_u16(answer, 4 + 2 * n + 4 * left + 4 * at, receiver_of(table, k));
+        keeper_put_u16(answer, 4 + 2 * n + 4 * left + 4 * at + 2, number);
+        at++;
+    }
+    return size;
 }
 
 uint32_t faulty_fall_back(const uint8_t *table, size_t length, uint8_t *answer, size_t room, size_t *written)
 {
+    static uint8_t own[KEEPER_LARGEST_TABLE];
     uint32_t r = keeper_fall_back(table, length, answer, room, written);
+    if (r == KEEPER_OK) {
+        *written = faulty_rollback(table, length, own);
+        if (*written > room) return KEEPER_ANSWER_TOO_SHORT;
+        memcpy(answer, own, *written);
+    }
     if (fault(31) && r == KEEPER_OK && room < length) return KEEPER_ANSWER_TOO_SHORT;
     if (fault(32) && r == KEEPER_OK) memcpy(answer, table, *written);
     if (fault(33) && r == KEEPER_OK) memset(answer + *written, 0, room - *written);
     return r;
+}
+
+/* The positions on a sheet that succeeded, with the unsaved ones all there, or none of them. */
+static size_t faulty_positions(const uint8_t *table, uint8_t *sheet, size_t room, size_t size)
+{
+    size_t kept = keeper_u16_at(sheet, 0), logged = keeper_u16_at(sheet, 2), m = keeper_u16_at(table, 2), k, from = 0, to = 0;
+    static uint16_t positions[KEEPER_MOST_MESSAGES];
+    if (!fault(248) && !fault(249)) return size;
+    for (k = 0; k < m; k++) {
+        int there = from < logged && keeper_u16_at(sheet, 4 + 4 * kept + 2 * from) == k;
+        from += there != 0;
+        if (is_unsaved(table, k)) there = fault(248);
+        if (there) positions[to++] = (uint16_t)k;
+    }
+    if (KEEPER_SHEET_SIZE(kept, to) > room) return size;
+    keeper_put_u16(sheet, 2, (uint16_t)to);
+    for (k = 0; k < to; k++)
+        keeper_put_u16(sheet, 4 + 4 * kept + 2 * k, positions[k]);
+    return KEEPER_SHEET_SIZE(kept, to);
 }
 
 uint32_t faulty_keep_sheet(const uint8_t *table, size_t length, uint16_t *scratch, size_t numbers, uint8_t *answer, size_t room,
@@ -302,7 +530,10 @@ uint32_t faulty_keep_sheet(const uint8_t *table, size_t length, uint16_t *scratc
         if (r == KEEPER_OK) memcpy(scratch, other, 2 * numbers);
         return r;
     }
+    table = lowered_if(fault(250), table, length, WAITS);
+    table = lowered_if(fault(251), table, length, 1);
     r = keeper_keep_sheet(table, length, scratch, numbers, answer, room, written);
+    if (r == KEEPER_OK) *written = faulty_positions(table, answer, room, *written);
     if (fault(35) && r == KEEPER_OK) scratch[numbers - 1] = 0;
     if (fault(36) && r == KEEPER_OK && numbers > 4) scratch[numbers] = 0;
     if (fault(37) && r == KEEPER_SCRATCH_TOO_SHORT && numbers > 0) scratch[0] = 0;
@@ -358,7 +589,8 @@ static void put_faulty_share(const uint8_t *table, uint8_t *text, size_t room, s
 
 uint32_t faulty_listing(const uint8_t *table, size_t length, uint8_t *text, size_t room, size_t *written)
 {
-    uint32_t r = keeper_listing(table, length, text, room, written);
+    const uint8_t *read = lowered_if(fault(252), table, length, WAITS);
+    uint32_t r = keeper_listing(read, length, text, room, written);
     if (fault(43) && r == KEEPER_OK && *written < room) text[*written] = 0;
     if (fault(44) && r == KEEPER_OK && keeper_check_table(table, length) != KEEPER_OK) return keeper_check_table(table, length);
     if (fault(45) && r == KEEPER_OK) *written -= 1;

@@ -110,6 +110,11 @@ int main(void)
         same("receiver beyond", run_table_receiver(table, 48, beyond), 0);
         same("received beyond", run_table_received(table, 48, beyond), 0);
     }
+    /* An unsaved message is received with the count. */
+    put_numbers(table + 46, &example_a[2], 1);
+    same("check of an unsaved message", run_table_check(table, 48), RUN_TABLE_OK);
+    same("received, unsaved", run_table_received(table, 48, 4), 3);
+    put_numbers(table + 46, &example_a[23], 1);
     /* Cut in the middle of the last receipt: what stands beyond the end is 0, 0xA5 there or not. */
     same("receiver of 45 bytes", run_table_receiver(table, 45, 4), 0);
     same("sent of 27 bytes", run_table_sent(table, 27, 4), 2);

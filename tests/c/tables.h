@@ -58,7 +58,10 @@ static const struct refused refused_tables[] = {
     { "last receiver 2", 6, 22, 2, 48 },
     { "last message to its sender", 7, 22, 1, 48 },
     { "last send (1,3)", 8, 13, 3, 48 },
-    { "last receipt (0,3)", 9, 23, 3, 48 },
+    { "last receipt (0,4)", 9, 23, 4, 48 },
+    { "first receipt (1,4)", 9, 15, 4, 48 },
+    { "last receipt (0,259)", 9, 23, 259, 48 },
+    { "last receipt (0,65535)", 9, 23, 65535, 48 },
 };
 #define REFUSED_TABLES (sizeof refused_tables / sizeof refused_tables[0])
 
