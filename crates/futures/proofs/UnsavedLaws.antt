@@ -1,7 +1,7 @@
 -- Messages that are unsaved.
 --     receipts-hold    what is claimed of them holds in every well formed table
 -- Assumes nothing.
-use mathlib.Core.Bool.{true, false, _&&_}
+use mathlib.Core.Bool.{true}
 use mathlib.Core.List.{List, [], _∷_}
 use mathlib.Core.Path.{_≡_, refl, sym, ap, _∙_, subst⁻¹}
 use Prim.Native.Nat.{ℕ, zero, suc, _<_, _≤_}
@@ -55,7 +55,8 @@ module _ (t : Table) (w : WellFormed t) where
     unsaved =
         let r = receipt-receives t i alone in
         let listed : any (eqb k) alone ≡ true = rw (eq-eqb k k refl) in
-        let is : messageOf (afterReceipt t i alone) k ≡ withReceipt (messageOf t k) (countOf t i) = receives-message r k l ∙ receivedAt-listed t i alone k listed in (
+        let is : messageOf (afterReceipt t i alone) k ≡ withReceipt (messageOf t k) (countOf t i) =
+        receives-message r k l ∙ receivedAt-listed t i alone k listed in (
           omega (arith, receives-messages r),
           subst⁻¹ (λ (m : Message). m .received ≡ countOf (afterReceipt t i alone) (m .receiver)) is
               (ap (countOf t) (sym (waiting .to-process)) ∙ sym (receipt-count t i alone (messageOf t k .receiver))),
@@ -66,14 +67,16 @@ module _ (t : Table) (w : WellFormed t) where
     received-alone = (subst⁻¹ (λ (x : Table). Unsaved x k) taken unsaved, refl)
 
   -- ---- a checkpoint saves what is unsaved, as it is
-  module _ (i : ℕ) (list : List ℕ) (quiet : firstCaught (receiptChecks t i list) ≡ 0) (k : ℕ) (u : Unsaved t k) (to-i : messageOf t k .receiver ≡ i) where
+  module _ (i : ℕ) (list : List ℕ) (quiet : firstCaught (receiptChecks t i list) ≡ 0) (k : ℕ) (u : Unsaved t k)
+      (to-i : messageOf t k .receiver ≡ i) where
     saved-as-it-is : (messageOf (step t (checkpoint i list)) k ≡ messageOf t k) × (messageOf t k .received < countOf (step t (checkpoint i list)) i)
     unfolding Unsaved
     saved-as-it-is =
         let known = receipt-known t i list quiet in
         let is : messageOf t k .received ≡ countOf t i = u .1 ∙ ap (countOf t) to-i in (
           checkpoint-grown t i list .messages-go-on k (u .0) .received-stay (omega (arith, w .some-checkpoint i known)),
-          subst⁻¹ (λ (x : Table). messageOf t k .received < countOf x i) (checkpoint-step t i list quiet) (omega (arith, checkpoint-count-here t i list known)),
+          subst⁻¹ (λ (x : Table). messageOf t k .received < countOf x i) (checkpoint-step t i list quiet)
+              (omega (arith, checkpoint-count-here t i list known)),
         )
 
   -- ---- a rollback leaves none: what was received after the line waits again, and the line is below the count

@@ -16,8 +16,8 @@ use Rattle.run_table.specs.Table.{Table, countOf, messageCount, messageOf, proc
 unfoldable pub Unsaved : Table → ℕ → Type 0
 Unsaved t k = (k < messageCount t) × (messageOf t k .received ≡ countOf t (messageOf t k .receiver))
 
--- A message that waits for a process of the table is received in some future, and is there at its end, unsaved. One that
--- is unsaved stays as it is in a checkpoint of its receiver, and lies below the count then: it is saved. A rollback
+-- A message that waits for a process of the table is received in some future, and is there at its end, unsaved. An
+-- unsaved one stays as it is in a checkpoint of its receiver, and lies below the count then: it is saved. A rollback
 -- leaves none. The sheet keeps one just where it crosses the line of some single holder.
 pub record Receipts (t : Table) : Type 0 where
   pub received : (i k : ℕ) → i < processCount t → k < messageCount t → waitsFor i (messageOf t k) ≡ true

@@ -12,7 +12,8 @@ use steps::receipts::bad_position;
 use steps::receipts::not_rising;
 ghost use mathlib.Core.Path.{_≡_};
 ghost use Rattle.refusals.specs.CallChecks.{checkpointCallChecks, keepSheetChecks, lineOfSetChecks};
-ghost use Rattle.refusals.specs.CallChecks.{lineUnderChecks, markedLineChecks, receiptCallChecks, sendCallChecks};
+ghost use Rattle.refusals.specs.CallChecks.{lineUnderChecks, markedLineChecks, receiptCallChecks};
+ghost use Rattle.refusals.specs.CallChecks.{sendCallChecks};
 ghost use Rattle.run_table.specs.Checks.{firstCaught};
 
 // The line of a set: the table's checks, 12.

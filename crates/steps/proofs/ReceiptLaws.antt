@@ -1,7 +1,7 @@
 -- The bytes of the table after a receipt or a checkpoint.
 --     sends-kept, receipts-new         its sends and receipts, as the code writes them
 --     received-put                     the three writes
---     after-receipt, after-checkpoint  the table after each, by the checkpoints taken
+--     receipt-put, checkpoint-put      the table after each, by the checkpoints taken
 -- Assumes nothing.
 use mathlib.Core.Bool.{Bool, true, false, cond}
 use mathlib.Core.List.{List, [], _∷_, _++_}
@@ -81,14 +81,19 @@ module _ {table : List ℕ} {m : ℕ} {sends receipts : List ℕ} (read : ReadMe
       (front-set r i (number + taken) (can .known) ∙ ap (λ (c : ℕ). set (t .counts) i (c + taken)) count) sends-kept
       (ap (λ (x : ℕ). receiptNumbers m receipts list x) count ∙ receipts-new)
 
--- ---- the table after each
-module _ (t : Table) (i : ℕ) (list : List ℕ) where
-  pub after-receipt : afterReceiving t i list 0 ≡ afterReceipt t i list
+-- ---- the table after each: a receipt takes no checkpoint, and a checkpoint is one
+module _ (t : Table) (i : ℕ) (list before : List ℕ) where
+  none-taken : afterReceiving t i list 0 ≡ afterReceipt t i list
   unfolding afterReceiving afterReceipt countOf
-  after-receipt =
+  none-taken =
       ap (λ (counts : List ℕ). record { counts = counts; messages = afterReceipt t i list .messages })
       (ap (set (t .counts) i) (add-zero (countOf t i)) ∙ set-getD (t .counts) i 0)
 
-  pub after-checkpoint : afterReceiving t i list 1 ≡ afterCheckpoint t i list
+  pub receipt-put : {after : List ℕ} → after ≡ putAt before 0 (encode (afterReceiving t i list 0))
+      → after ≡ putAt before 0 (encode (afterReceipt t i list))
+  receipt-put put = put ∙ ap (λ (x : Table). putAt before 0 (encode x)) none-taken
+
+  pub checkpoint-put : {after : List ℕ} → after ≡ putAt before 0 (encode (afterReceiving t i list 1))
+      → after ≡ putAt before 0 (encode (afterCheckpoint t i list))
   unfolding afterReceiving afterCheckpoint
-  after-checkpoint = refl
+  checkpoint-put put = put

@@ -1,7 +1,7 @@
 -- `receipts::put_checkpoint` meets its contract: one checkpoint is taken.
 -- Assumes nothing.
 use borrow.Author.Needs.{needs}
-use Rattle.steps.proofs.ReceiptLaws.{after-checkpoint}
+use Rattle.steps.proofs.ReceiptLaws.{checkpoint-put}
 use Rattle.steps.proofs.receipts.put_checkpoint.Statement.{statement}
 use Rattle.steps.proofs.receipts.put_checkpoint.Tie as tie
 
@@ -11,4 +11,4 @@ put-checkpoint-spec =
     (tie.spec
     (λ c κs. search needs)
     (λ c. search needs)
-    (λ c. rw after-checkpoint at (c .before .before .put-received .ensures)))
+    (λ c. checkpoint-put _ _ _ _ (c .before .before .put-received .ensures)))

@@ -1,7 +1,7 @@
 -- `receipts::put_receipt` meets its contract: no checkpoint is taken.
 -- Assumes nothing.
 use borrow.Author.Needs.{needs}
-use Rattle.steps.proofs.ReceiptLaws.{after-receipt}
+use Rattle.steps.proofs.ReceiptLaws.{receipt-put}
 use Rattle.steps.proofs.receipts.put_receipt.Statement.{statement}
 use Rattle.steps.proofs.receipts.put_receipt.Tie as tie
 
@@ -11,4 +11,4 @@ put-receipt-spec =
     (tie.spec
     (λ c κs. search needs)
     (λ c. search needs)
-    (λ c. rw after-receipt at (c .before .before .put-received .ensures)))
+    (λ c. receipt-put _ _ _ _ (c .before .before .put-received .ensures)))
