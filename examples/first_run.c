@@ -1,5 +1,5 @@
 /* A first run over keeper.h: a table of two processes is made and stepped, its keep sheets say what must
-   be kept, and the run falls back. Contents are not stored here; the prints say what a store would do.
+   be kept, its lines what a failure would cost, and the run falls back. Contents are not stored here; the prints say what a store would do.
 
    cc -Iinclude -o first_run examples/first_run.c target/staticlib/libkeeper.a */
 #include <stdint.h>
@@ -67,19 +67,60 @@ static void send_message(struct run *run, uint16_t from, uint16_t to)
     printf("process %u sends to process %u: message %u\n", (unsigned)from, (unsigned)to, position);
 }
 
-/* A save of a process that has received the messages at these positions. */
-static void save_checkpoint(struct run *run, uint16_t process, const uint16_t *list, size_t list_length)
+/* A process receives the messages at these positions, and does not save them yet. */
+static void receive_messages(struct run *run, uint16_t process, const uint16_t *list, size_t list_length)
 {
     size_t k, written = 0;
+    uint32_t number = keeper_receive(table(run), run->length, process, list, list_length, other(run),
+                                     KEEPER_LARGEST_TABLE, &written);
+
+    stepped(run, "keeper_receive", number, written);
+    printf("process %u receives", (unsigned)process);
+    for (k = 0; k < list_length; k++)
+        printf("%s message %u", k == 0 ? "" : " and", (unsigned)list[k]);
+    printf(", not saved yet\n");
+}
+
+/* A save of a process that has received the messages at these positions, and others before. Of all that it
+   saves the receipt number is that of the checkpoint. */
+static void save_checkpoint(struct run *run, uint16_t process, const uint16_t *list, size_t list_length)
+{
+    size_t k, n = keeper_u16_at(table(run), 0), m = keeper_u16_at(table(run), 2), written = 0;
     unsigned checkpoint = keeper_u16_at(table(run), count_at(process));
+    const char *before = ", having received";
     uint32_t number = keeper_save(table(run), run->length, process, list, list_length, other(run),
                                   KEEPER_LARGEST_TABLE, &written);
 
     stepped(run, "keeper_save", number, written);
     printf("process %u saves: checkpoint %u", (unsigned)process, checkpoint);
-    for (k = 0; k < list_length; k++)
-        printf("%s %u", k == 0 ? ", having received" : " and", (unsigned)list[k]);
+    for (k = 0; k < m; k++) {
+        size_t receipt = receipt_at(n, m, k);
+        if (keeper_u16_at(table(run), receipt) != process || keeper_u16_at(table(run), receipt + 2) != checkpoint)
+            continue;
+        printf("%s %u", before, (unsigned)k);
+        before = " and";
+    }
     printf("\n");
+}
+
+/* Prints what the run would lose if a process failed now: it starts again from a checkpoint, and the others
+   go on as they are where they have received nothing that it would no longer have sent. */
+static void print_failure(const struct run *run, uint16_t failed)
+{
+    uint8_t line[KEEPER_LARGEST_LINE];
+    size_t written = 0;
+    unsigned process, n = keeper_u16_at(table(run), 0);
+
+    must("keeper_line_of_set", keeper_line_of_set(table(run), run->length, (uint32_t)1 << failed, line, sizeof line,
+                                                  &written));
+    printf("if process %u failed now:\n", (unsigned)failed);
+    for (process = 0; process < n; process++) {
+        unsigned number = keeper_u16_at(line, 2 * (size_t)process);
+        if (number == keeper_u16_at(table(run), count_at(process)))
+            printf("    process %u goes on as it is\n", process);
+        else
+            printf("    process %u goes back to its checkpoint %u\n", process, number);
+    }
 }
 
 static int is_kept_checkpoint(const uint8_t *sheet, unsigned process, unsigned number)
@@ -151,7 +192,7 @@ static void fall_back(struct run *run)
 int main(void)
 {
     static struct run run;
-    static const uint16_t first[] = {0}, later[] = {1, 2};
+    static const uint16_t first[] = {0}, second[] = {1}, third[] = {2};
     size_t written = 0;
     uint32_t number;
 
@@ -163,9 +204,13 @@ int main(void)
     print_sheet(&run);
 
     send_message(&run, 1, 0);
+    print_failure(&run, 1);
+    receive_messages(&run, 0, second, 1);
+    print_failure(&run, 1);
     save_checkpoint(&run, 1, NULL, 0);
+    print_failure(&run, 1);
     send_message(&run, 1, 0);
-    save_checkpoint(&run, 0, later, 2);
+    save_checkpoint(&run, 0, third, 1);
     print_sheet(&run);
 
     /* A step that can't be made: the number says why, and nothing is changed. */

@@ -10,7 +10,7 @@ use keeper::Refusal;
 
 use crate::chance::Chance;
 use crate::failure::Failure;
-use crate::run::Run;
+use crate::run::{Run, Which};
 use crate::store::Policy;
 use crate::tally::Tally;
 
@@ -79,7 +79,7 @@ enum Temper {
     /// Anything by chance.
     Mixed,
     /// A relay: the process named sends to another right after it saved, and that
-    /// one takes the message up, saves, and sends on. So each checkpoint depends on
+    /// one receives the message, saves, and sends on. So each checkpoint depends on
     /// a message that was sent after the latest checkpoint of another, and that
     /// checkpoint on a message before: where one is put back all of them are, like
     /// dominoes.
@@ -120,20 +120,27 @@ struct Sweep {
     steps: usize,
 }
 
-/// Of one run, by identity: what a sheet listed, and what a fall back read.
+/// Of one run, by identity: what a sheet listed, what a fall back read, and the
+/// messages that a sheet did not list though they were received and not saved.
 #[derive(Default)]
 struct Needs {
     listed: HashSet<u64>,
     read: HashSet<u64>,
+    unsaved: HashSet<u64>,
 }
 
 impl Course {
     fn run<P: Policy>(&mut self, name: u64, folder: &Path, policy: P) -> Result<(), Failure> {
         let processes = self.chance.between(2, 8);
-        self.fall_back_in = [25, 60, 150][self.chance.below(3)];
+        let prompt = !self.chance.once_in(3);
         let length = run_length(&mut self.chance);
+        // One that is to fill its table falls back less often.
+        self.fall_back_in = match length {
+            u64::MAX => [60, 150, 600][self.chance.below(3)],
+            _ => [25, 60, 150][self.chance.below(3)],
+        };
         let end = self.steps.min(self.tally.steps().saturating_add(length));
-        let mut run = Run::new(name, processes, folder, policy)?;
+        let mut run = Run::new(name, processes, prompt, folder, policy)?;
         self.tally.written += processes as u64;
         let mut needs = Needs::default();
         let mut sweep = Sweep {
@@ -152,6 +159,7 @@ impl Course {
             self.sweep(&mut run, &mut needs, &mut sweep)?;
         }
         self.make(&mut run, &mut needs, Act::FallBack)?;
+        self.tally.discarded += needs.unsaved.len() as u64;
         self.tally.listed += needs.listed.len() as u64;
         self.tally.needed += needs.listed.intersection(&needs.read).count() as u64;
         run.end()
@@ -184,7 +192,7 @@ impl Course {
     fn relay<P: Policy>(&mut self, at: u16, run: &Run<P>) -> Act {
         // A run of another number of processes may have begun meanwhile.
         let process = at % run.processes() as u16;
-        if run.has_taken(process) {
+        if run.has_received(process) {
             return Act::Save { process };
         }
         if run.has_just_saved(process) || !run.has_mail(process) {
@@ -217,12 +225,13 @@ impl Course {
                 self.tally.written += 1;
             }
             Act::Receive { process } => {
-                // In a relay the newest, else any.
-                let back = match self.temper {
-                    Temper::Relay { .. } => 0,
-                    Temper::Mixed => self.chance.below(1 << 16),
+                // In a relay the newest, else any, and now and then all at once.
+                let which = match self.temper {
+                    Temper::Relay { .. } => Which::Back(0),
+                    Temper::Mixed if self.chance.once_in(8) => Which::All,
+                    Temper::Mixed => Which::Back(self.chance.below(1 << 16)),
                 };
-                run.receive(process, back);
+                self.tally.received += run.receive(process, which)? as u64;
                 self.tally.receipts += 1;
             }
             Act::Save { process } => {
@@ -239,6 +248,7 @@ impl Course {
                 self.tally.restored += restored.checkpoints.len() as u64;
                 self.tally.older += restored.older;
                 self.tally.redelivered += restored.messages.len() as u64;
+                self.tally.unsaved += restored.unsaved;
                 needs.read.extend(restored.checkpoints);
                 needs.read.extend(restored.messages);
             }
@@ -265,8 +275,17 @@ impl Course {
             self.tally.most_files = self.tally.most_files.max(cleared.before as u64);
             sweep.steps = self.chance.between(1, 6);
         } else {
-            needs.listed.extend(run.make_sheet());
+            let listed = run.make_sheet();
+            needs.listed.extend(listed.kept);
+            needs.unsaved.extend(listed.unsaved);
             self.tally.sheets += 1;
+            run.check_receipts()?;
+            let set = self.chance.below(1 << run.processes()) as u32;
+            if let Some((go_on, go_back)) = run.try_failure(set)? {
+                self.tally.failures += 1;
+                self.tally.go_on += go_on;
+                self.tally.go_back += go_back;
+            }
             sweep.steps = self.chance.between(0, 4);
         }
         sweep.sheet_is_made = !sweep.sheet_is_made;

@@ -70,6 +70,42 @@ impl Record {
         &self.messages[&identity]
     }
 
+    /// By process, how far back it would have to go if these failed now: 0 where it
+    /// could go on as it is, 1 to its latest checkpoint, 2 to the one before, and so
+    /// on. Those that failed have lost what they did since their latest checkpoint;
+    /// any other goes back only where it has received what was not sent by then.
+    pub fn after_failure(&self, failed: &[bool]) -> Vec<usize> {
+        // Of each message, who sent it and who received it, and how far back that
+        // was: 0 since the latest checkpoint.
+        let (mut sent, mut received) = (HashMap::new(), Vec::new());
+        for (process, since) in self.since.iter().enumerate() {
+            let (mut did, mut back) = (Some(since), 0);
+            while let Some(part) = did {
+                sent.extend(part.sent.iter().map(|message| (*message, (process, back))));
+                received.extend(
+                    part.received
+                        .iter()
+                        .map(|message| (*message, process, back)),
+                );
+                did = part.checkpoint.map(|before| &self.checkpoints[&before].did);
+                back += 1;
+            }
+        }
+        let mut behind: Vec<usize> = failed.iter().map(|failed| usize::from(*failed)).collect();
+        let mut changed = true;
+        while changed {
+            changed = false;
+            for (message, receiver, back) in &received {
+                let (sender, sent_back) = sent[message];
+                if *back >= behind[*receiver] && sent_back < behind[sender] {
+                    behind[*receiver] = back + 1;
+                    changed = true;
+                }
+            }
+        }
+        behind
+    }
+
     /// The run fell back to these checkpoints, by process, and these messages
     /// were delivered again. Every message received by then must have been sent
     /// by then, and those sent and not received are the ones delivered again.
@@ -165,6 +201,26 @@ mod tests {
             told(&[5, 1], &[]),
             "process 0 was put back to checkpoint 5 of another"
         );
+    }
+
+    #[test]
+    fn what_a_failure_costs() {
+        // Message 3 was sent after the latest checkpoint of process 0, and is
+        // received in checkpoint 6.
+        assert_eq!(record().after_failure(&[false, false]), [0, 0]);
+        assert_eq!(record().after_failure(&[true, false]), [1, 2]);
+        assert_eq!(record().after_failure(&[false, true]), [0, 1]);
+        // Process 1 sends what process 0 has received and not saved.
+        let mut record = record();
+        record.sent(1, 7, b"");
+        assert_eq!(record.after_failure(&[false, true]), [0, 1]);
+        record.received(0, 7);
+        assert_eq!(record.after_failure(&[false, true]), [1, 2]);
+        record.saved(1, 8, b"");
+        assert_eq!(record.after_failure(&[false, true]), [0, 1]);
+        // It has saved what it sent, and process 0 what it sent: message 3.
+        record.saved(0, 9, b"");
+        assert_eq!(record.after_failure(&[true, true]), [1, 1]);
     }
 
     #[test]

@@ -1,5 +1,6 @@
 //! One run: its processes, its table, its files and the steps that it makes.
 
+use std::collections::HashMap;
 use std::path::Path;
 
 use keeper::Table;
@@ -11,6 +12,9 @@ use crate::store::{Cleared, Policy, Stock, Store, Thing};
 
 pub struct Run<P> {
     name: u64,
+    /// Whether the table is told of each receipt at once; else the next save of the
+    /// process lists what it has received.
+    prompt: bool,
     stock: Stock,
     processes: Vec<Process>,
     store: Store<P>,
@@ -21,11 +25,10 @@ pub struct Run<P> {
 #[derive(Default)]
 struct Process {
     state: State,
-    /// The messages that wait for it and that it has not taken up: identities and
-    /// contents, as they came.
+    /// The messages that it has not received: identities and contents, as they came.
     inbox: Vec<(u64, Vec<u8>)>,
-    /// The identities of those that it has taken up since its latest checkpoint.
-    taken: Vec<u64>,
+    /// The identities of those that it has received since its latest checkpoint.
+    received: Vec<u64>,
     /// Whether its last act was a save.
     has_just_saved: bool,
 }
@@ -48,6 +51,22 @@ pub struct Restored {
     pub undone: u64,
     /// The messages that were delivered again.
     pub messages: Vec<u64>,
+    /// Those of them that were received and not saved to the table.
+    pub unsaved: u64,
+}
+
+/// Which messages of its inbox a process receives.
+pub enum Which {
+    /// One: so many before the newest, counted round.
+    Back(usize),
+    All,
+}
+
+/// A keep sheet that was made, by identities.
+pub struct Listed {
+    pub kept: Vec<u64>,
+    /// The messages that are received and not saved to the table, and not kept.
+    pub unsaved: Vec<u64>,
 }
 
 impl State {
@@ -85,7 +104,7 @@ fn padded(head: String, digest: u64) -> Vec<u8> {
     contents
 }
 
-/// The event of taking up a message with these contents.
+/// The event of receiving a message with these contents.
 fn event_of(contents: &[u8]) -> u64 {
     contents
         .iter()
@@ -94,9 +113,16 @@ fn event_of(contents: &[u8]) -> u64 {
 
 impl<P: Policy> Run<P> {
     /// A run that begins, each process with its checkpoint 0, in a new folder.
-    pub fn new(name: u64, processes: usize, folder: &Path, policy: P) -> Result<Run<P>, Failure> {
+    pub fn new(
+        name: u64,
+        processes: usize,
+        prompt: bool,
+        folder: &Path,
+        policy: P,
+    ) -> Result<Run<P>, Failure> {
         let mut run = Run {
             name,
+            prompt,
             stock: Stock {
                 table: Table::new(processes)?,
                 checkpoints: vec![Vec::new(); processes],
@@ -119,14 +145,14 @@ impl<P: Policy> Run<P> {
         self.processes.len()
     }
 
-    /// Whether a message waits for the process that it has not taken up.
+    /// Whether there is a message for the process that it has not received.
     pub fn has_mail(&self, process: u16) -> bool {
         !self.processes[usize::from(process)].inbox.is_empty()
     }
 
-    /// Whether the process has taken up messages since its latest checkpoint.
-    pub fn has_taken(&self, process: u16) -> bool {
-        !self.processes[usize::from(process)].taken.is_empty()
+    /// Whether the process has received messages since its latest checkpoint.
+    pub fn has_received(&self, process: u16) -> bool {
+        !self.processes[usize::from(process)].received.is_empty()
     }
 
     pub fn has_just_saved(&self, process: u16) -> bool {
@@ -180,29 +206,52 @@ impl<P: Policy> Run<P> {
         Ok(())
     }
 
-    /// The process takes up a message of its inbox, which is not empty: so many
-    /// before the newest, counted round. To the table it is waiting still, until
-    /// the next save of the process lists it.
-    pub fn receive(&mut self, process: u16, back: usize) {
-        let receiver = &mut self.processes[usize::from(process)];
-        let newest = receiver.inbox.len() - 1;
-        let place = newest - back % receiver.inbox.len();
-        let (identity, contents) = receiver.inbox.remove(place);
-        receiver.state.absorbs(event_of(&contents));
-        receiver.has_just_saved = false;
-        receiver.taken.push(identity);
-        self.record.received(process, identity);
+    /// The positions of these messages, rising, as the lists of steps want them.
+    fn positions_of(&self, identities: &[u64]) -> Vec<u16> {
+        let messages = (0..).zip(&self.stock.messages);
+        messages
+            .filter(|(_, identity)| identities.contains(identity))
+            .map(|(position, _)| position)
+            .collect()
     }
 
+    /// The process receives messages of its inbox, which is not empty; how many. A
+    /// prompt run tells the table, to which they are unsaved then. To the table of
+    /// another run they wait still, until the next save of the process lists them.
+    pub fn receive(&mut self, process: u16, which: Which) -> Result<usize, Failure> {
+        let receiver = &mut self.processes[usize::from(process)];
+        let taken: Vec<(u64, Vec<u8>)> = match which {
+            Which::All => std::mem::take(&mut receiver.inbox),
+            Which::Back(back) => {
+                let newest = receiver.inbox.len() - 1;
+                let place = newest - back % receiver.inbox.len();
+                vec![receiver.inbox.remove(place)]
+            }
+        };
+        receiver.has_just_saved = false;
+        for (identity, contents) in &taken {
+            receiver.state.absorbs(event_of(contents));
+            receiver.received.push(*identity);
+            self.record.received(process, *identity);
+        }
+        if self.prompt {
+            let identities: Vec<u64> = taken.iter().map(|(identity, _)| *identity).collect();
+            let positions = self.positions_of(&identities);
+            self.stock.table.receive(process, &positions)?;
+        }
+        Ok(taken.len())
+    }
+
+    /// The process saves: with what it has received, which is listed where the table
+    /// was not told of it before.
     pub fn save(&mut self, process: u16) -> Result<(), Failure> {
         let saver = &mut self.processes[usize::from(process)];
-        let taken = std::mem::take(&mut saver.taken);
+        let received = std::mem::take(&mut saver.received);
         saver.has_just_saved = true;
-        let messages = (0..).zip(&self.stock.messages);
-        let positions: Vec<u16> = messages
-            .filter(|(_, identity)| taken.contains(identity))
-            .map(|(position, _)| position)
-            .collect();
+        let positions = match self.prompt {
+            true => Vec::new(),
+            false => self.positions_of(&received),
+        };
         let number = self.stock.table.count(process);
         let (identity, contents) = self.write_checkpoint(process, number)?;
         self.stock.table.save(process, &positions)?;
@@ -215,6 +264,7 @@ impl<P: Policy> Run<P> {
     /// all from the files.
     pub fn fall_back(&mut self) -> Result<Restored, Failure> {
         let mut restored = Restored::default();
+        let unsaved: Vec<u64> = self.unsaved().collect();
         let fell_back = self.stock.table.fall_back();
 
         // The identities go along. From here on, those of the stock are of what
@@ -245,6 +295,7 @@ impl<P: Policy> Run<P> {
                 let contents = self.store.read(thing, self.record.message(identity))?;
                 let inbox = &mut self.processes[usize::from(message.receiver)].inbox;
                 inbox.push((identity, contents));
+                restored.unsaved += u64::from(unsaved.contains(&identity));
                 restored.messages.push(identity);
             }
         }
@@ -253,12 +304,90 @@ impl<P: Policy> Run<P> {
         Ok(restored)
     }
 
-    /// Makes the keep sheet of the table as it is: the identities that it lists.
-    pub fn make_sheet(&mut self) -> Vec<u64> {
+    /// The messages that are received and not saved to the table.
+    fn unsaved(&self) -> impl Iterator<Item = u64> + '_ {
+        let messages = self.stock.table.messages().zip(&self.stock.messages);
+        messages
+            .filter(|(message, _)| message.is_unsaved())
+            .map(|(_, identity)| *identity)
+    }
+
+    /// Makes the keep sheet of the table as it is.
+    pub fn make_sheet(&mut self) -> Listed {
         let sheet = self.stock.table.keep_sheet();
         self.store.sheet_made(&self.stock, &sheet);
-        let listed = self.stock.listed(&sheet);
-        listed.map(|thing| thing.identity()).collect()
+        let kept: Vec<u64> = self
+            .stock
+            .listed(&sheet)
+            .map(|thing| thing.identity())
+            .collect();
+        let unsaved = self.unsaved().filter(|identity| !kept.contains(identity));
+        Listed {
+            unsaved: unsaved.collect(),
+            kept,
+        }
+    }
+
+    /// Whether the table says of each message what the processes know: that it
+    /// waits, is unsaved, or is saved.
+    pub fn check_receipts(&self) -> Result<(), Failure> {
+        let mut known: HashMap<u64, &str> = HashMap::new();
+        for process in &self.processes {
+            let waiting = process.inbox.iter().map(|(identity, _)| *identity);
+            known.extend(waiting.map(|identity| (identity, "waiting")));
+            let told = if self.prompt { "unsaved" } else { "waiting" };
+            known.extend(process.received.iter().map(|identity| (*identity, told)));
+        }
+        for (message, identity) in self.stock.table.messages().zip(&self.stock.messages) {
+            let told = match (message.is_waiting(), message.is_unsaved()) {
+                (true, _) => "waiting",
+                (_, true) => "unsaved",
+                _ => "saved",
+            };
+            let expected = known.get(identity).copied().unwrap_or("saved");
+            if told != expected {
+                return Err(Failure::NoState(format!(
+                    "message {identity} is {told} in the table, and {expected} by what the processes did"
+                )));
+            }
+        }
+        Ok(())
+    }
+
+    /// Which processes could go on as they are if those of the set failed now, and
+    /// how far back the others would have to go: the line of the set, which must be
+    /// the record's. How many could go on, and how many others had to go back. Of a
+    /// run that is not prompt the table does not know what was received, and there
+    /// is nothing to compare.
+    pub fn try_failure(&self, set: u32) -> Result<Option<(u64, u64)>, Failure> {
+        if !self.prompt {
+            return Ok(None);
+        }
+        let line = self.stock.table.line_of_set(set)?;
+        let counts = self.stock.table.counts();
+        let behind: Vec<usize> = counts
+            .zip(line.iter())
+            .map(|(count, number)| usize::from(count - number))
+            .collect();
+        let failed: Vec<bool> = (0..self.processes.len())
+            .map(|p| set >> p & 1 == 1)
+            .collect();
+        let expected = self.record.after_failure(&failed);
+        if behind != expected {
+            return Err(Failure::NoState(format!(
+                "where processes {failed:?} failed the line is {behind:?} behind, and by the record {expected:?}"
+            )));
+        }
+        let up = behind.iter().zip(&failed).filter(|(_, failed)| !**failed);
+        let (mut go_on, mut go_back) = (0, 0);
+        for (behind, _) in up {
+            *if *behind == 0 {
+                &mut go_on
+            } else {
+                &mut go_back
+            } += 1;
+        }
+        Ok(Some((go_on, go_back)))
     }
 
     /// Deletes what goes by the last sheet.
@@ -269,5 +398,88 @@ impl<P: Policy> Run<P> {
     /// The run is over, and its files go.
     pub fn end(self) -> Result<(), Failure> {
         self.store.remove()
+    }
+}
+
+#[cfg(test)]
+mod tests {
+    use super::*;
+    use crate::store::BySheet;
+
+    /// A run of two processes: 0 has sent two messages to 1, which has received both.
+    fn run(name: &str, prompt: bool) -> Run<BySheet> {
+        let folder = format!("discarding-run-{}-{name}", std::process::id());
+        let folder = std::env::temp_dir().join(folder);
+        let mut run = Run::new(1, 2, prompt, &folder, BySheet::default()).unwrap();
+        run.send(0, 1).unwrap();
+        run.send(0, 1).unwrap();
+        assert_eq!(run.receive(1, Which::All).unwrap(), 2);
+        run
+    }
+
+    #[test]
+    fn what_the_table_says_of_receipts_is_compared() {
+        let mut run = run("receipts", true);
+        run.check_receipts().unwrap();
+        assert_eq!(run.try_failure(0b01).unwrap(), Some((0, 1)));
+        assert_eq!(run.try_failure(0b10).unwrap(), Some((1, 0)));
+        assert_eq!(run.try_failure(0b11).unwrap(), Some((0, 0)));
+        // A table that was told of one receipt alone.
+        let told = run.stock.table.clone();
+        let mut table = Table::new(2).unwrap();
+        table.send(0, 1).unwrap();
+        table.send(0, 1).unwrap();
+        table.receive(1, &[0]).unwrap();
+        run.stock.table = table.clone();
+        let failure = run.check_receipts().unwrap_err().to_string();
+        assert!(
+            failure.ends_with("is waiting in the table, and unsaved by what the processes did"),
+            "{failure}"
+        );
+        // One that was told of none puts nobody back.
+        run.stock.table = Table::new(2).unwrap();
+        run.stock.table.send(0, 1).unwrap();
+        run.stock.table.send(0, 1).unwrap();
+        let failure = run.try_failure(0b01).unwrap_err().to_string();
+        assert!(
+            failure.ends_with("the line is [1, 0] behind, and by the record [1, 1]"),
+            "{failure}"
+        );
+        // One that took a checkpoint of its own.
+        run.stock.table = told.clone();
+        run.stock.table.save(1, &[]).unwrap();
+        let failure = run.check_receipts().unwrap_err().to_string();
+        assert!(failure.contains("is saved in the table"), "{failure}");
+        run.stock.table = told;
+        run.check_receipts().unwrap();
+        run.end().unwrap();
+    }
+
+    #[test]
+    fn a_save_saves_what_was_received() {
+        for prompt in [true, false] {
+            let mut run = run(&format!("saves-{prompt}"), prompt);
+            let is_unsaved = |run: &Run<BySheet>| run.unsaved().count();
+            assert_eq!(is_unsaved(&run), if prompt { 2 } else { 0 });
+            run.check_receipts().unwrap();
+            run.save(1).unwrap();
+            assert_eq!(is_unsaved(&run), 0);
+            assert!(run.stock.table.messages().all(|message| message.is_saved()));
+            run.check_receipts().unwrap();
+            // The table of a run that is not prompt can't tell what a failure costs.
+            assert_eq!(run.try_failure(0b01).unwrap().is_some(), prompt);
+            run.end().unwrap();
+        }
+    }
+
+    #[test]
+    fn a_fall_back_delivers_again_what_was_not_saved() {
+        let mut run = run("delivers", true);
+        run.save(0).unwrap();
+        let restored = run.fall_back().unwrap();
+        assert_eq!((restored.messages.len(), restored.unsaved), (2, 2));
+        assert_eq!(run.unsaved().count(), 0);
+        run.check_receipts().unwrap();
+        run.end().unwrap();
     }
 }

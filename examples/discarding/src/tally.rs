@@ -10,6 +10,8 @@ pub struct Tally {
     pub sends: u64,
     pub saves: u64,
     pub receipts: u64,
+    /// Messages that the receipts were of.
+    pub received: u64,
     pub fall_backs: u64,
     /// Fall backs that put a process back to a checkpoint older than its latest.
     pub deep: u64,
@@ -19,8 +21,16 @@ pub struct Tally {
     /// Checkpoints read back, and those older than the latest of their process.
     pub restored: u64,
     pub older: u64,
-    /// Messages delivered again.
+    /// Messages delivered again, and those of them that were received and not saved.
     pub redelivered: u64,
+    pub unsaved: u64,
+    /// Messages that a sheet did not list though they were received and not saved.
+    pub discarded: u64,
+    /// Sets of processes whose failure was tried; of the other processes, those that
+    /// could go on as they were, and those that had to go back.
+    pub failures: u64,
+    pub go_on: u64,
+    pub go_back: u64,
     pub sheets: u64,
     pub written: u64,
     pub deleted: u64,
@@ -42,6 +52,7 @@ impl Tally {
         self.sends += other.sends;
         self.saves += other.saves;
         self.receipts += other.receipts;
+        self.received += other.received;
         self.fall_backs += other.fall_backs;
         self.deep += other.deep;
         self.undone += other.undone;
@@ -49,6 +60,11 @@ impl Tally {
         self.restored += other.restored;
         self.older += other.older;
         self.redelivered += other.redelivered;
+        self.unsaved += other.unsaved;
+        self.discarded += other.discarded;
+        self.failures += other.failures;
+        self.go_on += other.go_on;
+        self.go_back += other.go_back;
         self.sheets += other.sheets;
         self.written += other.written;
         self.deleted += other.deleted;
@@ -67,13 +83,14 @@ impl fmt::Display for Tally {
     fn fmt(&self, to: &mut fmt::Formatter<'_>) -> fmt::Result {
         writeln!(
             to,
-            "{} steps in {} runs ({} ended by a full table): {} sends, {} saves, {} receipts, {} fall backs",
+            "{} steps in {} runs ({} ended by a full table): {} sends, {} saves, {} receipts of {} messages, {} fall backs",
             self.steps(),
             self.runs,
             self.full,
             self.sends,
             self.saves,
             self.receipts,
+            self.received,
             self.fall_backs
         )?;
         writeln!(
@@ -89,6 +106,16 @@ impl fmt::Display for Tally {
             share(self.deep, self.fall_backs),
             self.undone,
             self.most_undone
+        )?;
+        writeln!(
+            to,
+            "{} of the messages redelivered were received and not saved; {} messages could be discarded before they were saved",
+            self.unsaved, self.discarded
+        )?;
+        writeln!(
+            to,
+            "{} failures of some processes tried: of the others {} could go on as they were, and {} had to go back",
+            self.failures, self.go_on, self.go_back
         )?;
         writeln!(
             to,

@@ -69,7 +69,13 @@ fn the_real_policy_passes() {
             tally.deep * 2 > tally.fall_backs && tally.most_undone > 20,
             "{tally}"
         );
-        assert!(tally.redelivered > 2_000, "{tally}");
+        assert!(tally.redelivered > 1_000, "{tally}");
+        // What was received and not saved: delivered again, or discarded before.
+        assert!(tally.unsaved > 100 && tally.discarded > 100, "{tally}");
+        assert!(
+            tally.failures > 500 && tally.go_on > 500 && tally.go_back > 500,
+            "{tally}"
+        );
         sum.add(&tally);
     }
     assert!(sum.full > 0, "no run was ended by a full table:\n{sum}");
@@ -128,6 +134,13 @@ fn is_waiting(stock: &Stock, thing: Thing) -> bool {
     match thing {
         Thing::Checkpoint { .. } => false,
         Thing::Message { position, .. } => stock.table.message(position).unwrap().is_waiting(),
+    }
+}
+
+fn is_unsaved(stock: &Stock, thing: Thing) -> bool {
+    match thing {
+        Thing::Checkpoint { .. } => false,
+        Thing::Message { position, .. } => stock.table.message(position).unwrap().is_unsaved(),
     }
 }
 
@@ -234,6 +247,18 @@ fn one_message_that_does_not_wait_is_not_kept() {
     is_found("all but a received message", false, || {
         one_of(|stock, thing| !is_checkpoint(thing) && !is_waiting(stock, thing))
     });
+}
+
+#[test]
+fn messages_that_are_not_saved_yet_are_not_kept() {
+    is_found("none that is unsaved", false, || {
+        forgets(|stock: &Stock, listed: &[Thing]| all(stock, listed, is_unsaved))
+    });
+}
+
+#[test]
+fn one_message_that_is_not_saved_yet_is_not_kept() {
+    is_found("all but an unsaved message", false, || one_of(is_unsaved));
 }
 
 /// What is newer than the sheet goes too, since the sheet does not list it.

@@ -39,7 +39,7 @@ fn a_seed_says_what_it_did_and_leaves_no_files() {
     let (status, output, errors) = texts(&first);
     assert_eq!((status, errors.as_str()), (Some(0), ""));
     assert!(output.starts_with("seed 7: 700 steps in "), "{output}");
-    assert_eq!(output.lines().count(), 5);
+    assert_eq!(output.lines().count(), 7);
     assert!(is_empty(&folder));
     let again = discarding(&["--seed", "7", "--folder", named, "--steps", "700"]);
     assert_eq!(texts(&again).1, output);
