@@ -40,32 +40,34 @@ struct implementation {
     __typeof__(keeper_fall_back) *fall_back;
     __typeof__(keeper_send) *send;
     __typeof__(keeper_save) *save;
+    __typeof__(keeper_receive) *receive;
 };
 
 static const struct implementation implementations[IMPLEMENTATIONS] = {
-    {"archive", keeper_keep_sheet, keeper_recovery_line, keeper_line_under, keeper_marked_line, keeper_fall_back, keeper_send, keeper_save},
-    {"C", plain_keep_sheet, plain_recovery_line, plain_line_under, plain_marked_line, plain_fall_back, plain_send, plain_save},
-    {"C-without-checks", bare_keep_sheet, bare_recovery_line, bare_line_under, bare_marked_line, bare_fall_back, bare_send, bare_save},
-    {"Rust", rust_keep_sheet, rust_recovery_line, rust_line_under, rust_marked_line, rust_fall_back, rust_send, rust_save},
-    {"work-list-marks", marks_keep_sheet, marks_recovery_line, marks_line_under, NULL, marks_fall_back, NULL, NULL},
-    {"work-list-ranges", ranges_keep_sheet, ranges_recovery_line, ranges_line_under, NULL, ranges_fall_back, NULL, NULL},
-    {"archive-line-under", NULL, NULL, keeper_line_under, NULL, NULL, NULL, NULL},
+    {"archive", keeper_keep_sheet, keeper_recovery_line, keeper_line_under, keeper_marked_line, keeper_fall_back, keeper_send, keeper_save, keeper_receive},
+    {"C", plain_keep_sheet, plain_recovery_line, plain_line_under, plain_marked_line, plain_fall_back, plain_send, plain_save, plain_receive},
+    {"C-without-checks", bare_keep_sheet, bare_recovery_line, bare_line_under, bare_marked_line, bare_fall_back, bare_send, bare_save, bare_receive},
+    {"Rust", rust_keep_sheet, rust_recovery_line, rust_line_under, rust_marked_line, rust_fall_back, rust_send, rust_save, rust_receive},
+    {"work-list-marks", marks_keep_sheet, marks_recovery_line, marks_line_under, NULL, marks_fall_back, NULL, NULL, NULL},
+    {"work-list-ranges", ranges_keep_sheet, ranges_recovery_line, ranges_line_under, NULL, ranges_fall_back, NULL, NULL, NULL},
+    {"archive-line-under", NULL, NULL, keeper_line_under, NULL, NULL, NULL, NULL, NULL},
 };
 
 /* A line under ceilings twice: under half of each count, and under the counts. By marking too; beside that, an
    implementation without the call finds the line under the same ceilings in its own way. */
 enum {
     SHEET_CALL, LINE_CALL, HALVES_CALL, COUNTS_CALL, MARKED_HALVES_CALL, MARKED_COUNTS_CALL, FALL_BACK_CALL, SEND_CALL,
-    SAVE_CALL, CALLS
+    SAVE_CALL, RECEIVE_CALL, CALLS
 };
 
 static const char *const call_names[CALLS] = {
     "keep-sheet", "recovery-line", "line-under-halves", "line-under-counts", "marked-line-under-halves",
-    "marked-line-under-counts", "fall-back", "send", "save",
+    "marked-line-under-counts", "fall-back", "send", "save", "receive",
 };
 static const char *const call_titles[CALLS] = {
     "Keep sheet", "Recovery line", "Line under half of each count", "Line under the counts",
     "Line by marking, under half of each count", "Line by marking, under the counts", "Fall back", "Send", "Save",
+    "Receipt",
 };
 
 /* What Figure 3 on networkx is asked for, of the calls that it has. */
@@ -101,7 +103,7 @@ struct row {
        two pages can take three times as long, and no row is to have that by chance. */
     _Alignas(PAGE) uint8_t table[KEEPER_LARGEST_TABLE];
     _Alignas(PAGE) uint8_t shorter[KEEPER_LARGEST_TABLE];
-    size_t length, shorter_length, n, m;
+    size_t length, shorter_length, n, m, unsaved;
     uint16_t halves[KEEPER_MOST_PROCESSES], counts[KEEPER_MOST_PROCESSES];
     uint16_t saver, list[KEEPER_MOST_MESSAGES];
     size_t entries;
@@ -172,8 +174,10 @@ static uint32_t call(const struct row *row, int which, int call)
         return by->fall_back(row->table, row->length, answer, sizeof answer, &written);
     case SEND_CALL:
         return by->send(row->shorter, row->shorter_length, 0, 1, answer, sizeof answer, &written);
-    default:
+    case SAVE_CALL:
         return by->save(row->table, row->length, row->saver, row->list, row->entries, answer, sizeof answer, &written);
+    default:
+        return by->receive(row->table, row->length, row->saver, row->list, row->entries, answer, sizeof answer, &written);
     }
 }
 
@@ -215,7 +219,9 @@ static void read_table(struct row *row)
     }
     for (size_t p = 0; p < row->n; p++)
         row->propagating += row->propagates[p];
-    /* For a save: the process that most messages wait for, and all of these. */
+    for (size_t k = 0; k < row->m; k++)
+        row->unsaved += number_at(table + receipts + 4 * k + 2) == row->counts[number_at(table + receipts + 4 * k)];
+    /* For a save and a receipt: the process that most messages wait for, and all of these. */
     size_t waiting[KEEPER_MOST_PROCESSES] = {0};
     for (size_t k = 0; k < row->m; k++)
         if (number_at(table + receipts + 4 * k + 2) == 0)
@@ -459,21 +465,21 @@ static void take_together(char **paths, int places)
 enum { PAINTED = 32768 };
 
 enum {
-    CHECK_EXPORT, LINE_EXPORT, SET_EXPORT, UNDER_EXPORT, MARKED_EXPORT, SEND_EXPORT, SAVE_EXPORT, FALL_BACK_EXPORT, SHEET_EXPORT,
-    LISTING_EXPORT, TABLE_CHECK_EXPORT, PROCESSES_EXPORT, MESSAGES_EXPORT, COUNT_EXPORT, SENDER_EXPORT, SENT_EXPORT, RECEIVER_EXPORT,
-    RECEIVED_EXPORT, EXPORTS
+    CHECK_EXPORT, LINE_EXPORT, SET_EXPORT, UNDER_EXPORT, MARKED_EXPORT, SEND_EXPORT, SAVE_EXPORT, RECEIVE_EXPORT, FALL_BACK_EXPORT,
+    SHEET_EXPORT, LISTING_EXPORT, TABLE_CHECK_EXPORT, PROCESSES_EXPORT, MESSAGES_EXPORT, COUNT_EXPORT, SENDER_EXPORT, SENT_EXPORT,
+    RECEIVER_EXPORT, RECEIVED_EXPORT, EXPORTS
 };
 
 static const char *const export_names[EXPORTS] = {
     "keeper_check_table", "keeper_recovery_line", "keeper_line_of_set", "keeper_line_under", "keeper_marked_line",
-    "keeper_send", "keeper_save", "keeper_fall_back", "keeper_keep_sheet", "keeper_listing", "run_table_check",
+    "keeper_send", "keeper_save", "keeper_receive", "keeper_fall_back", "keeper_keep_sheet", "keeper_listing", "run_table_check",
     "run_table_processes", "run_table_messages", "run_table_count", "run_table_sender", "run_table_sent",
     "run_table_receiver", "run_table_received",
 };
 
 static uint8_t listing[KEEPER_LISTING_ROOM];
 
-/* The arguments of a call: the ceilings of a line, of a save its process and list, of a lookup its index. */
+/* The arguments of a call: the ceilings of a line, the process and list of a save or receipt, the index of a lookup. */
 struct arguments {
     const uint8_t *table;
     size_t length;
@@ -501,6 +507,7 @@ __attribute__((noinline)) static size_t stack_of(int export, const struct argume
     case MARKED_EXPORT: sink = keeper_marked_line(table, length, with->ceilings, with->of_ceilings, marks, sizeof marks, answer, sizeof answer, &written); break;
     case SEND_EXPORT: sink = keeper_send(table, length, 0, 1, answer, sizeof answer, &written); break;
     case SAVE_EXPORT: sink = keeper_save(table, length, with->process, with->list, with->entries, answer, sizeof answer, &written); break;
+    case RECEIVE_EXPORT: sink = keeper_receive(table, length, with->process, with->list, with->entries, answer, sizeof answer, &written); break;
     case FALL_BACK_EXPORT: sink = keeper_fall_back(table, length, answer, sizeof answer, &written); break;
     case SHEET_EXPORT: sink = keeper_keep_sheet(table, length, scratch, sizeof scratch / 2, answer, sizeof answer, &written); break;
     case LISTING_EXPORT: sink = keeper_listing(table, length, listing, sizeof listing, &written); break;
@@ -682,12 +689,12 @@ static const char *brief(double value)
 
 static void say_tables(void)
 {
-    SAY("| table | N | M | passes a line | passes, recovery line | passes, under halves | rounds, marking | passes, marking | K | Q | K, traditional | Q, traditional |\n");
-    SAY("|---|---|---|---|---|---|---|---|---|---|---|---|\n");
+    SAY("| table | N | M | unsaved | passes a line | passes, recovery line | passes, under halves | rounds, marking | passes, marking | K | Q | K, traditional | Q, traditional |\n");
+    SAY("|---|---|---|---|---|---|---|---|---|---|---|---|---|\n");
     for (size_t r = 0; r < row_count; r++) {
         const struct row *row = &rows[r];
-        SAY("| %s | %zu | %zu | %.1f | %.0f | %.0f | %.0f | %.0f | %zu | %zu | %zu | %zu |\n", row->label, row->n, row->m,
-            row->passes_of_holders, row->passes_of_recovery, row->passes_of_halves, row->rounds_of_marking, row->passes_of_marking,
+        SAY("| %s | %zu | %zu | %zu | %.1f | %.0f | %.0f | %.0f | %.0f | %zu | %zu | %zu | %zu |\n", row->label, row->n, row->m,
+            row->unsaved, row->passes_of_holders, row->passes_of_recovery, row->passes_of_halves, row->rounds_of_marking, row->passes_of_marking,
             row->kept, row->logged, row->kept_before, row->logged_before);
     }
 }
@@ -868,6 +875,7 @@ static double counted_marked_counts(const struct row *row) { return counted(row,
 static double counted_fall_back(const struct row *row) { return counted(row, FALL_BACK_CALL); }
 static double counted_send(const struct row *row) { return counted(row, SEND_CALL); }
 static double counted_save(const struct row *row) { return counted(row, SAVE_CALL); }
+static double counted_receive(const struct row *row) { return counted(row, RECEIVE_CALL); }
 
 /* Figures that the text takes, by name. */
 static const struct {
@@ -899,6 +907,7 @@ static const struct {
     {"instructions-fall-back", counted_fall_back, ""},
     {"instructions-send", counted_send, ""},
     {"instructions-save", counted_save, ""},
+    {"instructions-receive", counted_receive, ""},
 };
 
 /* A line of text, each {name} in it replaced by the figure's range in this run. */

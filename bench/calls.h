@@ -16,6 +16,7 @@ AS_KEEPER(plain, line_under);
 AS_KEEPER(plain, marked_line);
 AS_KEEPER(plain, send);
 AS_KEEPER(plain, save);
+AS_KEEPER(plain, receive);
 AS_KEEPER(plain, fall_back);
 AS_KEEPER(plain, keep_sheet);
 
@@ -25,6 +26,7 @@ AS_KEEPER(bare, line_under);
 AS_KEEPER(bare, marked_line);
 AS_KEEPER(bare, send);
 AS_KEEPER(bare, save);
+AS_KEEPER(bare, receive);
 AS_KEEPER(bare, fall_back);
 AS_KEEPER(bare, keep_sheet);
 
@@ -35,6 +37,7 @@ AS_KEEPER(rust, line_under);
 AS_KEEPER(rust, marked_line);
 AS_KEEPER(rust, send);
 AS_KEEPER(rust, save);
+AS_KEEPER(rust, receive);
 AS_KEEPER(rust, fall_back);
 AS_KEEPER(rust, keep_sheet);
 

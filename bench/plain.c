@@ -131,9 +131,9 @@ static inline uint32_t do_send(const uint8_t *table, uint16_t from, uint16_t to,
     return 0;
 }
 
-static inline uint32_t do_save(const uint8_t *table, uint16_t process, const uint16_t *list, size_t entries, uint8_t *answer, size_t room, size_t *written)
+/* The process and the list of a save or a receipt. */
+static inline uint32_t check_list(struct parts t, uint16_t process, const uint16_t *list, size_t entries)
 {
-    struct parts t = parts_of(table);
     if (process >= t.n)
         return KEEPER_UNKNOWN_PROCESS;
     for (size_t a = 0; a < entries; a++) {
@@ -143,17 +143,46 @@ static inline uint32_t do_save(const uint8_t *table, uint16_t process, const uin
         if (u16_at(t.receipts + 4 * k) != process || u16_at(t.receipts + 4 * k + 2) != 0)
             return KEEPER_BAD_LIST;
     }
+    return 0;
+}
+
+/* The table with another receipt number for the listed messages. */
+static inline void put_receipts(struct parts t, const uint8_t *table, const uint16_t *list, size_t entries, uint16_t number, uint8_t *answer)
+{
+    memcpy(answer, table, 4 + 2 * t.n + 8 * t.m);
+    uint8_t *receipts = answer + 4 + 2 * t.n + 4 * t.m;
+    for (size_t a = 0; a < entries; a++)
+        put_u16(receipts + 4 * list[a] + 2, number);
+}
+
+static inline uint32_t do_save(const uint8_t *table, uint16_t process, const uint16_t *list, size_t entries, uint8_t *answer, size_t room, size_t *written)
+{
+    struct parts t = parts_of(table);
+    uint32_t refusal = check_list(t, process, list, entries);
+    if (refusal != 0)
+        return refusal;
     uint16_t count = u16_at(t.counts + 2 * process);
     if (count >= KEEPER_MOST_CHECKPOINTS)
         return KEEPER_TABLE_FULL;
     size_t size = 4 + 2 * t.n + 8 * t.m;
     if (room < size)
         return KEEPER_ANSWER_TOO_SHORT;
-    memcpy(answer, table, size);
+    put_receipts(t, table, list, entries, count, answer);
     put_u16(answer + 4 + 2 * process, (uint16_t)(count + 1));
-    uint8_t *receipts = answer + 4 + 2 * t.n + 4 * t.m;
-    for (size_t a = 0; a < entries; a++)
-        put_u16(receipts + 4 * list[a] + 2, count);
+    *written = size;
+    return 0;
+}
+
+static inline uint32_t do_receive(const uint8_t *table, uint16_t process, const uint16_t *list, size_t entries, uint8_t *answer, size_t room, size_t *written)
+{
+    struct parts t = parts_of(table);
+    uint32_t refusal = check_list(t, process, list, entries);
+    if (refusal != 0)
+        return refusal;
+    size_t size = 4 + 2 * t.n + 8 * t.m;
+    if (room < size)
+        return KEEPER_ANSWER_TOO_SHORT;
+    put_receipts(t, table, list, entries, u16_at(t.counts + 2 * process), answer);
     *written = size;
     return 0;
 }
@@ -196,6 +225,8 @@ static inline uint32_t do_keep_sheet(const uint8_t *table, uint16_t *scratch, si
     { HOW(do_send(table, from, to, answer, room, written)); } \
     uint32_t prefix##_save(const uint8_t *table, size_t length, uint16_t process, const uint16_t *list, size_t entries, uint8_t *answer, size_t room, size_t *written) \
     { HOW(do_save(table, process, list, entries, answer, room, written)); } \
+    uint32_t prefix##_receive(const uint8_t *table, size_t length, uint16_t process, const uint16_t *list, size_t entries, uint8_t *answer, size_t room, size_t *written) \
+    { HOW(do_receive(table, process, list, entries, answer, room, written)); } \
     uint32_t prefix##_fall_back(const uint8_t *table, size_t length, uint8_t *answer, size_t room, size_t *written) \
     { HOW(do_fall_back(table, answer, room, written)); } \
     uint32_t prefix##_keep_sheet(const uint8_t *table, size_t length, uint16_t *scratch, size_t numbers, uint8_t *answer, size_t room, size_t *written) \

@@ -47,6 +47,10 @@ row 'clustered' 1 clustered 1 2 4096
 row 'clustered' 1 clustered 1 8 4096
 row 'clustered' 1 clustered 1 32 512
 row 'clustered' 1 clustered 1 32 4096
+row 'random history with receipts' 1 history-unsaved 6 8 4096
+row 'random history with receipts' 1 history-unsaved 6 32 4096
+row 'clustered, with receipts' 1 clustered-unsaved 1 8 4096
+row 'clustered, with receipts' 1 clustered-unsaved 1 32 4096
 row 'domino, time order' 1 domino-time 1 2 512
 row 'domino, time order' 1 domino-time 1 2 4096
 row 'domino, reverse' 0 domino-reverse 1 2 4096

@@ -53,7 +53,7 @@ static inline enum fault fault_at(struct parts t, size_t k)
         return TO_ITS_SENDER;
     if (u16_at(t.sends + 4 * k + 2) >= u16_at(t.counts + 2 * sender))
         return SEND_TOO_HIGH;
-    if (u16_at(t.receipts + 4 * k + 2) >= u16_at(t.counts + 2 * receiver))
+    if (u16_at(t.receipts + 4 * k + 2) > u16_at(t.counts + 2 * receiver))
         return RECEIPT_TOO_HIGH;
     return NO_FAULT;
 }

@@ -122,7 +122,7 @@ fn check(table: &[u8]) -> u32 {
             Fault::ToItsSender
         } else if sent >= counts[j] {
             Fault::SendTooHigh
-        } else if received >= counts[i] {
+        } else if received > counts[i] {
             Fault::ReceiptTooHigh
         } else {
             Fault::None
@@ -345,12 +345,8 @@ fn send(table: &[u8], from: u16, to: u16, answer: &mut [u8], written: &mut usize
     0
 }
 
-fn save(table: &[u8], process: u16, list: &[u16], answer: &mut [u8], written: &mut usize) -> u32 {
-    let refusal = check(table);
-    if refusal != 0 {
-        return refusal;
-    }
-    let parts = Parts::of(table);
+/// The process and the list of a save or a receipt.
+fn check_list(parts: &Parts, process: u16, list: &[u16]) -> u32 {
     if usize::from(process) >= parts.n {
         return 10;
     }
@@ -362,6 +358,28 @@ fn save(table: &[u8], process: u16, list: &[u16], answer: &mut [u8], written: &m
     {
         return 13;
     }
+    0
+}
+
+/// The table with another receipt number for the listed messages.
+fn put_receipts(parts: &Parts, table: &[u8], list: &[u16], number: u16, answer: &mut [u8]) {
+    answer[..table.len()].copy_from_slice(table);
+    let receipts = &mut answer[4 + 2 * parts.n + 4 * parts.m..table.len()];
+    for &k in list {
+        put_u16(receipts, 4 * usize::from(k) + 2, number);
+    }
+}
+
+fn save(table: &[u8], process: u16, list: &[u16], answer: &mut [u8], written: &mut usize) -> u32 {
+    let refusal = check(table);
+    if refusal != 0 {
+        return refusal;
+    }
+    let parts = Parts::of(table);
+    let refusal = check_list(&parts, process, list);
+    if refusal != 0 {
+        return refusal;
+    }
     let count = parts.count(usize::from(process));
     if count >= MOST_STATES {
         return 14;
@@ -370,12 +388,34 @@ fn save(table: &[u8], process: u16, list: &[u16], answer: &mut [u8], written: &m
     if answer.len() < size {
         return 16;
     }
-    answer[..size].copy_from_slice(table);
+    put_receipts(&parts, table, list, count, answer);
     put_u16(answer, 4 + 2 * usize::from(process), count + 1);
-    let receipts = &mut answer[4 + 2 * parts.n + 4 * parts.m..size];
-    for &k in list {
-        put_u16(receipts, 4 * usize::from(k) + 2, count);
+    *written = size;
+    0
+}
+
+fn receive(
+    table: &[u8],
+    process: u16,
+    list: &[u16],
+    answer: &mut [u8],
+    written: &mut usize,
+) -> u32 {
+    let refusal = check(table);
+    if refusal != 0 {
+        return refusal;
     }
+    let parts = Parts::of(table);
+    let refusal = check_list(&parts, process, list);
+    if refusal != 0 {
+        return refusal;
+    }
+    let size = table.len();
+    if answer.len() < size {
+        return 16;
+    }
+    let count = parts.count(usize::from(process));
+    put_receipts(&parts, table, list, count, answer);
     *written = size;
     0
 }
@@ -596,6 +636,28 @@ pub unsafe extern "C" fn rust_save(
     written: &mut usize,
 ) -> u32 {
     save(
+        from_raw_parts(table, length),
+        process,
+        from_raw_parts(list, entries),
+        from_raw_parts_mut(answer, room),
+        written,
+    )
+}
+
+/// # Safety
+/// As above.
+#[no_mangle]
+pub unsafe extern "C" fn rust_receive(
+    table: *const u8,
+    length: usize,
+    process: u16,
+    list: *const u16,
+    entries: usize,
+    answer: *mut u8,
+    room: usize,
+    written: &mut usize,
+) -> u32 {
+    receive(
         from_raw_parts(table, length),
         process,
         from_raw_parts(list, entries),
