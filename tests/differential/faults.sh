@@ -46,7 +46,7 @@ verdict() {
 
 # The verdict of small scopes: found where one of them finds something.
 of_scopes() {
-    for scope in 'lines 3 2 2' 'under 3 2 2' 'marked 3 2 2' 'listing 8 1'; do
+    for scope in 'lines 3 2 2' 'under 3 2 2' 'marked 3 2 2' 'steps 3 2 2' 'listing 8 1'; do
         said=$(verdict "$work/cargo/release/scopes" $scope)
         test $said = agrees || break
     done
@@ -67,7 +67,7 @@ while IFS='|' read -r name edit; do
     by_replay=$(verdict "$work/replay" fuzz/corpus/*)
     by_calls=$(verdict "$work/cargo/release/calls" "$calls")
     after=$(sed -n 's/^FAILED after \([0-9]*\) calls.*/\1/p' "$work/log")
-    echo "$name: calls: $by_calls${after:+ after $after}; scopes lines, under and marked 3 2 2, listing 8 1: $by_scopes; replay: $by_replay"
+    echo "$name: calls: $by_calls${after:+ after $after}; scopes lines, under, marked and steps 3 2 2, listing 8 1: $by_scopes; replay: $by_replay"
     test "$by_calls" = found || missed=$((missed + 1))
 done <"$work/faults.txt"
 echo "$number faults, $missed not found by the differential tests"
