@@ -381,7 +381,7 @@ uint32_t MODEL(send)(const uint8_t *table, size_t length, uint16_t from, uint16_
 
 /* The list of a save or a receipt: whether it is strictly rising and of messages that wait for the process. One that
    was received and is not saved yet has the count, and waits no more. */
-static bool waits_whole(const struct run *run, unsigned process, const uint16_t *list, size_t entries)
+static bool all_wait(const struct run *run, unsigned process, const uint16_t *list, size_t entries)
 {
     for (size_t at = 0; at < entries; at++) {
         if (list[at] >= run->m)
@@ -412,7 +412,7 @@ uint32_t MODEL(save)(const uint8_t *table, size_t length, uint16_t process, cons
         return refusal;
     if (process >= run.n)
         return 10;
-    if (!waits_whole(&run, process, list, entries))
+    if (!all_wait(&run, process, list, entries))
         return 13;
     if (run.count[process] == MOST_STATES)
         return 14;
@@ -430,7 +430,7 @@ uint32_t MODEL(receive)(const uint8_t *table, size_t length, uint16_t process, c
         return refusal;
     if (process >= run.n)
         return 10;
-    if (!waits_whole(&run, process, list, entries))
+    if (!all_wait(&run, process, list, entries))
         return 13;
     receive_listed(&run, process, list, entries);
     return answer_run(&run, answer, room, written);
