@@ -47,6 +47,11 @@ pub enum Call {
         list: Vec<u16>,
         room: usize,
     },
+    Receive {
+        process: u16,
+        list: Vec<u16>,
+        room: usize,
+    },
     FallBack {
         room: usize,
     },
@@ -60,7 +65,7 @@ pub enum Call {
 }
 
 /// The names of the calls, in the order of the report.
-pub const NAMES: [&str; 10] = [
+pub const NAMES: [&str; 11] = [
     "check_table",
     "recovery_line",
     "line_of_set",
@@ -68,6 +73,7 @@ pub const NAMES: [&str; 10] = [
     "marked_line",
     "send",
     "save",
+    "receive",
     "fall_back",
     "keep_sheet",
     "listing",
@@ -111,9 +117,10 @@ impl Call {
             Call::MarkedLine { .. } => 4,
             Call::Send { .. } => 5,
             Call::Save { .. } => 6,
-            Call::FallBack { .. } => 7,
-            Call::KeepSheet { .. } => 8,
-            Call::Listing { .. } => 9,
+            Call::Receive { .. } => 7,
+            Call::FallBack { .. } => 8,
+            Call::KeepSheet { .. } => 9,
+            Call::Listing { .. } => 10,
         }
     }
 
@@ -127,6 +134,7 @@ impl Call {
             | Call::MarkedLine { room, .. }
             | Call::Send { room, .. }
             | Call::Save { room, .. }
+            | Call::Receive { room, .. }
             | Call::FallBack { room }
             | Call::KeepSheet { room, .. }
             | Call::Listing { room } => room,
@@ -144,6 +152,7 @@ impl Call {
             | Call::MarkedLine { room, .. }
             | Call::Send { room, .. }
             | Call::Save { room, .. }
+            | Call::Receive { room, .. }
             | Call::FallBack { room }
             | Call::KeepSheet { room, .. }
             | Call::Listing { room } => *room = new,
@@ -167,10 +176,10 @@ impl Call {
         }
     }
 
-    /// A save's list, or one of ceilings.
+    /// The list of a save or receipt, or one of ceilings.
     fn list(&self) -> &[u16] {
         match self {
-            Call::Save { list, .. } => list,
+            Call::Save { list, .. } | Call::Receive { list, .. } => list,
             Call::LineUnder { ceilings, .. } | Call::MarkedLine { ceilings, .. } => ceilings,
             _ => &[],
         }
@@ -202,6 +211,11 @@ impl Call {
                 list,
                 room,
             } => reference::save(table, *process, list, *room),
+            Call::Receive {
+                process,
+                list,
+                room,
+            } => reference::receive(table, *process, list, *room),
             Call::FallBack { room } => reference::fall_back(table, *room),
             Call::KeepSheet { numbers, room } => reference::keep_sheet(table, *numbers, *room),
             Call::Listing { room } => {
@@ -246,6 +260,9 @@ impl Call {
                 Call::Save { process, .. } => archive::keeper_save(
                     bytes, length, process, entries, of_entries, answer, room, written,
                 ),
+                Call::Receive { process, .. } => archive::keeper_receive(
+                    bytes, length, process, entries, of_entries, answer, room, written,
+                ),
                 Call::FallBack { .. } => {
                     archive::keeper_fall_back(bytes, length, answer, room, written)
                 }
@@ -273,6 +290,9 @@ impl Call {
             }
             Call::Send { from, to, .. } => keeper::send(table, from, to, answer),
             Call::Save { process, .. } => keeper::save(table, process, lent.list.slice(), answer),
+            Call::Receive { process, .. } => {
+                keeper::receive(table, process, lent.list.slice(), answer)
+            }
             Call::FallBack { .. } => keeper::fall_back(table, answer),
             Call::KeepSheet { .. } => keeper::keep_sheet(table, lent.scratch.slice_mut(), answer),
             Call::Listing { .. } => keeper::listing(table, answer),

@@ -10,16 +10,18 @@ use crate::compare::{Call, Comparison, Difference};
 
 /// The kinds of tables, each with the number of rounds out of a hundred that
 /// it gets.
-const KINDS: [(&str, usize); 16] = [
-    ("small history", 12),
-    ("history", 10),
-    ("small arbitrary", 14),
-    ("arbitrary", 9),
-    ("clustered", 7),
+const KINDS: [(&str, usize); 18] = [
+    ("small history", 11),
+    ("history", 9),
+    ("small arbitrary", 13),
+    ("arbitrary", 8),
+    ("clustered", 6),
+    ("unsaved", 4),
     ("domino", 5),
-    ("ring", 4),
+    ("ring", 3),
     ("staircase", 2),
     ("many waiting", 3),
+    ("many unsaved", 2),
     ("full", 1),
     ("random body", 5),
     ("random bytes", 4),
@@ -32,6 +34,17 @@ const KINDS: [(&str, usize); 16] = [
 /// Counts that lie at or near their limit.
 fn high_count(rng: &mut Rng) -> u32 {
     MOST_STATES - rng.between(0, 2) as u32
+}
+
+/// Makes each message unsaved, or one in `of` of them wait.
+fn make_unsaved(rng: &mut Rng, table: &mut Table, of: usize) {
+    for message in &mut table.messages {
+        message.received = if rng.chance(1, of) {
+            0
+        } else {
+            table.counts[message.receiver]
+        };
+    }
 }
 
 /// An accepted table of moderate size.
@@ -58,6 +71,13 @@ fn accepted(rng: &mut Rng, kind: &str) -> Table {
             let (n, m) = (rng.between(1, 32), rng.between(0, 250));
             gen::clustered(rng, n, m)
         }
+        "unsaved" => {
+            // No message is received and saved; most are unsaved, few wait.
+            let (n, m, most) = (rng.between(2, 6), rng.between(1, 20), rng.between(1, 4));
+            let mut table = gen::arbitrary(rng, n, m, most as u32);
+            make_unsaved(rng, &mut table, 4);
+            table
+        }
         "domino" => {
             let (m, order) = (rng.between(0, 80), Order::ALL[rng.between(0, 4)]);
             gen::domino_chain(rng, m, order)
@@ -83,9 +103,17 @@ fn accepted(rng: &mut Rng, kind: &str) -> Table {
             }
             table
         }
+        "many unsaved" => {
+            // Hundreds of messages, some of which wait still.
+            let (n, m) = (rng.between(2, 4), rng.between(300, 900));
+            let mut table = gen::arbitrary(rng, n, m, 6);
+            make_unsaved(rng, &mut table, 2);
+            table
+        }
         "full" => {
             // As many messages as there may be or one fewer, or counts at the
-            // limit: what check 14 looks at.
+            // limit: what check 14 looks at. Receipts by the last state, and
+            // after it.
             let n = rng.between(2, 5);
             let m = if rng.chance(1, 2) {
                 MOST_MESSAGES - rng.between(0, 1)
@@ -102,8 +130,10 @@ fn accepted(rng: &mut Rng, kind: &str) -> Table {
                 if rng.chance(1, 4) {
                     message.sent = table.counts[message.sender] - 1;
                 }
-                if rng.chance(1, 4) {
-                    message.received = table.counts[message.receiver] - 1;
+                match rng.between(0, 7) {
+                    0 | 1 => message.received = table.counts[message.receiver] - 1,
+                    2 | 3 => message.received = table.counts[message.receiver],
+                    _ => {}
                 }
             }
             table
@@ -178,8 +208,8 @@ pub fn table(rng: &mut Rng) -> (&'static str, Vec<u8>) {
             }
             let last = table.messages.len() - 1;
             let at = rng.between(0, last - 1);
-            let high = table.counts[table.messages[at].receiver] + rng.between(0, 2) as u32;
-            table.messages[at].received = high;
+            let high = table.counts[table.messages[at].receiver] + 1;
+            table.messages[at].received = high + rng.between(0, 2) as u32;
             let latest = &mut table.messages[last];
             match rng.between(0, 2) {
                 0 => latest.sent = table.counts[latest.sender],
@@ -206,7 +236,7 @@ pub fn table(rng: &mut Rng) -> (&'static str, Vec<u8>) {
     (kind, bytes)
 }
 
-/// A process for a send or save: mostly one of n, else n or above.
+/// A process for a send, save or receipt: mostly one of n, else n or above.
 pub fn process(rng: &mut Rng, n: usize) -> u16 {
     if n > 0 && rng.chance(9, 10) {
         return rng.between(0, n - 1) as u16;
@@ -233,7 +263,7 @@ pub fn set(rng: &mut Rng, n: usize) -> u32 {
     }
 }
 
-/// A list for a save by `process`, good or spoilt in one of many ways.
+/// A list for a save or receipt by `process`, good or spoilt in one of many ways.
 pub fn list(rng: &mut Rng, table: &Table, process: u16) -> Vec<u16> {
     let m = table.messages.len();
     let waiting: Vec<u16> = table
@@ -276,9 +306,17 @@ pub fn list(rng: &mut Rng, table: &Table, process: u16) -> Vec<u16> {
             };
             list.insert(at, beyond);
         }
-        12 | 13 => {
-            // A position that does not wait for this process, in its place.
-            let others: Vec<u16> = (0..m as u16).filter(|k| !waiting.contains(k)).collect();
+        lot @ (12 | 13) => {
+            // A position that does not wait for this process, in its place: any,
+            // or one that the process received and did not save yet.
+            let mut others: Vec<u16> = (0..m as u16).filter(|k| !waiting.contains(k)).collect();
+            if lot == 13 {
+                let unsaved = |k: &u16| {
+                    let message = &table.messages[usize::from(*k)];
+                    message.receiver == usize::from(process) && table.unsaved(message)
+                };
+                others.retain(unsaved);
+            }
             if !others.is_empty() {
                 list.push(others[rng.between(0, others.len() - 1)]);
                 list.sort_unstable();
@@ -427,6 +465,15 @@ fn calls(rng: &mut Rng, bytes: &[u8], few: bool) -> Vec<Call> {
             room,
         });
     }
+    for _ in 0..times(8) {
+        let process = process(rng, n);
+        let list = list(rng, &values, process);
+        calls.push(Call::Receive {
+            process,
+            list,
+            room,
+        });
+    }
     // For an accepted table the scratch has a least length; else any will do.
     let square = n * n;
     let mut scratches = vec![square];
@@ -503,11 +550,11 @@ pub fn step(rng: &mut Rng, table: &Table) -> Call {
     let n = table.processes();
     match rng.between(0, 99) {
         0..=4 => Call::FallBack { room },
-        5..=54 => {
+        5..=49 => {
             let (from, to) = (process(rng, n), process(rng, n));
             Call::Send { from, to, room }
         }
-        _ => {
+        lot => {
             let process = process(rng, n);
             let list = if rng.chance(1, 8) {
                 list(rng, table, process)
@@ -516,13 +563,36 @@ pub fn step(rng: &mut Rng, table: &Table) -> Call {
                 waiting.retain(|_| rng.chance(2, 3));
                 waiting.into_iter().map(|k| k as u16).collect()
             };
-            Call::Save {
-                process,
-                list,
-                room,
+            if lot < 75 {
+                Call::Receive {
+                    process,
+                    list,
+                    room,
+                }
+            } else {
+                Call::Save {
+                    process,
+                    list,
+                    room,
+                }
             }
         }
     }
+}
+
+/// Every list of positions 0 to m with at most m entries, and of one entry for
+/// no messages.
+pub fn all_lists(m: usize) -> Vec<Vec<u16>> {
+    let mut all: Vec<Vec<u16>> = vec![Vec::new()];
+    let mut longest: Vec<Vec<u16>> = vec![Vec::new()];
+    for _ in 0..m.max(1) {
+        longest = longest
+            .iter()
+            .flat_map(|front| (0..=m as u16).map(move |k| [&front[..], &[k]].concat()))
+            .collect();
+        all.extend(longest.iter().cloned());
+    }
+    all
 }
 
 /// The most that can be kept: the stairs, with messages that wait.

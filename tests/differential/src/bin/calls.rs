@@ -51,7 +51,7 @@ fn limits(comparison: &mut Comparison, seed: u64) -> Result<(), Box<Difference>>
         let n = table.processes();
         let room = usize::MAX;
         let needed = mark_bytes(table);
-        let waiting = table.waiting_for(1).into_iter().map(|k| k as u16);
+        let waiting: Vec<u16> = table.waiting_for(1).iter().map(|&k| k as u16).collect();
         let mut calls = vec![
             Call::CheckTable,
             Call::RecoveryLine { room },
@@ -76,7 +76,17 @@ fn limits(comparison: &mut Comparison, seed: u64) -> Result<(), Box<Difference>>
             },
             Call::Save {
                 process: 1,
-                list: waiting.collect(),
+                list: waiting.clone(),
+                room,
+            },
+            Call::Receive {
+                process: 1,
+                list: waiting,
+                room,
+            },
+            Call::Receive {
+                process: 0,
+                list: make::list(rng, table, 0),
                 room,
             },
             Call::FallBack { room },
@@ -116,6 +126,37 @@ fn limits(comparison: &mut Comparison, seed: u64) -> Result<(), Box<Difference>>
         }
         let indices = [0, 31, 32, 4_095, 4_096, usize::MAX];
         comparison.lookups(rng, &made_by, &bytes, &indices)?;
+        // Every message received and not saved yet; then one of them one above.
+        let mut unsaved = table.clone();
+        for message in &mut unsaved.messages {
+            message.received = table.counts[message.receiver];
+        }
+        let ceilings = make::ceilings(rng, &unsaved);
+        for call in [
+            Call::CheckTable,
+            Call::RecoveryLine { room },
+            Call::LineOfSet { set: 1, room },
+            Call::LineUnder {
+                ceilings: ceilings.clone(),
+                room,
+            },
+            Call::MarkedLine {
+                ceilings,
+                marks: needed,
+                room,
+            },
+            Call::FallBack { room },
+            Call::KeepSheet {
+                numbers: n * n,
+                room,
+            },
+            Call::Listing { room },
+        ] {
+            exact_and_short(comparison, rng, &made_by, &unsaved.to_bytes(), &call)?;
+        }
+        let last = unsaved.messages.len() - 1;
+        unsaved.messages[last].received += 1;
+        comparison.call(rng, &made_by, &unsaved.to_bytes(), &Call::CheckTable)?;
         // One count more than there may be, and one message more.
         let mut over = table.clone();
         over.counts[n - 1] = 4_097;
@@ -141,26 +182,31 @@ fn truncations(comparison: &mut Comparison, seed: u64) -> Result<(), Box<Differe
     Ok(())
 }
 
-/// Each count and each number of a message at the least value that is refused,
-/// and a count of 0, which damage by chance may miss.
+/// Each count and each number of a message at the least value that is refused
+/// and at the highest that is not, and a count of 0, which damage by chance may
+/// miss.
 fn bounds(comparison: &mut Comparison, seed: u64) -> Result<(), Box<Difference>> {
     let rng = &mut Rng::new(seed);
     let whole = gen::arbitrary(rng, 3, 6, 4);
     let mut tables = Vec::new();
     for p in 0..3 {
-        for count in [0, 4_097] {
+        for count in [0, 4_096, 4_097] {
             let mut table = whole.clone();
             table.counts[p] = count;
             tables.push(table);
         }
     }
     for (k, message) in whole.messages.iter().enumerate() {
-        let mut spoilt = [*message; 4];
-        spoilt[0].sender = 3;
-        spoilt[1].receiver = 3;
-        spoilt[2].sent = whole.counts[message.sender];
-        spoilt[3].received = whole.counts[message.receiver];
-        for message in spoilt {
+        let (from, to) = (whole.counts[message.sender], whole.counts[message.receiver]);
+        let mut near = [*message; 7];
+        near[0].sender = 3;
+        near[1].receiver = 3;
+        near[2].sent = from - 1;
+        near[3].sent = from;
+        near[4].received = to - 1;
+        near[5].received = to;
+        near[6].received = to + 1;
+        for message in near {
             let mut table = whole.clone();
             table.messages[k] = message;
             tables.push(table);
@@ -202,8 +248,9 @@ fn damages(comparison: &mut Comparison, seed: u64) -> Result<(), Box<Difference>
 }
 
 /// Several refusals at once, which pins their order: small tables with and
-/// without a full count, a table full of messages, and damaged ones; each with
-/// arguments of every kind and with buffers that are enough or not.
+/// without a full count and an unsaved message, a table full of messages, and
+/// damaged ones; each with arguments of every kind and with buffers that are
+/// enough or not.
 fn orders(comparison: &mut Comparison, seed: u64) -> Result<(), Box<Difference>> {
     let rng = &mut Rng::new(seed);
     let small = Table {
@@ -221,14 +268,26 @@ fn orders(comparison: &mut Comparison, seed: u64) -> Result<(), Box<Difference>>
     full_counts.counts = vec![4_096; 2];
     let mut full_of_messages = full_count.clone();
     full_of_messages.messages = full_count.messages.repeat(1_024);
-    let mut tables: Vec<Vec<u8>> = [&small, &full_count, &full_counts, &full_of_messages]
-        .map(Table::to_bytes)
-        .to_vec();
+    // Message 2 not saved yet; of the second table it is one above the count.
+    let mut unsaved = full_count.clone();
+    unsaved.messages[2].received = 4_096;
+    let mut above = full_count.clone();
+    above.messages[2].received = 4_097;
+    let made = [
+        &small,
+        &full_count,
+        &full_counts,
+        &full_of_messages,
+        &unsaved,
+        &above,
+    ];
+    let mut tables: Vec<Vec<u8>> = made.map(Table::to_bytes).to_vec();
     for refusal in TABLE_CHECKS {
         tables.extend(gen::damage(rng, &full_count.to_bytes(), refusal));
     }
     // Good for process 0, then a position of M and above, equal ones, falling
-    // ones, one of process 1, one that does not wait; and two faults at once.
+    // ones, one of process 1, one that is received, and saved or not; and two
+    // faults at once.
     let lists: [&[u16]; 13] = [
         &[],
         &[0],
@@ -271,6 +330,11 @@ fn orders(comparison: &mut Comparison, seed: u64) -> Result<(), Box<Difference>>
                 let list = list.to_vec();
                 calls.push(Call::Save {
                     process,
+                    list: list.clone(),
+                    room,
+                });
+                calls.push(Call::Receive {
+                    process,
                     list,
                     room,
                 });
@@ -306,6 +370,49 @@ fn orders(comparison: &mut Comparison, seed: u64) -> Result<(), Box<Difference>>
             }
         }
         make::listings(comparison, rng, &made_by, table)?;
+    }
+    Ok(())
+}
+
+/// Every list of positions, by every process and one beyond, of a save and of a
+/// receipt: on tables with at most four messages, which wait, are received by a
+/// state, or are not saved yet, for this process and another.
+fn lists(comparison: &mut Comparison, seed: u64) -> Result<(), Box<Difference>> {
+    let rng = &mut Rng::new(seed);
+    for (m, tables) in [(0, 1), (1, 3), (2, 6), (3, 8), (4, 3)] {
+        for number in 0..tables {
+            let made_by = format!("lists, seed {seed}, {m} messages, table {number}");
+            let mut table = gen::arbitrary(rng, 2, m, 3);
+            for (k, message) in table.messages.iter_mut().enumerate() {
+                // Of three the first waits, and the second is unsaved.
+                match (k + number) % 3 {
+                    0 => message.received = 0,
+                    1 => message.received = table.counts[message.receiver],
+                    _ => {}
+                }
+            }
+            let bytes = table.to_bytes();
+            for process in 0..=2 {
+                for list in make::all_lists(m) {
+                    let room = usize::MAX;
+                    let save = Call::Save {
+                        process,
+                        list: list.clone(),
+                        room,
+                    };
+                    exact_and_short(comparison, rng, &made_by, &bytes, &save)?;
+                    let receive = Call::Receive {
+                        process,
+                        list,
+                        room,
+                    };
+                    exact_and_short(comparison, rng, &made_by, &bytes, &receive)?;
+                    for room in [0, bytes.len() + 5] {
+                        comparison.call(rng, &made_by, &bytes, &receive.with_room(room))?;
+                    }
+                }
+            }
+        }
     }
     Ok(())
 }
@@ -486,6 +593,9 @@ fn run(comparison: &mut Comparison, calls: u64, seed: u64) -> Result<(), Box<Dif
         round += 1;
     }
     part(comparison, &format!("{round} tables by chance"));
+    // Behind the others, so that they take nothing from the tables by chance.
+    lists(comparison, seed + 7)?;
+    part(comparison, "all lists of saves and receipts");
     Ok(())
 }
 
