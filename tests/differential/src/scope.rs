@@ -97,7 +97,7 @@ fn all_messages(counts: &[u32]) -> Vec<Message> {
     for j in 0..counts.len() {
         for sent in 0..counts[j] {
             for i in (0..counts.len()).filter(|&i| i != j) {
-                for received in 0..counts[i] {
+                for received in 0..=counts[i] {
                     all.push(Message::new((j, sent), (i, received)));
                 }
             }

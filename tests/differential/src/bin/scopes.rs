@@ -13,10 +13,14 @@
 //! * `scopes listing T M`: the listings of all tables with at most T states in
 //!   all and at most M messages, so with up to T processes. From T = 8 on these
 //!   have each exact half of a percent that a total of 8 can have.
-//! * `scopes steps N C M`: every send, every save with any list of at most M
-//!   positions, and the fall back.
+//! * `scopes steps N C M`: every send, every save and every receipt with any list
+//!   of at most M positions, and the fall back.
 //! * `scopes needs N C M DEPTH`: what some future of at most DEPTH steps
-//!   needs, found by search, is what the library's keep sheet has.
+//!   needs, found by search, is what the library's keep sheet has. The steps of
+//!   a future receive too.
+//!
+//! Every table: its messages wait, are received by any of the states, or are
+//! received and not saved yet.
 //!
 //! With no words it takes the scopes of `make test`; with the word `more` some
 //! larger ones after them.
@@ -27,6 +31,7 @@ use std::process::ExitCode;
 use std::time::Instant;
 
 use differential::compare::{number, Call};
+use differential::make::all_lists;
 use differential::scope::{least_renaming, next_order, renamed_message, Scope};
 use differential::{share, show};
 use keeper::archive;
@@ -551,20 +556,6 @@ fn listing(scope: Scope) -> Result<String, Failure> {
     ))
 }
 
-/// Every list of positions 0 to m with at most m entries.
-fn all_lists(m: usize) -> Vec<Vec<u16>> {
-    let mut all: Vec<Vec<u16>> = vec![Vec::new()];
-    let mut longest: Vec<Vec<u16>> = vec![Vec::new()];
-    for _ in 0..m.max(1) {
-        longest = longest
-            .iter()
-            .flat_map(|front| (0..=m as u16).map(move |k| [&front[..], &[k]].concat()))
-            .collect();
-        all.extend(longest.iter().cloned());
-    }
-    all
-}
-
 /// Every step, on every table of a scope.
 fn steps(scope: Scope) -> Result<String, Failure> {
     let mut answer = vec![FILL; 256];
@@ -577,6 +568,9 @@ fn steps(scope: Scope) -> Result<String, Failure> {
         let got = match call {
             Call::Send { from, to, .. } => keeper::send(table, *from, *to, &mut answer),
             Call::Save { process, list, .. } => keeper::save(table, *process, list, &mut answer),
+            Call::Receive { process, list, .. } => {
+                keeper::receive(table, *process, list, &mut answer)
+            }
             _ => keeper::fall_back(table, &mut answer),
         };
         calls += 1;
@@ -609,15 +603,18 @@ fn steps(scope: Scope) -> Result<String, Failure> {
                     compare(&bytes, &Call::Send { from, to, room })?;
                 }
                 for list in &lists {
-                    let list = list.clone();
-                    compare(
-                        &bytes,
-                        &Call::Save {
-                            process,
-                            list,
-                            room,
-                        },
-                    )?;
+                    let save = Call::Save {
+                        process,
+                        list: list.clone(),
+                        room,
+                    };
+                    compare(&bytes, &save)?;
+                    let receive = Call::Receive {
+                        process,
+                        list: list.clone(),
+                        room,
+                    };
+                    compare(&bytes, &receive)?;
                 }
             }
             if !next_order(&mut table.messages) {
@@ -725,10 +722,11 @@ fn task(words: &[&str]) -> Option<Result<String, Failure>> {
 }
 
 /// The scopes of `make test`.
-const PART: [&str; 15] = [
+const PART: [&str; 17] = [
     "lines 3 3 3",
     "lines 2 4 4",
-    "under 3 3 3",
+    "under 3 3 2",
+    "under 3 2 3",
     "under 2 4 3",
     "under 4 2 2",
     "marked 3 3 2",
@@ -736,25 +734,29 @@ const PART: [&str; 15] = [
     "marked 2 4 3",
     "marked 4 2 2",
     "listing 8 2",
-    "listing 6 3",
+    "listing 5 3",
     "steps 2 3 3",
     "steps 3 2 2",
-    "needs 2 3 3 5",
-    "needs 3 2 2 4",
+    "needs 2 3 3 4",
+    "needs 2 2 2 5",
+    "needs 3 2 2 3",
 ];
 
 /// Larger ones: some minutes.
-const MORE: [&str; 10] = [
+const MORE: [&str; 13] = [
     "lines 3 3 4",
     "lines 4 2 3",
+    "under 3 3 3",
     "under 2 4 4",
     "under 4 2 3",
     "marked 3 3 3",
     "marked 2 4 4",
     "listing 10 2",
-    "listing 7 3",
+    "listing 6 3",
     "steps 3 3 2",
-    "needs 3 2 3 4",
+    "needs 2 3 3 5",
+    "needs 3 2 2 4",
+    "needs 3 2 3 3",
 ];
 
 fn main() -> ExitCode {
