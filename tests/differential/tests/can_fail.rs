@@ -43,6 +43,11 @@ fn all_calls(room: usize) -> Vec<Call> {
             list: vec![4],
             room,
         },
+        Call::Receive {
+            process: 0,
+            list: vec![4],
+            room,
+        },
         Call::FallBack { room },
         Call::KeepSheet { numbers: 6, room },
         Call::Listing { room },
@@ -201,6 +206,11 @@ fn the_lists_of_checks_count() {
     assert_eq!(checks_of("listing"), [16]);
     let of_marking = [&TABLE_CHECKS[..], &[17, 18, 19, 16]].concat();
     assert_eq!(checks_of("marked_line"), of_marking);
+    // 14 is a check of a save, and none of a receipt.
+    let of_save = [&TABLE_CHECKS[..], &[10, 13, 14, 16]].concat();
+    assert_eq!(checks_of("save"), of_save);
+    let of_receipt = [&TABLE_CHECKS[..], &[10, 13, 16]].concat();
+    assert_eq!(checks_of("receive"), of_receipt);
     let mut comparison = all_met();
     assert_eq!(comparison.strays(), [""; 0]);
     for (place, name) in NAMES.iter().enumerate() {
@@ -259,6 +269,114 @@ fn the_share_counts() {
     }
 }
 
+/// Example A after process 0 received message 4: the receipt number is the count.
+/// Any other number is a difference, and so is another count of process 0.
+#[test]
+fn the_receipt_number_counts() {
+    let table = example_a();
+    let call = Call::Receive {
+        process: 0,
+        list: vec![4],
+        room: ENOUGH,
+    };
+    for received in 0..=5 {
+        let mut next = table.clone();
+        next.messages[4].received = received;
+        let outcome = Outcome::answered(next.to_bytes(), ENOUGH);
+        let difference = fails(&table.to_bytes(), &call, outcome);
+        assert_eq!(difference, received != 3, "{received}");
+        next.counts[0] = 4;
+        let outcome = Outcome::answered(next.to_bytes(), ENOUGH);
+        assert!(fails(&table.to_bytes(), &call, outcome));
+    }
+}
+
+/// Check 9 at the count and one above it; a list with an unsaved message; a
+/// receipt at 4,096 states, which is not refused by 14: the other number is a
+/// difference.
+#[test]
+fn the_refusals_of_receipts_count() {
+    let with = |received: u32| {
+        let mut table = example_a();
+        table.messages[4].received = received;
+        table.to_bytes()
+    };
+    let receive = |process: u16, list: &[u16]| Call::Receive {
+        process,
+        list: list.to_vec(),
+        room: ENOUGH,
+    };
+    for (received, number) in [(0, 0), (2, 0), (3, 0), (4, 9), (5, 9), (65_535, 9)] {
+        for other in [0, 9] {
+            let difference = fails(&with(received), &Call::CheckTable, Outcome::refused(other));
+            assert_eq!(difference, other != number, "{received} {other}");
+        }
+    }
+    for number in [9, 10, 13, 14, 16] {
+        let outcome = || Outcome::refused(number);
+        // Unsaved, so it does not wait; received by state 2; of process 1; beyond.
+        assert_eq!(fails(&with(3), &receive(0, &[4]), outcome()), number != 13);
+        assert_eq!(fails(&with(0), &receive(0, &[2]), outcome()), number != 13);
+        assert_eq!(fails(&with(0), &receive(0, &[3]), outcome()), number != 13);
+        assert_eq!(fails(&with(0), &receive(0, &[5]), outcome()), number != 13);
+        assert_eq!(fails(&with(0), &receive(2, &[4]), outcome()), number != 10);
+        assert_eq!(fails(&with(4), &receive(0, &[4]), outcome()), number != 9);
+        let short = receive(0, &[4]).with_room(47);
+        assert_eq!(fails(&with(0), &short, outcome()), number != 16);
+        // A save of the same would be.
+        let mut full = example_a();
+        full.counts[0] = 4_096;
+        let save = Call::Save {
+            process: 0,
+            list: vec![4],
+            room: ENOUGH,
+        };
+        assert_eq!(fails(&full.to_bytes(), &save, outcome()), number != 14);
+        assert!(fails(&full.to_bytes(), &receive(0, &[4]), outcome()));
+    }
+}
+
+/// The line of a set and the sheet with the message unsaved, and with it
+/// waiting: what is right of the one is a difference of the other.
+#[test]
+fn unsaved_messages_count() {
+    let with = |received: u32| Table {
+        counts: vec![1, 1],
+        messages: vec![
+            Message::new((0, 0), (1, received)),
+            Message::new((1, 0), (0, received)),
+        ],
+    };
+    let (waiting, unsaved) = (with(0).to_bytes(), with(1).to_bytes());
+    for set in [1, 2] {
+        let call = Call::LineOfSet { set, room: ENOUGH };
+        // Process 0 holds, or process 1, and the other may stand at 1 or not.
+        let free = if set == 1 { [0, 0, 1, 0] } else { [1, 0, 0, 0] };
+        let free = Outcome::answered(free.to_vec(), ENOUGH);
+        let back = Outcome::answered(vec![0; 4], ENOUGH);
+        assert!(!fails(&waiting, &call, free.clone()));
+        assert!(fails(&waiting, &call, back.clone()));
+        assert!(!fails(&unsaved, &call, back));
+        assert!(fails(&unsaved, &call, free));
+    }
+    let call = Call::KeepSheet {
+        numbers: 4,
+        room: ENOUGH,
+    };
+    let states = [0, 0, 1, 0, 0, 0, 0, 0];
+    for messages in [&[][..], &[0, 0], &[1, 0], &[0, 0, 1, 0]] {
+        let sizes = [2, 0, messages.len() as u8 / 2, 0];
+        let sheet = [&sizes[..], &states, messages].concat();
+        let mut outcome = Outcome::answered(sheet, ENOUGH);
+        outcome.lines = Some(vec![0; 4]);
+        let difference = fails(&unsaved, &call, outcome.clone());
+        assert_eq!(difference, !messages.is_empty(), "{messages:?}");
+        outcome.lines = Some(vec![0, 1, 1, 0]);
+        let difference = fails(&waiting, &call, outcome);
+        assert_eq!(difference, messages.len() < 4, "{messages:?}");
+    }
+}
+
 /// An outcome of another table is seen.
 #[test]
 fn another_table_counts() {
@@ -268,7 +386,8 @@ fn another_table_counts() {
         let table = arbitrary(rng, 3, 5, 4);
         let mut other = table.clone();
         let at = rng.between(0, 4);
-        other.messages[at].received = 0;
+        let message = &mut other.messages[at];
+        message.received = [0, table.counts[message.receiver]][rng.between(0, 1)];
         let mut calls = all_calls(ENOUGH);
         calls.push(Call::LineUnder {
             ceilings: table.counts.iter().map(|&count| count as u16 / 2).collect(),
