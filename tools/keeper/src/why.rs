@@ -152,6 +152,11 @@ impl Found {
             Found::Message(_, message) => {
                 let (sender, sent) = (message.sender, message.sent);
                 match message.received {
+                    // A line that it does not cross stands at the count there.
+                    Some(received) if sent < at(line, sender) && message.is_unsaved() => format!(
+                        "received before it: process {} stands at {received}, the virtual checkpoint, which has received it",
+                        message.receiver
+                    ),
                     Some(received) if sent < at(line, sender) => format!(
                         "received before it: process {} stands at {}, and {received} is not above that",
                         message.receiver,

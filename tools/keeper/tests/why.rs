@@ -328,6 +328,17 @@ line 1
 "
     );
     // A process that stands at its virtual checkpoint has received it.
+    let text = "processes 3\nstates 1 1 1\nmessage 0.0 -> 1.1\nmessage 1.0 -> 0.1\n";
+    let script = done(&["why", "--text-in", "m0"], text.as_bytes());
+    let script = String::from_utf8(script).expect("UTF-8");
+    assert!(
+        script.contains(
+            "\nline 1\n# 0 0 1: sent after it: process 0 stands at 0, and 0 is not below that\n\
+             line 2\n# 1 1 0: received before it: process 1 stands at 1, the virtual checkpoint, which has received it\n"
+        ),
+        "{script}"
+    );
+    // Kept by the line of a third that holds.
     let text =
         "processes 3\nstates 1 1 2\nmessage 0.0 -> 1.1\nmessage 1.0 -> 0.1\nmessage 2.0 -> 1.1\n";
     let script = done(&["why", "--text", "m2"], text.as_bytes());
