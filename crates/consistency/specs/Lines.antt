@@ -14,7 +14,8 @@ abbrev pub asLine : List ℕ → Line
 asLine l p = getD l p 0
 
 -- A message (j, y) to (i, r) is an orphan of a line where r is not 0, y is at or above the line at j, and r is at or
--- below it at i: it was received before the line and sent after it.
+-- below it at i: it was received before the line and sent after it. An unsaved message, whose r is the count of i, was
+-- received before a line just where that stands at the virtual checkpoint of i.
 pub record Orphan (m : Message) (l : Line) : Type 0 where
   pub delivered : 0 < m .received
   pub sent-after : l (m .sender) ≤ m .sent

@@ -1,6 +1,7 @@
 -- Laws of futures: what a list of steps keeps of the run that it starts from.
 --     end-well-formed                  the table at the end is well formed
 --     Grown, send-grown, receipt-grown, checkpoint-grown    all but a rollback keep every checkpoint and message, and receive late
+--     nothing-lost                     a step that is no rollback loses nothing, and moves nothing
 --     rolled-to, rolled-message        where a rollback moves a message, and what it makes of it
 --     moved-inside, moved-same, moved-order    the messages over one step
 --     still-there-count                a checkpoint that is still there is a checkpoint of the last table
@@ -144,6 +145,14 @@ step-keeps-count t rollback i c b keeps = unfold step in omega (arith, rollback-
 -- The message at position k is at position n after the step.
 abbrev pub MovedTo : Table → Step → ℕ → ℕ → Type 0
 MovedTo t s k n = moved t s k ≡ at-position n
+
+-- a step that is no rollback loses nothing, and moves nothing
+pub nothing-lost : (t : Table) (s : Step) → (s ≡ rollback → ⊥) → ((i c : ℕ) → StepKeeps t s i c) × ((k : ℕ) → MovedTo t s k k)
+unfolding StepKeeps moved
+nothing-lost t (send j i) other = (λ p c. tt, λ k. refl)
+nothing-lost t (receive i list) other = (λ p c. tt, λ k. refl)
+nothing-lost t (checkpoint i list) other = (λ p c. tt, λ k. refl)
+nothing-lost t rollback other = absurd (other refl)
 
 pub same-position : (k n : ℕ) → at-position k ≡ at-position n → k ≡ n
 same-position k n e = cc

@@ -3,7 +3,7 @@
 --     send-processes .. send-message-new               the table after a send
 --     send-each                                        what holds of the old messages and of the new one holds of all
 --     quiet-send, send-quiet                           what it means that nothing catches a send
---     Waiting, good-position, waiting-position         the positions that a receipt or a checkpoint may list
+--     Waiting, waits-for .. waiting-position           the positions that a receipt or a checkpoint may list
 --     rising                                           the order of a list that is rising
 --     receivedAt-listed .. receivedAt-receiver         a message after it
 --     receipt-known .. receipt-quiet                   what it means that nothing catches it
@@ -16,9 +16,10 @@
 --     rollback-from, rollback-each                     each message comes from one that stays
 --     rollback-place, rollback-message, rollback-order    where one that stays goes, in order
 --     step-cases                                       a step that is caught leaves the table as it is
---     send-step .. rollback-step                       any other leaves what the call of its name answers
+--     receipt-of-nothing                               one of no messages leaves the table
+--     send-step .. rollback-step                       any other leaves the table whose bytes its call answers
 --     send-well-formed .. step-well-formed             steps keep tables well formed
---     send-limits, checkpoint-limits, rollback-limits  when they keep tables within the limits
+--     send-limits .. rollback-limits                   when they keep tables within the limits
 --     rollback-line                                    a rollback leaves the recovery line where it is
 --     line-never-back                                  no step puts it back
 -- Assumes nothing.
@@ -32,7 +33,7 @@ use native.Mathlib.Omega.{arith}
 use borrow.Author.Tests.{eq-eqb, eqb-false, eqb-true, le-ltb, leb-false, lt-leb, lt-ltb, ltb-true, ne-eqb, not-false}
 use lib.Dec.{eqb, leb}
 use lib.ListN.{length, getD, take, drop, length-append, length-map, length-set, length-take, List·getD-append}
-use lib.Seq.{getD-append-seam, getD-set-other, getD-set-same, getD-take, split-at, take-take}
+use lib.Seq.{ext-getD, getD-append-seam, getD-set-other, getD-set-same, getD-take, split-at, take-take}
 use Rattle.consistency.proofs.CeilingLaws.{ceiling-at, set-latest, set-length}
 use Rattle.consistency.proofs.LineLaws.{latest-same}
 use Rattle.consistency.specs.Ceilings.{ceilingOf, lineOf, recoveryLine}
@@ -108,17 +109,23 @@ pub record Waiting (t : Table) (i k : ℕ) : Type 0 where
   pub undelivered : messageOf t k .received ≡ 0
 
 module _ (t : Table) (i k : ℕ) where
-  pub good-position : badPosition t i k ≡ false → Waiting t i k
-  unfolding badPosition waitsFor
-  good-position e =
+  pub waits-for : k < messageCount t → waitsFor i (messageOf t k) ≡ true → Waiting t i k
+  unfolding waitsFor
+  waits-for l waits =
       let to-i = eqb (messageOf t k .receiver) i in
       let none = eqb (messageOf t k .received) 0 in
-      let waits = not-false (to-i && none) (or-false-right (leb (messageCount t) k) (not (to-i && none)) e) in
       record {
-        a-message = leb-false (messageCount t) k (or-false-left (leb (messageCount t) k) (not (to-i && none)) e);
+        a-message = l;
         to-process = eqb-true (messageOf t k .receiver) i (and-left to-i none waits);
         undelivered = eqb-true (messageOf t k .received) 0 (and-right to-i none waits);
       }
+
+  pub good-position : badPosition t i k ≡ false → Waiting t i k
+  unfolding badPosition
+  good-position e =
+      let beyond = leb (messageCount t) k in
+      let waits = waitsFor i (messageOf t k) in
+      waits-for (leb-false (messageCount t) k (or-false-left beyond (not waits) e)) (not-false waits (or-false-right beyond (not waits) e))
 
   pub waiting-position : Waiting t i k → badPosition t i k ≡ false
   unfolding badPosition waitsFor
@@ -225,7 +232,7 @@ module _ {t : Table} {i : ℕ} {list : List ℕ} {t′ : Table} (r : Receives t 
   receives-message k l =
       ap (λ (ms : List Message). getD ms k noMessage) (r .messages-are) ∙ getD-tabulate (messageCount t) (receivedAt t i list) k noMessage l
 
-  pub receives-each : (P : Message → Type 0)
+  receives-each : (P : Message → Type 0)
       → ((k : ℕ) → k < messageCount t → any (eqb k) list ≡ true → P (withReceipt (messageOf t k) (countOf t i)))
       → ((k : ℕ) → k < messageCount t → P (messageOf t k)) → (k : ℕ) → k < messageCount t′ → P (messageOf t′ k)
   receives-each P listed unlisted k l =
@@ -460,7 +467,20 @@ module _ (checks : List Check) (after before : Table) where
       go (yes e) = subst⁻¹ P (step-taken e) (taken e)
       go (no e) = subst⁻¹ P (step-caught e) caught
 
--- each step of a future leaves what the call of its name answers, where nothing catches it
+-- a receipt of nothing leaves the messages, and so the table
+pub receipt-of-nothing : (t : Table) (i : ℕ) → afterReceipt t i [] ≡ t
+unfolding afterReceipt messageCount messageOf any
+receipt-of-nothing t i =
+    ap (λ (ms : List Message). record { counts = t .counts; messages = ms })
+    (ext-getD noMessage (afterReceipt t i [] .messages) (t .messages) (receives-messages after)
+    (λ k l.
+    let inside : k < messageCount t = omega (arith, receives-messages after) in
+    receives-message after k inside ∙ receivedAt-unlisted t i [] k refl))
+  where
+    after : Receives t i [] (afterReceipt t i [])
+    after = receipt-receives t i []
+
+-- each step of a future leaves the table whose bytes its call answers, where nothing catches it
 module _ (t : Table) where
   pub send-step : (j i : ℕ) → firstCaught (sendChecks t j i) ≡ 0 → step t (send j i) ≡ afterSend t j i
   unfolding step
@@ -516,7 +536,7 @@ send-well-formed t j i w quiet = record {
         }
 
 -- a listed message is received at the count, and any other as before
-pub receives-well-formed : {t : Table} {i : ℕ} {list : List ℕ} {t′ : Table} → Receives t i list t′ → WellFormed t
+receives-well-formed : {t : Table} {i : ℕ} {list : List ℕ} {t′ : Table} → Receives t i list t′ → WellFormed t
     → firstCaught (receiptChecks t i list) ≡ 0 → WellFormed t′
 receives-well-formed {t} {i} {list} {t′} r w quiet = record {
   some-process = omega (arith, r .same-processes, w .some-process);
@@ -576,27 +596,25 @@ send-limits t j i limits room = record {
   counts-limit = λ p l. omega (arith, send-count t j i p, limits .counts-limit p (omega (arith, send-processes t j i)));
 }
 
--- a receipt leaves the counts
-pub receipt-limits : (t : Table) (i : ℕ) (list : List ℕ) → Limits t → Limits (afterReceipt t i list)
-receipt-limits t i list limits =
-    let after = receipt-receives t i list in
-    record {
-      processes-limit = omega (arith, after .same-processes, limits .processes-limit);
-      messages-limit = omega (arith, receives-messages after, limits .messages-limit);
-      counts-limit = λ p l. omega (arith, receipt-count t i list p, limits .counts-limit p (omega (arith, after .same-processes)));
-    }
-
-pub checkpoint-limits : (t : Table) (i : ℕ) (list : List ℕ) → Limits t → countOf t i < mostCheckpoints → Limits (afterCheckpoint t i list)
-checkpoint-limits t i list limits room = record {
-  processes-limit = omega (arith, checkpoint-receives t i list .same-processes, limits .processes-limit);
-  messages-limit = omega (arith, receives-messages (checkpoint-receives t i list), limits .messages-limit);
-  counts-limit = λ p l. by-place p (omega (arith, checkpoint-receives t i list .same-processes)) (ℕ-discrete p i);
+receives-limits : {t : Table} {i : ℕ} {list : List ℕ} {t′ : Table} → Receives t i list t′ → Limits t
+    → ((p : ℕ) → p < processCount t → countOf t′ p ≤ mostCheckpoints) → Limits t′
+receives-limits r limits counts = record {
+  processes-limit = omega (arith, r .same-processes, limits .processes-limit);
+  messages-limit = omega (arith, receives-messages r, limits .messages-limit);
+  counts-limit = λ p l. counts p (omega (arith, r .same-processes));
 }
-  where
-    by-place : (p : ℕ) → p < processCount t → Dec (p ≡ i) → countOf (afterCheckpoint t i list) p ≤ mostCheckpoints
-    by-place p l (yes e) =
-        subst⁻¹ (λ (q : ℕ). countOf (afterCheckpoint t i list) q ≤ mostCheckpoints) e (omega (arith, checkpoint-count-here t i list (omega arith)))
-    by-place p l (no e) = omega (arith, checkpoint-count-other t i list p e, limits .counts-limit p l)
+
+module _ (t : Table) (i : ℕ) (list : List ℕ) (limits : Limits t) where
+  pub receipt-limits : Limits (afterReceipt t i list)
+  receipt-limits = receives-limits (receipt-receives t i list) limits (λ p l. omega (arith, receipt-count t i list p, limits .counts-limit p l))
+
+  pub checkpoint-limits : countOf t i < mostCheckpoints → Limits (afterCheckpoint t i list)
+  checkpoint-limits room = receives-limits (checkpoint-receives t i list) limits (λ p l. by-place p l (ℕ-discrete p i))
+    where
+      by-place : (p : ℕ) → p < processCount t → Dec (p ≡ i) → countOf (afterCheckpoint t i list) p ≤ mostCheckpoints
+      by-place p l (yes e) =
+          subst⁻¹ (λ (q : ℕ). countOf (afterCheckpoint t i list) q ≤ mostCheckpoints) e (omega (arith, checkpoint-count-here t i list (omega arith)))
+      by-place p l (no e) = omega (arith, checkpoint-count-other t i list p e, limits .counts-limit p l)
 
 pub rollback-limits : (t : Table) → WellFormed t → Limits t → Limits (afterRollback t)
 rollback-limits t w limits = record {

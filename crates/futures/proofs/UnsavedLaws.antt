@@ -3,44 +3,39 @@
 -- Assumes nothing.
 use mathlib.Core.Bool.{true}
 use mathlib.Core.List.{List, [], _∷_}
-use mathlib.Core.Path.{_≡_, refl, sym, ap, _∙_, subst⁻¹}
+use mathlib.Core.Path.{_≡_, refl, sym, ap, _∙_, subst, subst⁻¹}
 use Prim.Native.Nat.{ℕ, zero, suc, _<_, _≤_}
 use native.Mathlib.Nat.{le-of-suc-le-suc, not-suc-le-zero}
 use native.Mathlib.Omega.{arith}
-use borrow.Author.Tests.{eq-eqb, eqb-true, ne-eqb}
+use borrow.Author.Tests.{eq-eqb, ne-eqb}
 use lib.Dec.{eqb}
-use lib.ListN.{length, getD}
+use lib.ListN.{length, getD, take}
 use Rattle.consistency.specs.Ceilings.{recoveryLine}
 use Rattle.consistency.specs.Lines.{asLine}
 use Rattle.futures.proofs.FutureLaws.{checkpoint-grown}
-use Rattle.futures.proofs.StepLaws.{Waiting, checkpoint-count-here, checkpoint-step, receipt-count, receipt-known, receipt-quiet, receipt-receives}
-use Rattle.futures.proofs.StepLaws.{receive-step, receivedAt-listed, receives-message, receives-messages, rollback-count, rollback-each, withReceipt}
-use Rattle.futures.specs.Futures.{FollowedTo, endOf, moved, placeOf}
-use Rattle.futures.specs.Receipts.{Receipts, Unsaved}
+use Rattle.futures.proofs.StepLaws.{Waiting, checkpoint-count-here, checkpoint-step, putBack-after, receipt-count, receipt-known, receipt-of-nothing}
+use Rattle.futures.proofs.StepLaws.{receipt-quiet, receipt-receives, receive-step, receivedAt-listed, receives-message, receives-messages}
+use Rattle.futures.proofs.StepLaws.{recovery-latest, rollback-count, rollback-each, rollback-message, step-cases, waits-for, withReceipt}
+use Rattle.futures.specs.Futures.{FollowedTo, StepKeeps, StillThere, endOf, moved, placeOf}
 use Rattle.futures.specs.Sheet.{crosses, holderLine, keepsMessage}
-use Rattle.futures.specs.Steps.{afterReceipt, afterRollback, checkpoint, notRising, notRisingAfter, receiptChecks, receive}
-use Rattle.futures.specs.Steps.{rollback, step, waitsFor}
-use Rattle.run_table.proofs.ListLaws.{and-left, and-right}
+use Rattle.futures.specs.Steps.{afterReceipt, afterRollback, checkpoint, notRising, notRisingAfter, receiptChecks, receive, remaining}
+use Rattle.futures.specs.Steps.{rollback, stays, step, waitsFor}
+use Rattle.futures.specs.Unsaved.{Receipts, Unsaved}
 use Rattle.run_table.specs.Checks.{WellFormed, firstCaught}
 use Rattle.run_table.specs.Lists.{any, anyBelow}
 use Rattle.run_table.specs.Table.{Message, Table, countOf, messageCount, messageOf, processCount}
 
 module _ (t : Table) (w : WellFormed t) where
   -- ---- a message that waits, received alone
-  module _ (i k : ℕ) (known : i < processCount t) (l : k < messageCount t) (waits : waitsFor i (messageOf t k) ≡ true) where
+  module _ (i k : ℕ) (l : k < messageCount t) (waits : waitsFor i (messageOf t k) ≡ true) where
     abbrev alone : List ℕ
     alone = k ∷ []
 
     waiting : Waiting t i k
-    unfolding waitsFor
-    waiting =
-        let to-i = eqb (messageOf t k .receiver) i in
-        let none = eqb (messageOf t k .received) 0 in
-        record {
-          a-message = l;
-          to-process = eqb-true (messageOf t k .receiver) i (and-left to-i none waits);
-          undelivered = eqb-true (messageOf t k .received) 0 (and-right to-i none waits);
-        }
+    waiting = waits-for t i k l waits
+
+    known : i < processCount t
+    known = subst (λ (p : ℕ). p < processCount t) (waiting .to-process) (w .good-messages k l .receiver-known)
 
     taken : step t (receive i alone) ≡ afterReceipt t i alone
     unfolding notRising notRisingAfter
@@ -62,9 +57,19 @@ module _ (t : Table) (w : WellFormed t) where
               (ap (countOf t) (sym (waiting .to-process)) ∙ sym (receipt-count t i alone (messageOf t k .receiver))),
         )
 
-    received-alone : Unsaved (endOf t (receive i alone ∷ [])) k × FollowedTo t (receive i alone ∷ []) k k
-    unfolding endOf FollowedTo placeOf moved
-    received-alone = (subst⁻¹ (λ (x : Table). Unsaved x k) taken unsaved, refl)
+    received-alone : Unsaved (endOf t (receive i alone ∷ [])) k
+    unfolding endOf
+    received-alone = subst⁻¹ (λ (x : Table). Unsaved x k) taken unsaved
+
+  -- ---- a receipt loses nothing, and one of nothing changes nothing
+  none-lost : (i : ℕ) (list : List ℕ) → ((p c : ℕ) → StillThere t (receive i list ∷ []) p c)
+      × ((k : ℕ) → FollowedTo t (receive i list ∷ []) k k)
+  unfolding StillThere StepKeeps FollowedTo placeOf moved
+  none-lost i list = (λ p c. (tt, tt), λ k. refl)
+
+  none-received : (i : ℕ) → step t (receive i []) ≡ t
+  unfolding step
+  none-received i = step-cases (receiptChecks t i []) (afterReceipt t i []) t (λ x. x ≡ t) (λ _. receipt-of-nothing t i) refl
 
   -- ---- a checkpoint saves what is unsaved, as it is
   module _ (i : ℕ) (list : List ℕ) (quiet : firstCaught (receiptChecks t i list) ≡ 0) (k : ℕ) (u : Unsaved t k)
@@ -91,6 +96,20 @@ module _ (t : Table) (w : WellFormed t) where
           → n ≡ countOf (afterRollback t) (messageOf t k .receiver) → ⊥
       late k l n b e = omega (arith, rollback-count t (messageOf t k .receiver) (w .good-messages k l .receiver-known))
 
+  -- where its send remains it waits again: it was received at the count, above the line
+  waiting-again : (k : ℕ) → Unsaved t k → stays (recoveryLine t) (messageOf t k) ≡ true
+      → (n : ℕ) × FollowedTo t (rollback ∷ []) k n × (messageOf (step t rollback) n .received ≡ 0)
+  unfolding Unsaved FollowedTo placeOf moved step
+  waiting-again k u e =
+      let m = messageOf t k in
+      let known = w .good-messages k (u .0) .receiver-known in
+      let late : asLine (recoveryLine t) (m .receiver) < m .received =
+      omega (arith, u .1, recovery-latest t .under (m .receiver), w .some-checkpoint (m .receiver) known) in (
+        length (remaining (recoveryLine t) (take k (t .messages))),
+        rw e,
+        ap (λ (x : Message). x .received) (rollback-message t k (u .0) e ∙ putBack-after (recoveryLine t) m late),
+      )
+
   -- ---- the sheet
   kept-across : (k : ℕ) → Unsaved t k
       → keepsMessage t (messageOf t k) ≡ anyBelow (processCount t) (λ h. crosses (asLine (holderLine t h)) (messageOf t k))
@@ -101,4 +120,12 @@ module _ (t : Table) (w : WellFormed t) where
 
 pub receipts-hold : (t : Table) → WellFormed t → Receipts t
 receipts-hold t w =
-    record { received = received-alone t w; saved = saved-as-it-is t w; rolled-back = none-rolled-back t w; kept = kept-across t w }
+    record {
+      received = received-alone t w;
+      nothing-lost = none-lost t w;
+      of-nothing = none-received t w;
+      saved = saved-as-it-is t w;
+      rolled-back = none-rolled-back t w;
+      waits-again = waiting-again t w;
+      kept = kept-across t w;
+    }

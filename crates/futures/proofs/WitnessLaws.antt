@@ -23,8 +23,8 @@ use Rattle.consistency.specs.Ceilings.{Holders, ceilingOf, lineOf, recoveryLine
 use Rattle.consistency.specs.Lines.{asLine}
 use Rattle.consistency.specs.Lowering.{lineUnder}
 use Rattle.futures.proofs.KeptLaws.{Across, HolderWith, keeps-checkpoint, keeps-message}
-use Rattle.futures.proofs.StepLaws.{checkpoint-count-here, checkpoint-count-other, checkpoint-receives, checkpoint-step, receipt-quiet}
-use Rattle.futures.proofs.StepLaws.{receivedAt-unlisted, receives-message, receives-messages}
+use Rattle.futures.proofs.StepLaws.{checkpoint-count-here, checkpoint-count-other, checkpoint-receives, checkpoint-step}
+use Rattle.futures.proofs.StepLaws.{receipt-of-nothing, receipt-quiet}
 use Rattle.futures.specs.Futures.{CheckpointNeeded, FollowedTo, Future, MessageNeeded, NeedsCheckpoint, NeedsMessage, StepKeeps, StillThere, endOf}
 use Rattle.futures.specs.Futures.{moved, placeOf}
 use Rattle.futures.specs.Sheet.{holderLine, keepsCheckpoint, keepsMessage}
@@ -45,13 +45,7 @@ module _ (t : Table) (i : ℕ) (known : i < processCount t) where
   alone = checkpoint-step t i [] (receipt-quiet t i [] known (λ a l. absurd (not-suc-le-zero l)) refl)
 
   alone-messages : afterCheckpoint t i [] .messages ≡ t .messages
-  unfolding messageCount messageOf any
-  alone-messages =
-      let after = checkpoint-receives t i [] in
-      ext-getD noMessage (afterCheckpoint t i [] .messages) (t .messages) (receives-messages after)
-      (λ k l.
-      let inside : k < messageCount t = omega (arith, receives-messages after) in
-      receives-message after k inside ∙ receivedAt-unlisted t i [] k refl)
+  alone-messages = checkpoint-receives t i [] .messages-are ∙ ap (λ (x : Table). x .messages) (receipt-of-nothing t i)
 
 -- ---- all of them
 -- A future after which each process below n outside the set has one checkpoint more, and everything else is as it was, in its place.

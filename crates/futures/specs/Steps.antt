@@ -89,7 +89,8 @@ afterCheckpoint t i list = record {
 unfoldable pub stays : List ℕ → Message → Bool
 stays l m = ltb (m .sent) (asLine l (m .sender))
 
--- One that was received after the line, the unsaved ones among them, is undelivered again.
+-- One that was received after the line is undelivered again; so is every unsaved one, as a count is above the recovery
+-- line.
 unfoldable pub putBack : List ℕ → Message → Message
 putBack l m =
     cond (ltb (asLine l (m .receiver)) (m .received))

@@ -2,27 +2,29 @@
 --     send-bytes, received-bytes, rollback-bytes    the length of the table that a step leaves
 --     send-room, received-room                      a buffer with room for it
 --     send-taken .. rollback-taken                  where no check of the call catches, the step is taken, within the limits
+--     nothing-copied                                a receipt of nothing answers the table's own bytes
 --     sender-known, can-receive                     and what is written stands on known processes and messages
 --     table-holds                                   the answer is an accepted table, the step's
 -- Assumes nothing.
-use mathlib.Core.List.{List}
+use mathlib.Core.List.{List, []}
 use mathlib.Core.Path.{_≡_, refl, sym, ap, _∙_, subst, subst⁻¹}
 use Prim.Native.Nat.{ℕ, _+_, _≤_, _<_}
 use native.Mathlib.Omega.{arith}
 use borrow.Author.Tests.{leb-false}
 use lib.ListN.{length, take, drop}
 use lib.Seq.{take-at}
-use Rattle.futures.proofs.StepLaws.{Receives, checkpoint-limits, checkpoint-step, quiet-send, receipt-known, receipt-limits, receipt-positions, receive-step}
-use Rattle.futures.proofs.StepLaws.{receives-messages, rollback-limits, rollback-processes, rollback-step, send-limits, send-messages, send-processes}
-use Rattle.futures.proofs.StepLaws.{send-step, step-well-formed}
+use Rattle.futures.proofs.StepLaws.{Receives, checkpoint-limits, checkpoint-step, quiet-send, receipt-known, receipt-limits, receipt-of-nothing}
+use Rattle.futures.proofs.StepLaws.{receipt-positions, receive-step, receives-messages, rollback-limits, rollback-processes, rollback-step, send-limits}
+use Rattle.futures.proofs.StepLaws.{send-messages, send-processes, send-step, step-well-formed}
 use Rattle.futures.specs.Steps.{Step, afterCheckpoint, afterReceipt, afterRollback, afterSend, checkpoint, receiptChecks, receive, rollback, send}
 use Rattle.futures.specs.Steps.{sendChecks, step}
 use Rattle.keeper.proofs.AnswerLaws.{put-in-front}
 use Rattle.refusals.proofs.RefusalLaws.{QuietCall, quiet-by}
 use Rattle.keeper.specs.Calls.{HoldsTable}
 use Rattle.refusals.specs.CallChecks.{checkpointCallChecks, receiptCallChecks, sendCallChecks}
-use Rattle.run_table.proofs.AcceptLaws.{accepted-encode, facts, reread}
+use Rattle.run_table.proofs.AcceptLaws.{accepted-encode, facts, reread, rewritten}
 use Rattle.run_table.proofs.CheckLaws.{caughtBy, passed, quiet-none}
+use Rattle.run_table.proofs.CodingLaws.{AreBytes}
 use Rattle.run_table.proofs.FormatLaws.{encode-length}
 use Rattle.run_table.specs.Checks.{Accepted, Limits, WellFormed, firstCaught, tableChecks, tableRefusal}
 use Rattle.run_table.specs.Format.{decode, encode, tableLength}
@@ -101,6 +103,10 @@ module _ {table : List ℕ} where
       gives = checkpoint-step (decode table) i list receipt-quiet;
       limits = checkpoint-limits (decode table) i list (facts table (q .accepted) .limits) (leb-false mostCheckpoints _ (quiet-by all 14));
     }
+
+-- a receipt of nothing answers the table's own bytes
+pub nothing-copied : (table : List ℕ) → tableRefusal table ≡ 0 → AreBytes table → (i : ℕ) → encode (afterReceipt (decode table) i []) ≡ table
+nothing-copied table accepted bytes i = ap encode (receipt-of-nothing (decode table) i) ∙ rewritten table (facts table accepted) bytes
 
 pub rollback-taken : (table : List ℕ) → tableRefusal table ≡ 0 → Taken table rollback (afterRollback (decode table))
 rollback-taken table accepted = record {

@@ -10,7 +10,7 @@
 --     first-of, second-of, neither    a check of two tests
 --     read-le .. read-long        a test of a number, by what was read
 --     quiet-marking, quiet-ceilings, marks-long    19, by the length of the mark buffer
---     quiet-checkpoint, quiet-receipt              14, behind the checks of a receipt
+--     quiet-receiving, quiet-receipt, quiet-checkpoint    a receipt; 14, behind its checks
 --     short-scratch, long-scratch, scratch-long    15, by the scratch's length
 -- Assumes nothing.
 use mathlib.Core.Bool.{Bool, true, false, _||_}
@@ -76,11 +76,11 @@ module _ {table : List ℕ} {checks : List Check} (q : QuietCall table checks) (
   pub last-quiet : last .caught ≡ false → 0 ≡ firstCaught (checks ++ (last ∷ []))
   last-quiet e = past (passed last [] 0 e quiet-none)
 
-pub quiet-front-call : (table : List ℕ) (own last : List Check) {r : ℕ} → r ≡ firstCaught (onTable table own ++ last) → r ≡ 0
+quiet-front-call : (table : List ℕ) (own last : List Check) {r : ℕ} → r ≡ firstCaught (onTable table own ++ last) → r ≡ 0
     → areRefusals own ≡ true → QuietCall table (onTable table own)
 quiet-front-call table own last e none refusals = quiet-call table own refusals refl (quiet-front (onTable table own) last (sym e ∙ none))
 
-pub quiet-longer : {table : List ℕ} {checks : List Check} → QuietCall table checks → (last : List Check) {r : ℕ} → r ≡ firstCaught (checks ++ last)
+quiet-longer : {table : List ℕ} {checks : List Check} → QuietCall table checks → (last : List Check) {r : ℕ} → r ≡ firstCaught (checks ++ last)
     → r ≡ 0 → areRefusals (checks ++ last) ≡ true → QuietCall table (checks ++ last)
 quiet-longer front last e none refusals = record { accepted = front .accepted; quiet = record { refusals = refusals; quiet = sym e ∙ none } }
 
@@ -129,7 +129,12 @@ module _ (table ceilings : List ℕ) (bytes : ℕ) {r : ℕ} (e : r ≡ firstCau
   unfolding markedLineChecks lineUnderChecks tableChecks caughtBy
   marks-long = ltb-false bytes (marksSize (decode table)) (quiet-by quiet-marking 19)
 
--- ---- a checkpoint, behind a receipt
+-- ---- a receipt; a checkpoint, behind it
+pub quiet-receiving : (table : List ℕ) (i : ℕ) (list : List ℕ) {r : ℕ} → r ≡ firstCaught (receiptCallChecks table i list) → r ≡ 0
+    → QuietCall table (receiptCallChecks table i list)
+unfolding receiptCallChecks receiptChecks areRefusals
+quiet-receiving table i list e none = quiet-call table _ refl e none
+
 module _ (table : List ℕ) (i : ℕ) (list : List ℕ) {r : ℕ} (e : r ≡ firstCaught (checkpointCallChecks table i list)) (none : r ≡ 0) where
   pub quiet-receipt : QuietCall table (receiptCallChecks table i list)
   unfolding checkpointCallChecks receiptCallChecks receiptChecks areRefusals

@@ -172,21 +172,24 @@ module _ (bytes : List ℕ) where
   count-at part none k l =
       decode-count bytes (processAt part k) (leb-false N (processAt part k) (none-below (unknownAt N part) M none k l))
 
+  -- a test of the count of an entry's process and of the entry's number
+  number-check : (bad : Message → Bool) (test : ℕ → ℕ → Bool) (part : List ℕ)
+      → ((k : ℕ) → bad (message k) ≡ test (countOf t (processAt part k)) (checkpointAt part k)) → anyBelow M (unknownAt N part) ≡ false
+      → any bad (t .messages) ≡ anyBelow M (λ k. test (countAt (countsPart bytes) (processAt part k)) (checkpointAt part k))
+  number-check bad test part is none =
+      any-message bad
+      ∙ anyBelow-ext (λ k. bad (message k)) (λ k. test (countAt (countsPart bytes) (processAt part k)) (checkpointAt part k)) M
+      (λ k l. is k ∙ ap (λ (c : ℕ). test c (checkpointAt part k)) (count-at part none k l))
+
   check-8 : anyBelow M (unknownAt N (sendsPart bytes)) ≡ false
       → any (badSend t) (t .messages) ≡ anyBelow M (notBelowAt (countsPart bytes) (sendsPart bytes))
   unfolding badSend messageAt notBelowAt
-  check-8 none =
-      any-message (badSend t)
-      ∙ anyBelow-ext (λ k. badSend t (message k)) (notBelowAt (countsPart bytes) (sendsPart bytes)) M
-      (λ k l. ap (λ (c : ℕ). leb c (checkpointAt (sendsPart bytes) k)) (count-at (sendsPart bytes) none k l))
+  check-8 = number-check (badSend t) leb (sendsPart bytes) (λ k. refl)
 
   check-9 : anyBelow M (unknownAt N (receiptsPart bytes)) ≡ false
       → any (badReceipt t) (t .messages) ≡ anyBelow M (aboveAt (countsPart bytes) (receiptsPart bytes))
   unfolding badReceipt messageAt aboveAt
-  check-9 none =
-      any-message (badReceipt t)
-      ∙ anyBelow-ext (λ k. badReceipt t (message k)) (aboveAt (countsPart bytes) (receiptsPart bytes)) M
-      (λ k l. ap (λ (c : ℕ). ltb c (checkpointAt (receiptsPart bytes) k)) (count-at (receiptsPart bytes) none k l))
+  check-9 = number-check (badReceipt t) ltb (receiptsPart bytes) (λ k. refl)
 
   -- where the sizes are right, the refusal is that of the parts
   parts-refusal : tooShort bytes ≡ false → badProcessCount bytes ≡ false → tooManyMessages bytes ≡ false → badLength bytes ≡ false

@@ -1,16 +1,13 @@
 -- `keeper_receive` meets its contract, at each return.
 -- Assumes nothing.
 use borrow.Author.Needs.{needs}
-use mathlib.Core.Path.{refl}
 use denote.Ref.{now}
 use Rattle.futures.proofs.StepLaws.{receipt-receives}
-use Rattle.futures.specs.Steps.{receiptChecks}
 use Rattle.keeper.proofs.AnswerLaws.{answered, refused, sixteen, too-short}
-use Rattle.refusals.proofs.RefusalLaws.{QuietCall, quiet-call}
+use Rattle.refusals.proofs.RefusalLaws.{QuietCall, quiet-receiving}
 use Rattle.keeper.proofs.StepAnswers.{can-receive, receipt-taken, received-bytes, received-room, table-holds}
 use Rattle.keeper.specs.Calls.{receiptAnswer}
 use Rattle.refusals.specs.CallChecks.{receiptCallChecks}
-use Rattle.run_table.proofs.CheckLaws.{areRefusals}
 use Rattle.keeper.proofs.keeper_receive.Statement.{statement}
 use Rattle.keeper.proofs.keeper_receive.Tie as tie
 
@@ -28,8 +25,7 @@ sized c = c .before .before .before
 quiet : (c : tie.Else1)
     → (let args = entry c .args in
     QuietCall (now (args .table)) (receiptCallChecks (now (args .table)) (args .process) (now (args .list))))
-unfolding receiptCallChecks receiptChecks areRefusals
-quiet c = quiet-call _ _ refl (c .before .receipt-refusal .ensures) (c .if1 .left)
+quiet c = quiet-receiving _ _ _ (c .before .receipt-refusal .ensures) (c .if1 .left)
 
 -- ---- the needs, in the code's course
 pub keeper-receive-spec : {M : Type 1} → statement M

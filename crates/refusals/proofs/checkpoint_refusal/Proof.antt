@@ -1,12 +1,10 @@
 -- `checkpoint_refusal` meets its contract: the checks of a receipt, and then 14.
 -- Assumes nothing.
 use borrow.Author.Needs.{needs}
-use mathlib.Core.Path.{refl}
 use denote.Ref.{now}
-use Rattle.futures.specs.Steps.{receiptChecks}
-use Rattle.refusals.proofs.RefusalLaws.{QuietCall, last-caught, last-quiet, le-read, lt-read, quiet-call}
+use Rattle.refusals.proofs.RefusalLaws.{QuietCall, last-caught, last-quiet, le-read, lt-read, quiet-receiving}
 use Rattle.refusals.specs.CallChecks.{checkpointCallChecks, receiptCallChecks}
-use Rattle.run_table.proofs.CheckLaws.{areRefusals, caught-first}
+use Rattle.run_table.proofs.CheckLaws.{caught-first}
 use Rattle.refusals.proofs.checkpoint_refusal.Statement.{statement}
 use Rattle.refusals.proofs.checkpoint_refusal.Tie as tie
 
@@ -18,8 +16,7 @@ entry c = c .before .before .before
 quiet : (c : tie.Else1)
     → (let args = entry (c .before) .args in
     QuietCall (now (args .table)) (receiptCallChecks (now (args .table)) (args .process) (now (args .list))))
-unfolding receiptCallChecks receiptChecks areRefusals
-quiet c = quiet-call _ _ refl (c .before .receipt-refusal .ensures) (c .if1 .left)
+quiet c = quiet-receiving _ _ _ (c .before .receipt-refusal .ensures) (c .if1 .left)
 
 -- ---- the needs, in the code's course
 pub checkpoint-refusal-spec : {M : Type 1} → statement M

@@ -354,10 +354,6 @@ fn of_unsaved() -> Vec<(&'static str, Vec<u8>, &'static str)> {
 // ---------------------------------------------------------------------------
 // Refusals, and the accepted side of each boundary.
 
-/// Refused by 9 before document 02, §4, and accepted since: a receipt number
-/// that is the count. The files keep their names.
-const ACCEPTED_SINCE: [&str; 2] = ["refused_9_first", "refused_9_receipt_count"];
-
 /// An entry: its name and its table.
 type Named = (String, Vec<u8>);
 
@@ -469,13 +465,13 @@ fn entries(list: &mut Vec<Named>) {
         written(&[3, 3], &[[0, 3, 1, 2], [1, 0, 0, 1]])
     });
     add(list, "accepted_receipt_count_minus_1", with([2, 0, 1, 1]));
-    add(list, "refused_9_receipt_count", with([2, 0, 1, 2]));
+    add(list, "accepted_receipt_count", with([2, 0, 1, 2]));
     add(list, "refused_9_receipt_below_the_senders_count", {
         with([2, 3, 1, 3])
     });
     add(list, "refused_9_receipt_65535", with([1, 0, 2, 65_535]));
     add(list, "refused_9_receipt_256", with([1, 0, 2, 256]));
-    add(list, "refused_9_first", {
+    add(list, "accepted_receipt_count_first", {
         written(&[3, 3], &[[0, 2, 1, 3], [1, 0, 0, 1]])
     });
     add(list, "refused_9_receipt_count_plus_1", with([2, 0, 1, 3]));
@@ -990,9 +986,6 @@ fn promised(name: &str, bytes: &[u8], text: &str) {
     let mut words = name.split('_');
     let (word, number) = (words.next(), words.next().unwrap_or(""));
     match word {
-        Some("refused") if ACCEPTED_SINCE.contains(&name) => {
-            assert!(text.starts_with("line "), "{name}: {text}");
-        }
         Some("refused") => assert_eq!(text, format!("refused {number}\n"), "{name}"),
         Some("share") => {
             assert!(text.ends_with(&format!("\nshare {number}\n")), "{name}");

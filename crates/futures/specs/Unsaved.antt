@@ -4,10 +4,11 @@ use mathlib.Core.Bool.{true}
 use mathlib.Core.List.{List, [], _∷_}
 use mathlib.Core.Path.{_≡_}
 use Prim.Native.Nat.{ℕ, _<_}
+use Rattle.consistency.specs.Ceilings.{recoveryLine}
 use Rattle.consistency.specs.Lines.{asLine}
-use Rattle.futures.specs.Futures.{FollowedTo, endOf}
+use Rattle.futures.specs.Futures.{FollowedTo, StillThere, endOf}
 use Rattle.futures.specs.Sheet.{crosses, holderLine, keepsMessage}
-use Rattle.futures.specs.Steps.{checkpoint, receiptChecks, receive, rollback, step, waitsFor}
+use Rattle.futures.specs.Steps.{checkpoint, receiptChecks, receive, rollback, stays, step, waitsFor}
 use Rattle.run_table.specs.Checks.{firstCaught}
 use Rattle.run_table.specs.Lists.{anyBelow}
 use Rattle.run_table.specs.Table.{Table, countOf, messageCount, messageOf, processCount}
@@ -16,15 +17,22 @@ use Rattle.run_table.specs.Table.{Table, countOf, messageCount, messageOf, proc
 unfoldable pub Unsaved : Table → ℕ → Type 0
 Unsaved t k = (k < messageCount t) × (messageOf t k .received ≡ countOf t (messageOf t k .receiver))
 
--- A message that waits for a process of the table is received in some future, and is there at its end, unsaved. An
--- unsaved one stays as it is in a checkpoint of its receiver, and lies below the count then: it is saved. A rollback
--- leaves none. The sheet keeps one just where it crosses the line of some single holder.
+-- A message that waits for a process is received in some future, and is there at its end, unsaved. A receipt keeps
+-- every checkpoint, and every message at its position; one of nothing leaves the table. An unsaved message stays as
+-- it is in a checkpoint of its receiver, and lies below the count then: it is saved. A rollback leaves none; one whose
+-- send remains is there after it, undelivered. The sheet keeps one just where it crosses the line of some single
+-- holder.
 pub record Receipts (t : Table) : Type 0 where
-  pub received : (i k : ℕ) → i < processCount t → k < messageCount t → waitsFor i (messageOf t k) ≡ true
-      → Unsaved (endOf t (receive i (k ∷ []) ∷ [])) k × FollowedTo t (receive i (k ∷ []) ∷ []) k k
+  pub received : (i k : ℕ) → k < messageCount t → waitsFor i (messageOf t k) ≡ true
+      → Unsaved (endOf t (receive i (k ∷ []) ∷ [])) k
+  pub nothing-lost : (i : ℕ) (list : List ℕ) → ((p c : ℕ) → StillThere t (receive i list ∷ []) p c)
+      × ((k : ℕ) → FollowedTo t (receive i list ∷ []) k k)
+  pub of-nothing : (i : ℕ) → step t (receive i []) ≡ t
   pub saved : (i : ℕ) (list : List ℕ) → firstCaught (receiptChecks t i list) ≡ 0 → (k : ℕ) → Unsaved t k
       → messageOf t k .receiver ≡ i → (messageOf (step t (checkpoint i list)) k ≡ messageOf t k)
       × (messageOf t k .received < countOf (step t (checkpoint i list)) i)
   pub rolled-back : (k : ℕ) → Unsaved (step t rollback) k → ⊥
+  pub waits-again : (k : ℕ) → Unsaved t k → stays (recoveryLine t) (messageOf t k) ≡ true
+      → (n : ℕ) × FollowedTo t (rollback ∷ []) k n × (messageOf (step t rollback) n .received ≡ 0)
   pub kept : (k : ℕ) → Unsaved t k → keepsMessage t (messageOf t k)
       ≡ anyBelow (processCount t) (λ h. crosses (asLine (holderLine t h)) (messageOf t k))
