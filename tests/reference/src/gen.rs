@@ -447,6 +447,31 @@ pub fn boundary_ceilings(table: &Table) -> Vec<Vec<u16>> {
 }
 
 // ---------------------------------------------------------------------------
+// Receipt numbers of an accepted table.
+
+/// The bytes with one receipt number made another, message by message, on both
+/// sides of "Check 9 refuses only numbers above the count": 0, the count less
+/// one, the count, one more and 65,535; each with the refusal that it meets.
+pub fn boundary_receipts(table: &Table) -> Vec<(Vec<u8>, u32)> {
+    let mut all = Vec::new();
+    for (k, message) in table.messages.iter().enumerate() {
+        let count = table.counts[message.receiver];
+        for (received, refusal) in [
+            (0, 0),
+            (count - 1, 0),
+            (count, 0),
+            (count + 1, 9),
+            (u32::from(u16::MAX), 9),
+        ] {
+            let mut other = table.clone();
+            other.messages[k].received = received;
+            all.push((other.to_bytes(), refusal));
+        }
+    }
+    all
+}
+
+// ---------------------------------------------------------------------------
 // Damage. Each function takes an accepted table and yields bytes that meet its
 // refusal first, or `None` when the table has no message to damage.
 

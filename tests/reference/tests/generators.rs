@@ -224,6 +224,31 @@ fn damage_meets_its_refusal() {
     assert_eq!(not_met, BTreeSet::from([6, 7, 8, 9]));
 }
 
+/// The receipt number of each message, and of no other, on both sides of check
+/// 9: as many on each side as there are to be.
+#[test]
+fn boundary_receipts_are_on_both_sides() {
+    let mut rng = Rng::new(25);
+    for (n, m, most) in [(2, 1, 1), (3, 6, 4), (32, 40, 4096)] {
+        let table = arbitrary(&mut rng, n, m, most);
+        let all = boundary_receipts(&table);
+        assert_eq!(all.len(), 5 * m);
+        for (at, (bytes, refusal)) in all.iter().enumerate() {
+            assert_eq!(check_table(bytes), *refusal);
+            for (k, message) in table.messages.iter().enumerate() {
+                let count = table.counts[message.receiver];
+                let expected = match at.checked_sub(5 * k) {
+                    Some(side @ 0..5) => [0, count - 1, count, count + 1, 65_535][side],
+                    _ => message.received,
+                };
+                assert_eq!(u32::from(received(bytes, k)), expected);
+            }
+        }
+        let refused = all.iter().filter(|(_, refusal)| *refusal == 9);
+        assert_eq!(refused.count(), 2 * m);
+    }
+}
+
 /// Damage for 9 begins at one above the count, which is met, and the count
 /// itself is no damage.
 #[test]

@@ -197,24 +197,23 @@ fn bounds(comparison: &mut Comparison, seed: u64) -> Result<(), Box<Difference>>
         }
     }
     for (k, message) in whole.messages.iter().enumerate() {
-        let (from, to) = (whole.counts[message.sender], whole.counts[message.receiver]);
-        let mut near = [*message; 7];
+        let mut near = [*message; 4];
         near[0].sender = 3;
         near[1].receiver = 3;
-        near[2].sent = from - 1;
-        near[3].sent = from;
-        near[4].received = to - 1;
-        near[5].received = to;
-        near[6].received = to + 1;
+        near[2].sent = whole.counts[message.sender] - 1;
+        near[3].sent = whole.counts[message.sender];
         for message in near {
             let mut table = whole.clone();
             table.messages[k] = message;
             tables.push(table);
         }
     }
+    let mut tables: Vec<Vec<u8>> = tables.iter().map(Table::to_bytes).collect();
+    let receipts = gen::boundary_receipts(&whole);
+    tables.extend(receipts.into_iter().map(|(bytes, _)| bytes));
     for (number, table) in tables.iter().enumerate() {
         let made_by = format!("bounds, seed {seed}, table {number}");
-        make::battery(comparison, rng, &made_by, &table.to_bytes(), true)?;
+        make::battery(comparison, rng, &made_by, table, true)?;
     }
     Ok(())
 }
