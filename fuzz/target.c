@@ -343,9 +343,9 @@ static void list_is_set(struct call *call, size_t entries)
     }
 }
 
-/* A list for a save and a receipt: entries of the input, or the positions that wait for the process, all or every
-   other, perhaps with one of them changed. Where the upper four bits of its byte are 10, the positions that were
-   received and are unsaved are among them. */
+/* A list for a save and a receipt: entries of the input, and, where the upper four bits of its byte are 3, 65,536
+   more, which 16 bits don't count; or the positions that wait for the process, all or every other, perhaps with one
+   of them changed, and, where these bits are 10, the positions that were received and are unsaved among them. */
 static void make_list(struct input *input, struct call *call)
 {
     unsigned kind = byte(input);
@@ -354,9 +354,14 @@ static void make_list(struct input *input, struct call *call)
     size_t length = table_length;
     size_t n = length >= 4 ? get_number(0) : 0, m = length >= 4 ? get_number(1) : 0;
     if (kind % 2 == 0) {
-        entries = kind / 2 % 16;
+        bool is_long = (kind & 0xF0) == 0x30;
+        entries = kind / 2 % (is_long ? 8 : 16);
         for (size_t at = 0; at < entries; at++)
             list[at] = (uint16_t)number(input);
+        if (is_long) {
+            memset(list + entries, 0xFF, sizeof(uint16_t) * 65536);
+            entries += 65536;
+        }
     } else if (length == 4 + 2 * n + 8 * m) {
         size_t receipts = 2 + n + 2 * m, seen = 0;
         for (size_t k = 0; k < m && entries < MOST_POSITIONS; k++) {
