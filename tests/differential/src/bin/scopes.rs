@@ -742,7 +742,7 @@ const PART: [&str; 17] = [
     "needs 3 2 2 3",
 ];
 
-/// Larger ones: some minutes.
+/// Larger ones: some ten minutes.
 const MORE: [&str; 13] = [
     "lines 3 3 4",
     "lines 4 2 3",
