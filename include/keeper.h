@@ -18,7 +18,7 @@
 
    Success. The answer stands at the front of the answer buffer and its length in bytes in `*written`;
    what lies beyond the answer in the buffer is unchanged. The numbers of an answer have 16 bits, low
-   byte first.
+   byte first. One answer has no bytes, the no of keeper_stand_together.
 
    Refusal. Nothing lent is changed, neither `*written` nor the answer buffer nor the marks, in any byte.
    There is one exception, which stands at keeper_keep_sheet.
@@ -69,6 +69,10 @@ enum keeper_refusal {
     KEEPER_UNKNOWN_PROCESS_IN_SET = 12,    /* a set has a bit at N or above */
     KEEPER_WRONG_CEILING_COUNT = 17,       /* the list of ceilings does not have N numbers */
     KEEPER_CEILING_TOO_HIGH = 18,          /* a ceiling is above its process's count */
+    KEEPER_UNEQUAL_LISTS = 20,             /* the lists of named processes and of their states are of unequal
+                                              length */
+    KEEPER_BAD_NAMED_PROCESS = 21,         /* a named process is N or above, or not above the one before it */
+    KEEPER_NAMED_STATE_TOO_HIGH = 22,      /* a named state is not below its process's count */
     KEEPER_BAD_LIST = 13,                  /* the list of a save or receipt has a position of M or above,
                                               or not above the one before it, or of a message not waiting
                                               for that process */
@@ -89,6 +93,10 @@ static inline const char *keeper_refusal_words(uint32_t refusal)
     case KEEPER_UNKNOWN_PROCESS_IN_SET: return "a set has a bit at N or above";
     case KEEPER_WRONG_CEILING_COUNT: return "the list of ceilings does not have N numbers";
     case KEEPER_CEILING_TOO_HIGH: return "a ceiling is above its process's count";
+    case KEEPER_UNEQUAL_LISTS:
+        return "the lists of named processes and of their states are of unequal length";
+    case KEEPER_BAD_NAMED_PROCESS: return "a named process is N or above, or not above the one before it";
+    case KEEPER_NAMED_STATE_TOO_HIGH: return "a named state is not below its process's count";
     case KEEPER_BAD_LIST:
         return "the list of a save or receipt has a position of M or above, or not above the one before it, "
                "or of a message not waiting for that process";
@@ -213,6 +221,30 @@ uint32_t keeper_line_under(const uint8_t *table, size_t length, const uint16_t *
 uint32_t keeper_marked_line(const uint8_t *table, size_t length, const uint16_t *ceilings,
                             size_t ceilings_length, uint8_t *marks, size_t marks_length, uint8_t *answer,
                             size_t room, size_t *written);
+
+/* Whether named checkpoints can stand together: the latest consistent line that has each of them, or a no.
+   The two lists name checkpoint states[k] of processes[k], k from 0 on. They are of one length, the processes
+   strictly rising, and each number is that of a checkpoint: below the count. Processes that are not named may
+   stand anywhere up to their counts. Both lists may be empty, and then NULL: the answer is a yes, and the
+   counts.
+
+   A no is right just as a yes is. It is given exactly when a zigzag path leads from one of the named
+   checkpoints to another of them, or to itself (Netzer and Xu, "Adaptive Independent Checkpointing for
+   Reducing Rollback Propagation", Definition 1). That is a chain of received messages: the first is sent by
+   the process of the first checkpoint and has a send number at or above its number; each next one is sent by
+   the receiver of the one before, in the interval of that receipt or a later one, so that its send number is
+   at or above that receipt number less one; the last is received by the process of the second checkpoint and
+   has a receipt number at or below its number. A message may be sent before the one ahead of it is received,
+   if that is in one interval: this sets a zigzag path apart from a chain of cause and effect, and lets one
+   lead from a checkpoint to itself. Such a checkpoint is on no consistent line at all.
+
+   Under KEEPER_OK `*written` tells the two apart. Yes: 2N, and the answer is N numbers by process, the latest
+   of all consistent lines that have the named checkpoints. No: 0, and the answer buffer is unchanged, however
+   short it is: check 16 is of a yes alone. What is said at keeper_line_under of what may be discarded holds
+   here too. Checks: the table's, 20, 21, 22, 16. Stack: 192. */
+uint32_t keeper_stand_together(const uint8_t *table, size_t length, const uint16_t *processes,
+                               size_t processes_length, const uint16_t *states, size_t states_length,
+                               uint8_t *answer, size_t room, size_t *written);
 
 /* Steps. The answer of each is an accepted table again. It is written to another buffer than the table
    is read from. */
