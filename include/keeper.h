@@ -229,7 +229,7 @@ uint32_t keeper_marked_line(const uint8_t *table, size_t length, const uint16_t 
    counts.
 
    A no is right just as a yes is. It is given exactly when a zigzag path leads from one of the named
-   checkpoints to another of them, or to itself (Netzer and Xu, "Adaptive Independent Checkpointing for
+   checkpoints to another of them, or to itself (Xu and Netzer, "Adaptive Independent Checkpointing for
    Reducing Rollback Propagation", Definition 1). That is a chain of received messages: the first is sent by
    the process of the first checkpoint and has a send number at or above its number; each next one is sent by
    the receiver of the one before, in the interval of that receipt or a later one, so that its send number is
