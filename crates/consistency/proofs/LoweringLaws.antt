@@ -10,6 +10,7 @@
 --     line-is                       a line that is the latest one under a ceiling is the computed one
 --     line-from, line-put-back      any start between the line and its ceiling ends at the same line
 --     line-consistent               a consistent line is the line under itself
+--     line-carries                  what the ceiling has, and each orphan's receiver put back leaves, the line has
 -- Assumes nothing.
 use mathlib.Core.Bool.{Bool, true, false, _&&_, false≢true}
 use mathlib.Core.List.{List, [], _∷_}
@@ -260,3 +261,26 @@ line-put-back ms l k m e o =
 -- a consistent line is the line under itself
 pub line-consistent : (ms : List Message) (l : List ℕ) → Consistent ms (asLine l) → l ≡ lineUnder ms l
 line-consistent ms l c = line-is ms l l refl (record { under = λ p. le-refl (asLine l p); consistent = c; latest = λ other below _. below })
+
+-- what holds of the ceiling, and goes on holding when an orphan's receiver is put back, holds of the line
+module _ (P : List ℕ → Type 0) where
+  abbrev PutsBack : List Message → Type 0
+  PutsBack ms =
+      (k : ℕ) (l : List ℕ) → Orphan (getD ms k noMessage) (asLine l) → P l
+      → P (set l (getD ms k noMessage .receiver) (getD ms k noMessage .received - 1))
+
+  pass-carries : (ms : List Message) → PutsBack ms → (l : List ℕ) → P l → P (pass ms l)
+  unfolding pass
+  pass-carries [] goes-on l h = h
+  pass-carries (m ∷ rest) goes-on l h =
+      let before : P (pass rest l) = pass-carries rest (λ k. goes-on (suc k)) l h in
+      lower-cases m (pass rest l) P (λ o. goes-on zero (pass rest l) o before) (λ _. before)
+
+  passes-carry : (n : ℕ) (ms : List Message) → PutsBack ms → (l : List ℕ) → P l → P (passes n ms l)
+  unfolding passes
+  passes-carry zero ms goes-on l h = h
+  passes-carry (suc n) ms goes-on l h = passes-carry n ms goes-on (pass ms l) (pass-carries ms goes-on l h)
+
+  pub line-carries : (ms : List Message) → PutsBack ms → (ceiling : List ℕ) → P ceiling → P (lineUnder ms ceiling)
+  unfolding lineUnder
+  line-carries ms goes-on ceiling h = passes-carry (sum ceiling) ms goes-on ceiling h
