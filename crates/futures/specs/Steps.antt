@@ -44,7 +44,7 @@ waitsFor i m = eqb (m .receiver) i && eqb (m .received) 0
 unfoldable pub badPosition : Table → ℕ → ℕ → Bool
 badPosition t i k = leb (messageCount t) k || not (waitsFor i (messageOf t k))
 
--- A position that is not above the one before it.
+-- An entry of a list that is not above the one before it.
 unfoldable pub notRisingAfter : ℕ → List ℕ → Bool
 notRisingAfter k [] = false
 notRisingAfter k (next ∷ rest) = leb next k || notRisingAfter next rest

@@ -1,17 +1,18 @@
 -- The checks of each call on a table before 16, in checking order, from the table's bytes and the call's other
 -- arguments (docs/MANUAL.md, "Refusals"). Assumes nothing.
-use mathlib.Core.Bool.{not}
+use mathlib.Core.Bool.{not, _||_}
 use mathlib.Core.List.{List, [], _∷_, _++_}
 use Prim.Native.Nat.{ℕ, _*_}
 use lib.Dec.{eqb, leb, ltb}
 use lib.ListN.{length}
 use Rattle.consistency.specs.Ceilings.{aboveCounts}
-use Rattle.futures.specs.Steps.{receiptChecks, sendChecks}
+use Rattle.futures.specs.Steps.{notRising, receiptChecks, sendChecks}
 use Rattle.marks.specs.Room.{marksSize}
 use Rattle.process_set.specs.Sets.{highBit}
 use Rattle.run_table.specs.Checks.{Check, tableChecks}
 use Rattle.run_table.specs.Format.{decode}
 use Rattle.run_table.specs.Table.{countOf, messageCount, mostCheckpoints, mostMessages, processCount}
+use Rattle.zigzag.specs.Names.{notBelowCounts, unknownNamed}
 
 -- The checks of a call on a table: the table's, and then the call's own.
 abbrev pub onTable : List ℕ → List Check → List Check
@@ -36,6 +37,15 @@ unfoldable pub markedLineChecks : List ℕ → List ℕ → ℕ → List Check
 markedLineChecks table ceilings bytes =
     lineUnderChecks table ceilings
     ++ (record { caught = ltb bytes (marksSize (decode table)); number = 19 } ∷ [])
+
+-- Named checkpoints that stand together: the table's; 20, that the two lists are of unequal length; 21, that a process
+-- is N or above, or not above the one before it; 22, that a number is not below its process's count.
+unfoldable pub standTogetherChecks : List ℕ → List ℕ → List ℕ → List Check
+standTogetherChecks table processes states =
+    onTable table (record { caught = not (eqb (length processes) (length states)); number = 20 }
+    ∷ record { caught = unknownNamed (decode table) processes || notRising processes; number = 21 }
+    ∷ record { caught = notBelowCounts (decode table) processes states; number = 22 }
+    ∷ [])
 
 -- A send: the table's; 10 and 11; 14, that M is 4,096 already.
 unfoldable pub sendCallChecks : List ℕ → ℕ → ℕ → List Check

@@ -2,6 +2,8 @@
 // checks come first, so what stands behind them judges an accepted table.
 use chosen_ceilings::above_counts;
 use marks::marks_size;
+use named_checkpoints::not_below_counts;
+use named_checkpoints::unknown_process;
 use process_set::has_high_bit;
 use run_table::checks::check;
 use run_table::format::MOST_CHECKPOINTS;
@@ -13,7 +15,7 @@ use steps::receipts::not_rising;
 ghost use mathlib.Core.Path.{_≡_};
 ghost use Rattle.refusals.specs.CallChecks.{checkpointCallChecks, keepSheetChecks, lineOfSetChecks};
 ghost use Rattle.refusals.specs.CallChecks.{lineUnderChecks, markedLineChecks, receiptCallChecks};
-ghost use Rattle.refusals.specs.CallChecks.{sendCallChecks};
+ghost use Rattle.refusals.specs.CallChecks.{sendCallChecks, standTogetherChecks};
 ghost use Rattle.run_table.specs.Checks.{firstCaught};
 
 // The line of a set: the table's checks, 12.
@@ -57,6 +59,30 @@ pub fn marking_refusal(table: &[u8], ceilings: &[u16], bytes: usize) -> u32
     }
     if bytes < marks_size(table) {
         return 19;
+    }
+    0
+}
+
+// Named checkpoints that stand together: the table's checks, 20, 21, 22.
+pub fn names_refusal(table: &[u8], processes: &[u16], states: &[u16]) -> u32
+    ensures { λ r. ⌜ r ≡ firstCaught
+        (standTogetherChecks (now (table .entry)) (now (processes .entry)) (now (states .entry))) ⌝ }
+{
+    let refusal = check(table);
+    if refusal != 0 {
+        return refusal;
+    }
+    if processes.len() != states.len() {
+        return 20;
+    }
+    if unknown_process(table, processes) {
+        return 21;
+    }
+    if not_rising(processes) {
+        return 21;
+    }
+    if not_below_counts(table, processes, states) {
+        return 22;
     }
     0
 }

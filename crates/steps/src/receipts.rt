@@ -18,7 +18,7 @@ ghost use Rattle.run_table.specs.Numbers.{putAt, u16s};
 ghost use Rattle.run_table.specs.Table.{messageCount, processCount};
 ghost use Rattle.steps.specs.Receipts.{CanReceive, afterReceiving, receiptNumbers};
 
-// Whether a position of the list is not above the one before it.
+// Whether an entry of a list is not above the one before it.
 pub fn not_rising(list: &[u16]) -> bool
     ensures { λ r. ⌜ r ≡ notRising (now (list .entry)) ⌝ }
 {

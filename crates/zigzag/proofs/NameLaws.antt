@@ -3,7 +3,9 @@
 --     ceiling-named       at a named process it is the named number
 --     ceiling-else        at any process it is one that is named, or the count
 --     named-ceiling       it is a ceiling of the run
+--     names-checked       names are what checks 20, 21 and 22 let through
 -- Assumes nothing.
+use mathlib.Core.Bool.{false}
 use mathlib.Core.List.{List}
 use mathlib.Core.Logic.{_⊎_, inl, inr, ⊎-elim}
 use mathlib.Core.Path.{_≡_, refl, sym, ap, _∙_}
@@ -11,12 +13,14 @@ use Prim.Native.Nat.{ℕ, zero, suc, _<_}
 use native.Mathlib.Decide.{decLt, ℕ-discrete}
 use native.Mathlib.Nat.{le-refl}
 use native.Mathlib.Omega.{arith}
+use borrow.Author.Tests.{leb-false}
 use lib.ListN.{length, getD, set, length-set}
 use lib.Seq.{getD-set-same, getD-set-other}
 use Rattle.consistency.specs.Ceilings.{Ceiling}
 use Rattle.consistency.specs.Lines.{asLine}
+use Rattle.run_table.proofs.ListLaws.{none-below}
 use Rattle.run_table.specs.Table.{Table, countOf, processCount}
-use Rattle.zigzag.specs.Names.{Named, Names}
+use Rattle.zigzag.specs.Names.{Named, Names, notBelowCounts, unknownNamed}
 use Rattle.zigzag.specs.Together.{namedCeiling, putNamed}
 
 module _ (processes states : List ℕ) where
@@ -118,3 +122,15 @@ module _ {t : Table} {processes states : List ℕ} (names : Names t processes st
         ⊎-elim (λ (named : Named processes states p (ceiling p)). omega (arith, named-saved named)) (λ (e : ceiling p ≡ countOf t p). omega (arith, e))
         (ceiling-else p);
   }
+
+-- ---- names are what checks 20, 21 and 22 let through
+pub names-checked : (t : Table) (processes states : List ℕ) → length processes ≡ length states → unknownNamed t processes ≡ false
+    → ((k l : ℕ) → k < l → l < length processes → getD processes k 0 < getD processes l 0) → notBelowCounts t processes states ≡ false
+    → Names t processes states
+unfolding unknownNamed notBelowCounts
+names-checked t processes states e known rises below = record {
+  for-each = sym e;
+  known = λ k b. leb-false (processCount t) (getD processes k 0) (none-below _ (length processes) known k b);
+  different = λ k l less b same. omega (arith, rises k l less b);
+  saved = λ k b. leb-false (countOf t (getD processes k 0)) (getD states k 0) (none-below _ (length processes) below k b);
+}

@@ -10,6 +10,10 @@ use Rattle.run_table.specs.Lists.{anyBelow}
 use Rattle.run_table.specs.Table.{Table, countOf, processCount}
 use Rattle.zigzag.specs.Paths.{Zigzag}
 
+-- Check 21, of one process: it is N or above.
+unfoldable pub unknownNamed : Table → List ℕ → Bool
+unknownNamed t processes = anyBelow (length processes) (λ k. leb (processCount t) (getD processes k 0))
+
 -- Check 22: a number is not below the count of the process beside it.
 unfoldable pub notBelowCounts : Table → List ℕ → List ℕ → Bool
 notBelowCounts t processes states =

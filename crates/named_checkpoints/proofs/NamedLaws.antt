@@ -1,0 +1,177 @@
+-- The lists of named checkpoints, as the code goes over them.
+--     Searched, searched-none, searched-more, searched-all, searched-here    a loop that looks for a name that passes a test
+--     Known, known-all, unknown-here, known-here    one that looks for a process of N or above
+--     Compared, compared-none, compared-all    one that looks for a number that is not below its count
+--     process-inside, not-below-here, below-here    the process of a turn, and what its test says
+--     Putting, putting-none, putting-more, putting-all    a loop that puts the named numbers into an array of the counts
+--     line-put                              the line under that array
+--     parallel                              lists of which each process is known
+-- Assumes nothing.
+use mathlib.Core.Bool.{Bool, true, false}
+use mathlib.Core.List.{List}
+use mathlib.Core.Path.{_≡_, refl, sym, ap, _∙_, subst}
+use Prim.Native.Nat.{ℕ, _+_, _≤_, _<_, zero-le}
+use native.Mathlib.Nat.{le-antisymm}
+use native.Mathlib.Numerals.{add-one}
+use native.Mathlib.Omega.{arith}
+use borrow.Author.Tests.{le-leb, leb-false, lt-leb}
+use lib.Dec.{leb}
+use lib.ListN.{length, getD, set}
+use Rattle.consistency.specs.Lowering.{lineUnder}
+use Rattle.lines.proofs.LineReads.{array-line}
+use Rattle.named_checkpoints.specs.Lists.{Parallel}
+use Rattle.run_table.proofs.ArrayLaws.{array-at, array-set}
+use Rattle.run_table.proofs.ListLaws.{anyBelow-found, anyBelow-more, none-below}
+use Rattle.run_table.proofs.ReadLaws.{processes-few}
+use Rattle.run_table.specs.Arrays.{arrayOf}
+use Rattle.run_table.specs.Checks.{tableRefusal}
+use Rattle.run_table.specs.Format.{decode}
+use Rattle.run_table.specs.Lists.{anyBelow}
+use Rattle.run_table.specs.Table.{Table, countOf, processCount}
+use Rattle.zigzag.proofs.NameLaws.{put-length}
+use Rattle.zigzag.specs.Names.{notBelowCounts, unknownNamed}
+use Rattle.zigzag.specs.Together.{namedCeiling, namedLine, putNamed}
+
+-- ---- a loop that looks for a name that passes a test
+-- It has found none of the first k of n.
+pub record Searched (n : ℕ) (test : ℕ → Bool) (k : ℕ) : Type 0 where
+  pub within : k ≤ n
+  pub none : anyBelow k test ≡ false
+
+module _ {n : ℕ} {test : ℕ → Bool} where
+  pub searched-none : Searched n test 0
+  unfolding anyBelow
+  searched-none = record { within = zero-le; none = refl }
+
+  module _ {k : ℕ} (w : Searched n test k) where
+    pub searched-all : n ≤ k → false ≡ anyBelow n test
+    searched-all l = sym (w .none) ∙ ap (λ (j : ℕ). anyBelow j test) (le-antisymm (w .within) l)
+
+    module _ (l : k < n) where
+      pub searched-here : test k ≡ true → true ≡ anyBelow n test
+      searched-here passes = sym (anyBelow-found test n k l passes)
+
+      pub searched-more : test k ≡ false → Searched n test (k + 1)
+      searched-more fails = record { within = omega arith; none = anyBelow-more test k (w .none) fails }
+
+-- ---- a loop that looks for a process of N or above
+pub record Known (table processes : List ℕ) (n k : ℕ) : Type 0 where
+  pub n-is : n ≡ processCount (decode table)
+  pub searched : Searched (length processes) (λ j. leb (processCount (decode table)) (getD processes j 0)) k
+
+module _ {table processes : List ℕ} {n k : ℕ} (w : Known table processes n k) where
+  pub known-all : length processes ≤ k → false ≡ unknownNamed (decode table) processes
+  unfolding unknownNamed
+  known-all l = searched-all (w .searched) l
+
+  module _ (l : k < length processes) where
+    pub unknown-here : n ≤ getD processes k 0 → true ≡ unknownNamed (decode table) processes
+    unfolding unknownNamed
+    unknown-here h = searched-here (w .searched) l (le-leb (processCount (decode table)) (getD processes k 0) (omega (arith, w .n-is)))
+
+    pub known-here : getD processes k 0 < n → Known table processes n (k + 1)
+    known-here h = record {
+      n-is = w .n-is;
+      searched = searched-more (w .searched) l (lt-leb (processCount (decode table)) (getD processes k 0) (omega (arith, w .n-is)));
+    }
+
+-- ---- a loop that looks for a number that is not below its count
+-- number k is not below the count of its process
+abbrev notBelow : Table → List ℕ → List ℕ → ℕ → Bool
+notBelow t processes states k = leb (countOf t (getD processes k 0)) (getD states k 0)
+
+pub record Compared (table processes states counts : List ℕ) (k : ℕ) : Type 0 where
+  pub accepted : tableRefusal table ≡ 0
+  pub lists : Parallel (processCount (decode table)) processes states
+  pub counts-are : counts ≡ arrayOf (decode table .counts)
+  pub searched : Searched (length processes) (notBelow (decode table) processes states) k
+
+module _ {table processes states counts : List ℕ} where
+  pub compared-none : tableRefusal table ≡ 0 → Parallel (processCount (decode table)) processes states → counts ≡ arrayOf (decode table .counts)
+      → Compared table processes states counts 0
+  compared-none accepted lists are = record { accepted = accepted; lists = lists; counts-are = are; searched = searched-none }
+
+  module _ {k : ℕ} (w : Compared table processes states counts k) where
+    pub compared-all : length processes ≤ k → false ≡ notBelowCounts (decode table) processes states
+    unfolding notBelowCounts
+    compared-all l = searched-all (w .searched) l
+
+    module _ (l : k < length processes) where
+      pub process-inside : getD processes k 0 < 32
+      process-inside = omega (arith, w .lists .known k l, processes-few table (w .accepted))
+
+      count-here : getD counts (getD processes k 0) 0 ≡ countOf (decode table) (getD processes k 0)
+      unfolding countOf processCount
+      count-here =
+          ap (λ (a : List ℕ). getD a (getD processes k 0) 0) (w .counts-are)
+          ∙ array-at (decode table .counts) (processes-few table (w .accepted)) (getD processes k 0)
+
+      pub not-below-here : getD counts (getD processes k 0) 0 ≤ getD states k 0 → true ≡ notBelowCounts (decode table) processes states
+      unfolding notBelowCounts
+      not-below-here h = searched-here (w .searched) l (le-leb (countOf (decode table) (getD processes k 0)) (getD states k 0) (omega (arith, count-here)))
+
+      pub below-here : getD states k 0 < getD counts (getD processes k 0) 0 → Compared table processes states counts (k + 1)
+      below-here h = record {
+        accepted = w .accepted;
+        lists = w .lists;
+        counts-are = w .counts-are;
+        searched = searched-more (w .searched) l (lt-leb (countOf (decode table) (getD processes k 0)) (getD states k 0) (omega (arith, count-here)));
+      }
+
+-- ---- a loop that puts the named numbers into an array of the counts
+-- It has put the first k.
+pub record Putting (table processes states ceiling : List ℕ) (k : ℕ) : Type 0 where
+  pub accepted : tableRefusal table ≡ 0
+  pub lists : Parallel (processCount (decode table)) processes states
+  pub within : k ≤ length processes
+  pub put : ceiling ≡ arrayOf (putNamed k processes states (decode table .counts))
+
+module _ {table processes states : List ℕ} where
+  pub putting-none : tableRefusal table ≡ 0 → Parallel (processCount (decode table)) processes states
+      → {ceiling : List ℕ} → ceiling ≡ arrayOf (decode table .counts) → Putting table processes states ceiling 0
+  unfolding putNamed
+  putting-none accepted lists read = record { accepted = accepted; lists = lists; within = zero-le; put = read }
+
+  module _ {ceiling : List ℕ} {k : ℕ} (w : Putting table processes states ceiling k) where
+    pub place-inside : k < length processes → getD processes k 0 < 32
+    place-inside l = omega (arith, w .lists .known k l, processes-few table (w .accepted))
+
+    pub putting-more : k < length processes → Putting table processes states (set ceiling (getD processes k 0) (getD states k 0)) (k + 1)
+    unfolding putNamed processCount
+    putting-more l =
+        let before : List ℕ = putNamed k processes states (decode table .counts) in
+        let size : length before ≡ length (decode table .counts) = put-length processes states k (decode table .counts) in
+        record {
+          accepted = w .accepted;
+          lists = w .lists;
+          within = omega arith;
+          put =
+              ap (λ (a : List ℕ). set a (getD processes k 0) (getD states k 0)) (w .put)
+              ∙ array-set before (getD processes k 0) (getD states k 0) (omega (arith, size, w .lists .known k l))
+              (omega (arith, size, processes-few table (w .accepted)))
+              ∙ ap (λ (j : ℕ). arrayOf (putNamed j processes states (decode table .counts))) (sym (add-one k));
+        }
+
+    pub putting-all : length processes ≤ k → ceiling ≡ arrayOf (namedCeiling (decode table) processes states)
+    unfolding namedCeiling
+    putting-all l =
+        w .put ∙ ap (λ (j : ℕ). arrayOf (putNamed j processes states (decode table .counts))) (le-antisymm (w .within) l)
+
+-- the line under that array
+pub line-put : (table : List ℕ) → tableRefusal table ≡ 0 → (processes states : List ℕ) {ceiling : List ℕ}
+    → ceiling ≡ arrayOf (namedCeiling (decode table) processes states)
+    → lineUnder (decode table .messages) ceiling ≡ arrayOf (namedLine (decode table) processes states)
+unfolding namedLine namedCeiling processCount
+line-put table accepted processes states put =
+    ap (lineUnder (decode table .messages)) put
+    ∙ array-line (decode table .messages) _
+    (omega (arith, put-length processes states (length processes) (decode table .counts), processes-few table accepted))
+
+-- ---- lists that 20 and the first half of 21 let through
+pub parallel : (t : Table) (processes states : List ℕ) → length processes ≡ length states → unknownNamed t processes ≡ false
+    → Parallel (processCount t) processes states
+unfolding unknownNamed
+parallel t processes states e none = record {
+  for-each = sym e;
+  known = λ k l. leb-false (processCount t) (getD processes k 0) (none-below _ (length processes) none k l);
+}

@@ -1,0 +1,54 @@
+-- `named_ceiling` meets its contract: the loop puts the named numbers into an array of the counts.
+-- Assumes nothing.
+use borrow.Author.Needs.{needs}
+use native.Mathlib.Omega.{arith}
+use Prim.Native.Nat.{_-_}
+use lib.ListN.{length}
+use Rattle.named_checkpoints.proofs.NamedLaws.{Putting, place-inside, putting-all, putting-more, putting-none}
+use Rattle.named_checkpoints.proofs.named_ceiling.Statement.{statement}
+use Rattle.named_checkpoints.proofs.named_ceiling.Tie as tie
+
+abbrev Inv-loop : tie.InvT-loop
+Inv-loop table processes states ceiling₀ k₀ ceiling k = Putting table processes states ceiling k
+
+abbrev μ-loop : tie.MeasureT-loop
+μ-loop table processes states ceiling₀ k₀ ceiling k = length processes - k
+
+-- ---- the places: the entry, from where the counts were read; a turn of the loop, from where its process was; that, from where its number was
+abbrev entry : tie.After-count-array Inv-loop μ-loop → tie.Start Inv-loop μ-loop
+entry c = c .before .before .before .before
+
+abbrev turn : tie.After-shared-slice-known4 Inv-loop μ-loop → tie.In-loop Inv-loop μ-loop
+turn c = c .before
+
+abbrev named : tie.After-shared-slice-known5 Inv-loop μ-loop → tie.After-shared-slice-known4 Inv-loop μ-loop
+named c = c .before
+
+-- ---- the needs, in the code's course
+pub named-ceiling-spec : {M : Type 1} → statement M
+named-ceiling-spec =
+    tie.close
+    (tie.spec
+    Inv-loop
+    μ-loop
+    (λ c κs. search needs)
+    (λ c. putting-none (entry c .pre .0) (entry c .pre .1) (c .count-array .ensures))
+    -- the process and the number
+    (λ c. omega arith)
+    (λ c. omega arith)
+    (λ c. omega (arith, place-inside (turn c .before .loop .inv) (turn c .loop-test .taken)))
+    (λ c. omega arith)
+    (λ c. omega (arith, turn (named c) .before .loop .inv .lists .for-each))
+    (λ c.
+    let here = turn (named c) in
+    omega (arith, place-inside (here .before .loop .inv) (here .loop-test .taken)))
+    (λ c.
+    let here = turn (named c) in
+    place-inside (here .before .loop .inv) (here .loop-test .taken))
+    -- one more is put
+    (λ c. omega arith)
+    (λ c. omega arith)
+    (λ c.
+    let here = turn (named c) in
+    putting-more (here .before .loop .inv) (here .loop-test .taken))
+    (λ c. putting-all (c .before .loop .inv) (c .loop-test .left)))

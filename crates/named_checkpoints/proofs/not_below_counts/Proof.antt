@@ -1,0 +1,54 @@
+-- `not_below_counts` meets its contract: the loop leaves at the first number that is not below its count.
+-- Assumes nothing.
+use borrow.Author.Needs.{needs}
+use native.Mathlib.Omega.{arith}
+use Prim.Native.Nat.{_-_}
+use lib.ListN.{length}
+use Rattle.named_checkpoints.proofs.NamedLaws.{Compared, below-here, compared-all, compared-none, not-below-here, process-inside}
+use Rattle.named_checkpoints.proofs.not_below_counts.Statement.{statement}
+use Rattle.named_checkpoints.proofs.not_below_counts.Tie as tie
+
+abbrev Inv-loop : tie.InvT-loop
+Inv-loop table processes states counts k₀ k = Compared table processes states counts k
+
+abbrev μ-loop : tie.MeasureT-loop
+μ-loop table processes states counts k₀ k = length processes - k
+
+-- ---- the places: the entry, from where the counts were read; a turn of the loop, from where its process was; that, from where its number was
+abbrev entry : tie.After-count-array Inv-loop μ-loop → tie.Start Inv-loop μ-loop
+entry c = c .before .before .before .before
+
+abbrev turn : tie.After-shared-slice-known4 Inv-loop μ-loop → tie.In-loop Inv-loop μ-loop
+turn c = c .before
+
+abbrev named : tie.After-shared-slice-known5 Inv-loop μ-loop → tie.After-shared-slice-known4 Inv-loop μ-loop
+named c = c .before
+
+-- ---- the needs, in the code's course
+pub not-below-counts-spec : {M : Type 1} → statement M
+not-below-counts-spec =
+    tie.close
+    (tie.spec
+    Inv-loop
+    μ-loop
+    (λ c κs. search needs)
+    (λ c. compared-none (entry c .pre .0) (entry c .pre .1) (c .count-array .ensures))
+    -- the process, its count and the number
+    (λ c. omega arith)
+    (λ c. omega arith)
+    (λ c. omega (arith, process-inside (turn c .before .loop .inv) (turn c .loop-test .taken)))
+    (λ c. omega (arith, process-inside (turn c .before .loop .inv) (turn c .loop-test .taken)))
+    (λ c. process-inside (turn c .before .loop .inv) (turn c .loop-test .taken))
+    (λ c. omega arith)
+    (λ c. omega (arith, turn (named c) .before .loop .inv .lists .for-each))
+    -- it is not below
+    (λ c.
+    let here = turn (named (c .before)) in
+    not-below-here (here .before .loop .inv) (here .loop-test .taken) (c .if1 .taken))
+    -- it is below
+    (λ c. omega arith)
+    (λ c. omega arith)
+    (λ c.
+    let here = turn (named (c .before)) in
+    below-here (here .before .loop .inv) (here .loop-test .taken) (c .if1 .left))
+    (λ c. compared-all (c .before .loop .inv) (c .loop-test .left)))
