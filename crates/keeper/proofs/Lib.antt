@@ -5,6 +5,7 @@
 --     MarkingAnswers    the answers of the line by marking
 --     SheetBytes    the keep sheet, read back from the buffer
 --     SheetAnswer   the scratch of the keep sheet
+--     StandingAnswers   the answers about named checkpoints that stand together
 --     StepAnswers   the answers of the steps
 pub mod AnswerLaws
 pub mod LineAnswers
@@ -12,4 +13,5 @@ pub mod MarkedCases
 pub mod MarkingAnswers
 pub mod SheetAnswer
 pub mod SheetBytes
+pub mod StandingAnswers
 pub mod StepAnswers

@@ -1,6 +1,7 @@
 -- The answers of the line calls.
 --     line-room          a buffer with room for a line of n numbers
---     line-holds         the numbers of an answer are the latest consistent line under a ceiling
+--     numbers-read       the numbers of an answer are the line's
+--     line-holds         they are the latest consistent line under a ceiling
 --     line-refused, line-short, line-answered    what a line call yields where a check before 16 catches, where 16 does, and where none does
 --     recovery-put       the line of all 32 bits is that under the ceiling of all processes
 --     ceilings-accepted  where no check of the call catches, the ceilings that were lent are a ceiling
@@ -60,7 +61,7 @@ module _ (table : List ℕ) (accepted : tableRefusal table ≡ 0) where
         ∙ u16At-u16s line (drop (length (u16s line)) buffer) p (omega (arith, under-length t ceiling c))
         (omega (arith, under-below t ceiling c p, facts table accepted .limits .counts-limit p l))
 
-    numbers-read : tabulate (processCount t) (λ p. u16At buffer′ (2 * p)) ≡ line
+    pub numbers-read : tabulate (processCount t) (λ p. u16At buffer′ (2 * p)) ≡ line
     numbers-read =
         let size = length-tabulate (processCount t) (λ p. u16At buffer′ (2 * p)) in
         ext-getD 0 _ line (size ∙ sym (under-length t ceiling c))

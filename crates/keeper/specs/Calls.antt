@@ -1,13 +1,13 @@
 -- The answer of each call, from the table's bytes, its other arguments and the length of the answer buffer. The checks
 -- before 16 are those of `refusals`. Assumes nothing.
-use mathlib.Core.Bool.{true}
-use mathlib.Core.List.{List, _++_}
+use mathlib.Core.Bool.{cond, true}
+use mathlib.Core.List.{List, [], _++_}
 use mathlib.Core.Logic.{_↔_}
 use mathlib.Core.Path.{_≡_}
 use Prim.Native.Nat.{ℕ, zero, suc, _+_, _*_, _<_}
 use lib.ListN.{length, take, drop}
 use Rattle.consistency.specs.Ceilings.{ceilingOf}
-use Rattle.consistency.specs.Lines.{Latest, asLine}
+use Rattle.consistency.specs.Lines.{AtOrBelow, Latest, Line, asLine}
 use Rattle.consistency.specs.Lowering.{lineUnder}
 use Rattle.futures.specs.Futures.{CheckpointNeeded, MessageNeeded}
 use Rattle.futures.specs.Sheet.{holderLines, sheet}
@@ -17,12 +17,14 @@ use Rattle.marking.specs.Procedure.{EndsWith}
 use Rattle.marks.specs.Room.{cleared, marksSize}
 use Rattle.process_set.specs.Sets.{member}
 use Rattle.refusals.specs.CallChecks.{checkpointCallChecks, keepSheetChecks, lineOfSetChecks, lineUnderChecks}
-use Rattle.refusals.specs.CallChecks.{markedLineChecks, receiptCallChecks, sendCallChecks}
+use Rattle.refusals.specs.CallChecks.{markedLineChecks, receiptCallChecks, sendCallChecks, standTogetherChecks}
 use Rattle.run_table.specs.Checks.{Accepted, Check, firstCaught, tableChecks}
 use Rattle.run_table.specs.Format.{decode, encode}
 use Rattle.run_table.specs.Lists.{tabulate}
 use Rattle.run_table.specs.Numbers.{u16At, u16s}
 use Rattle.run_table.specs.Table.{Table, processCount}
+use Rattle.zigzag.specs.Names.{NamedZigzag}
+use Rattle.zigzag.specs.Together.{StandOn, misses, namedLine}
 
 -- ---- lines
 -- The answer of every line call: the line under a ceiling. Checks: the call's, 16.
@@ -69,6 +71,33 @@ marksAfter (suc n) table marks = marks
 -- The same answer by the line that the other calls find: that of the line under ceilings, with 19 among the checks.
 unfoldable pub markedLineAnswer : List ℕ → List ℕ → ℕ → ℕ → Answer
 markedLineAnswer table ceilings bytes room = lineAnswer (markedLineChecks table ceilings bytes) table ceilings room
+
+-- ---- named checkpoints that stand together
+-- The bytes of the answer: a yes has the latest line under the names' ceiling, which has them all; a no has none.
+unfoldable pub standingBytes : Table → List ℕ → List ℕ → List ℕ
+standingBytes t processes states =
+    let line = namedLine t processes states in
+    cond (misses processes states line) [] (u16s line)
+
+-- Whether the named checkpoints stand together: its checks, 16. A no is as long as no buffer is too short for.
+unfoldable pub standTogetherAnswer : List ℕ → List ℕ → List ℕ → ℕ → Answer
+standTogetherAnswer table processes states room =
+    answer (standTogetherChecks table processes states) (standingBytes (decode table) processes states) room
+
+-- What a yes leaves: the first N numbers of the buffer are a consistent line that has the named checkpoints, and the
+-- latest such line.
+unfoldable pub HoldsStanding : Table → List ℕ → List ℕ → List ℕ → Type 0
+HoldsStanding t processes states buffer =
+    let line = asLine (tabulate (processCount t) (λ p. u16At buffer (2 * p))) in
+    StandOn t processes states line × ((other : Line) → StandOn t processes states other → AtOrBelow other line)
+
+-- What the call tells, where no check before 16 catches: its answer is a no, number 0 and length 0, exactly when a
+-- zigzag path leads from one of the named checkpoints to another or to itself; and it is a yes, number 0 and another
+-- length, only with their latest line.
+pub record TellsTogether (t : Table) (processes states : List ℕ) (number : ℕ) (buffer : List ℕ) (written : ℕ)
+    : Type 0 where
+  pub no : ((number ≡ 0) × (written ≡ 0)) ↔ NamedZigzag t processes states
+  pub yes : number ≡ 0 → (written ≡ 0 → ⊥) → HoldsStanding t processes states buffer
 
 -- ---- the steps
 -- The table after a send: its checks, 16.

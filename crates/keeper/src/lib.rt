@@ -9,9 +9,12 @@ pub mod sizes;
 use chosen_ceilings::put_line_under;
 use lines::recovery_line;
 use marked_line::put_marked_line;
+use named_checkpoints::misses_named;
+use named_checkpoints::named_line;
 use refusals::ceilings_refusal;
 use refusals::checkpoint_refusal;
 use refusals::marking_refusal;
+use refusals::names_refusal;
 use refusals::receipt_refusal;
 use refusals::send_refusal;
 use refusals::set_refusal;
@@ -41,9 +44,10 @@ ghost use Rattle.keeper.specs.Answers.{Yields};
 ghost use Rattle.keeper.specs.Calls.{HoldsLatest, HoldsSheet, HoldsTable, YieldsByMarking, scratchAfter};
 ghost use Rattle.keeper.specs.Calls.{checkpointAnswer, keepSheetAnswer, lineOfSetAnswer, lineUnderAnswer};
 ghost use Rattle.keeper.specs.Calls.{markedLineAnswer, marksAfter, receiptAnswer, recoveryLineAnswer};
-ghost use Rattle.keeper.specs.Calls.{rollbackAnswer, sendAnswer};
+ghost use Rattle.keeper.specs.Calls.{TellsTogether, rollbackAnswer, sendAnswer, standTogetherAnswer};
 ghost use Rattle.process_set.specs.Sets.{member};
-ghost use Rattle.run_table.specs.Checks.{tableRefusal};
+ghost use Rattle.refusals.specs.CallChecks.{standTogetherChecks};
+ghost use Rattle.run_table.specs.Checks.{firstCaught, tableRefusal};
 ghost use Rattle.run_table.specs.Format.{decode};
 
 // The refusal of a table: the number of the first of its checks that catches, or 0.
@@ -158,6 +162,44 @@ pub extern "C" fn keeper_marked_line(
         return 16;
     }
     put_marked_line(table, ceilings, marks, answer);
+    *written = size;
+    0
+}
+
+// Whether named checkpoints stand together, checkpoint `states[k]` of process `processes[k]` for each k: yes, with the
+// latest consistent line that has them all, N numbers by process; or no, with no bytes. It is a no exactly when a zigzag
+// path leads from one of them to another or to itself.
+#[no_mangle]
+pub extern "C" fn keeper_stand_together(
+    table: &[u8],
+    processes: &[u16],
+    states: &[u16],
+    answer: &mut [u8],
+    written: &mut usize,
+) -> u32
+    ensures outcome { λ r. ⌜ Yields
+        (standTogetherAnswer (now (table .entry)) (now (processes .entry)) (now (states .entry))
+        (length (now (answer .entry)))) r
+        (now (answer .entry)) (now (answer .exit)) (now (written .entry)) (now (written .exit)) ⌝ }
+    ensures zigzag { λ (r : ℕ). ⌜
+        (firstCaught (standTogetherChecks (now (table .entry)) (now (processes .entry)) (now (states .entry))) ≡ 0
+        → TellsTogether (decode (now (table .entry))) (now (processes .entry)) (now (states .entry)) r
+        (now (answer .exit)) (now (written .exit))) ⌝ }
+{
+    let refusal = names_refusal(table, processes, states);
+    if refusal != 0 {
+        return refusal;
+    }
+    let line = named_line(table, processes, states);
+    if misses_named(line, processes, states) {
+        *written = 0;
+        return 0;
+    }
+    let size = line_size(table);
+    if answer.len() < size {
+        return 16;
+    }
+    lines::put_line(table, line, answer);
     *written = size;
     0
 }

@@ -6,8 +6,9 @@
 --     Putting, putting-none, putting-more, putting-all    a loop that puts the named numbers into an array of the counts
 --     line-put                              the line under that array
 --     parallel                              lists of which each process is known
+--     misses-found, line-found              the line found as an array: whether it misses a name, and its first N numbers
 -- Assumes nothing.
-use mathlib.Core.Bool.{Bool, true, false}
+use mathlib.Core.Bool.{Bool, true, false, not}
 use mathlib.Core.List.{List}
 use mathlib.Core.Path.{_≡_, refl, sym, ap, _∙_, subst}
 use Prim.Native.Nat.{ℕ, _+_, _≤_, _<_, zero-le}
@@ -15,13 +16,14 @@ use native.Mathlib.Nat.{le-antisymm}
 use native.Mathlib.Numerals.{add-one}
 use native.Mathlib.Omega.{arith}
 use borrow.Author.Tests.{le-leb, leb-false, lt-leb}
-use lib.Dec.{leb}
-use lib.ListN.{length, getD, set}
+use lib.Dec.{eqb, leb}
+use lib.ListN.{length, getD, set, take}
+use Rattle.consistency.proofs.LoweringLaws.{line-length}
 use Rattle.consistency.specs.Lowering.{lineUnder}
 use Rattle.lines.proofs.LineReads.{array-line}
 use Rattle.named_checkpoints.specs.Lists.{Parallel}
-use Rattle.run_table.proofs.ArrayLaws.{array-at, array-set}
-use Rattle.run_table.proofs.ListLaws.{anyBelow-found, anyBelow-more, none-below}
+use Rattle.run_table.proofs.ArrayLaws.{array-at, array-front, array-set}
+use Rattle.run_table.proofs.ListLaws.{anyBelow-ext, anyBelow-found, anyBelow-more, none-below}
 use Rattle.run_table.proofs.ReadLaws.{processes-few}
 use Rattle.run_table.specs.Arrays.{arrayOf}
 use Rattle.run_table.specs.Checks.{tableRefusal}
@@ -30,7 +32,7 @@ use Rattle.run_table.specs.Lists.{anyBelow}
 use Rattle.run_table.specs.Table.{Table, countOf, processCount}
 use Rattle.zigzag.proofs.NameLaws.{put-length}
 use Rattle.zigzag.specs.Names.{notBelowCounts, unknownNamed}
-use Rattle.zigzag.specs.Together.{namedCeiling, namedLine, putNamed}
+use Rattle.zigzag.specs.Together.{misses, namedCeiling, namedLine, putNamed}
 
 -- ---- a loop that looks for a name that passes a test
 -- It has found none of the first k of n.
@@ -175,3 +177,24 @@ parallel t processes states e none = record {
   for-each = sym e;
   known = λ k l. leb-false (processCount t) (getD processes k 0) (none-below _ (length processes) none k l);
 }
+
+-- ---- the line, found as an array
+module _ (table : List ℕ) (accepted : tableRefusal table ≡ 0) (processes states : List ℕ) {line : List ℕ}
+    (found : line ≡ arrayOf (namedLine (decode table) processes states)) where
+  line-size : length (namedLine (decode table) processes states) ≡ processCount (decode table)
+  unfolding namedLine namedCeiling processCount
+  line-size = line-length (decode table .messages) _ ∙ put-length processes states (length processes) (decode table .counts)
+
+  pub misses-found : misses processes states line ≡ misses processes states (namedLine (decode table) processes states)
+  unfolding misses
+  misses-found =
+      anyBelow-ext _ _ (length processes)
+      (λ k _.
+      ap (λ (x : ℕ). not (eqb x (getD states k 0)))
+      (ap (λ (a : List ℕ). getD a (getD processes k 0) 0) found
+      ∙ array-at (namedLine (decode table) processes states) (omega (arith, line-size, processes-few table accepted)) (getD processes k 0)))
+
+  pub line-found : take (processCount (decode table)) line ≡ namedLine (decode table) processes states
+  line-found =
+      array-front (namedLine (decode table) processes states) line (processCount (decode table)) found (sym line-size)
+      (omega (arith, line-size, processes-few table accepted))

@@ -1,0 +1,152 @@
+-- The answers about named checkpoints that stand together.
+--     names-accepted     where no check of the call catches, the lists are names of the run
+--     names-parallel, names-few    and lists of one length, of known processes
+--     told               whether the line misses one of them, as the code found it in an array
+--     standing-refused, standing-no, standing-short, standing-yes    what the call yields and tells at each of its returns
+-- Assumes nothing.
+use mathlib.Core.Bool.{Bool, true, false, cond, true≢false, _||_}
+use mathlib.Core.List.{List, []}
+use mathlib.Core.Path.{_≡_, refl, sym, ap, _∙_, subst, subst⁻¹}
+use Prim.Native.Nat.{ℕ, _*_, _≤_, _<_}
+use native.Mathlib.Omega.{arith}
+use borrow.Author.Tests.{eqb-true, not-false}
+use lib.ListN.{length, take}
+use Rattle.consistency.proofs.CeilingLaws.{under-length}
+use Rattle.consistency.specs.Ceilings.{Ceiling}
+use Rattle.consistency.specs.Lines.{AtOrBelow, Line, asLine}
+use Rattle.futures.proofs.StepLaws.{rising}
+use Rattle.futures.specs.Steps.{notRising}
+use Rattle.keeper.proofs.AnswerLaws.{answered, put-in-front, refused, sixteen, too-short}
+use Rattle.keeper.proofs.LineAnswers.{numbers-read}
+use Rattle.keeper.specs.Answers.{Yields}
+use Rattle.keeper.specs.Calls.{HoldsStanding, TellsTogether, standTogetherAnswer, standingBytes}
+use Rattle.named_checkpoints.proofs.NamedLaws.{line-found, misses-found, parallel}
+use Rattle.named_checkpoints.specs.Lists.{Parallel}
+use Rattle.refusals.proofs.RefusalLaws.{QuietCall, quiet-by}
+use Rattle.refusals.specs.CallChecks.{standTogetherChecks}
+use Rattle.run_table.proofs.AcceptLaws.{facts}
+use Rattle.run_table.proofs.CheckLaws.{caughtBy}
+use Rattle.run_table.proofs.ListLaws.{or-false-left, or-false-right}
+use Rattle.run_table.proofs.NumberLaws.{length-u16s}
+use Rattle.run_table.proofs.ReadLaws.{processes-few}
+use Rattle.run_table.specs.Arrays.{arrayOf}
+use Rattle.run_table.specs.Checks.{firstCaught, tableChecks}
+use Rattle.run_table.specs.Format.{decode}
+use Rattle.run_table.specs.Numbers.{putAt, u16s}
+use Rattle.run_table.specs.Table.{Table, mostProcesses, processCount}
+use Rattle.zigzag.proofs.NameLaws.{named-ceiling, names-checked}
+use Rattle.zigzag.proofs.TogetherLaws.{together}
+use Rattle.zigzag.specs.Names.{Names, unknownNamed}
+use Rattle.zigzag.specs.Together.{StandOn, Together, misses, namedCeiling, namedLine}
+
+-- All that the call promises: what it yields, and what it tells where no check before 16 catches.
+abbrev pub Promised : List ℕ → List ℕ → List ℕ → ℕ → ℕ → List ℕ → List ℕ → ℕ → ℕ → Type 0
+Promised table processes states room number buffer buffer′ written written′ =
+    Yields (standTogetherAnswer table processes states room) number buffer buffer′ written written′
+    × (firstCaught (standTogetherChecks table processes states) ≡ 0 → TellsTogether (decode table) processes states number buffer′ written′)
+
+pub standing-refused : (table processes states : List ℕ) (room : ℕ) {r : ℕ} {buffer : List ℕ} {written : ℕ}
+    → r ≡ firstCaught (standTogetherChecks table processes states) → (r ≡ 0 → ⊥)
+    → Promised table processes states room r buffer buffer written written
+unfolding standTogetherAnswer
+standing-refused table processes states room e nonzero = (refused _ _ room e nonzero, λ none. absurd (nonzero (e ∙ none)))
+
+-- no check before 16 catches
+module _ (table processes states : List ℕ) (q : QuietCall table (standTogetherChecks table processes states)) where
+  abbrev t : Table
+  t = decode table
+
+  same-length : length processes ≡ length states
+  unfolding standTogetherChecks tableChecks caughtBy
+  same-length = eqb-true _ _ (not-false _ (quiet-by q 20))
+
+  good-processes : (unknownNamed t processes || notRising processes) ≡ false
+  unfolding standTogetherChecks tableChecks caughtBy
+  good-processes = quiet-by q 21
+
+  known : unknownNamed t processes ≡ false
+  known = or-false-left (unknownNamed t processes) (notRising processes) good-processes
+
+  pub names-accepted : Names t processes states
+  unfolding standTogetherChecks tableChecks caughtBy
+  names-accepted =
+      names-checked t processes states same-length known
+      (rising processes (or-false-right (unknownNamed t processes) (notRising processes) good-processes)) (quiet-by q 22)
+
+  pub names-parallel : Parallel (processCount t) processes states
+  names-parallel = parallel t processes states same-length known
+
+  -- of the processes of any table
+  pub names-few : Parallel mostProcesses processes states
+  names-few =
+      record { for-each = names-parallel .for-each; known = λ k l. omega (arith, names-parallel .known k l, processes-few table (q .accepted)) }
+
+  pub told : {array : List ℕ} → array ≡ arrayOf (namedLine t processes states) → {r b : Bool} → r ≡ misses processes states array → r ≡ b
+      → misses processes states (namedLine t processes states) ≡ b
+  told found e is = sym (misses-found table (q .accepted) processes states found) ∙ sym e ∙ is
+
+  agrees : Together t processes states
+  agrees = together (facts table (q .accepted) .well-formed) names-accepted
+
+  ceiling : Ceiling t (namedCeiling t processes states)
+  ceiling = named-ceiling names-accepted
+
+  abbrev line : List ℕ
+  line = namedLine t processes states
+
+  -- one of the names is not on the line
+  pub standing-no : misses processes states line ≡ true → (room : ℕ) {buffer : List ℕ} {written : ℕ}
+      → Promised table processes states room 0 buffer buffer written 0
+  unfolding standTogetherAnswer standingBytes
+  standing-no e room {buffer} = (
+    rw e (answered _ [] room (q .quiet) refl (omega arith) (sym (put-in-front buffer []))),
+    λ _. record { no = (λ _. agrees .told .0 e, λ _. (refl, refl)); yes = λ _ some. absurd (some refl) },
+  )
+
+  -- all of them are, and the size of a line was found
+  module _ (e : misses processes states line ≡ false) {size : ℕ} (sized : (l : List ℕ) → length l ≡ processCount t → size ≡ length (u16s l)) where
+    exact : size ≡ length (u16s line)
+    unfolding namedLine
+    exact = sized _ (under-length t (namedCeiling t processes states) ceiling)
+
+    pub standing-short : {room : ℕ} {buffer : List ℕ} {written : ℕ} → room < size
+        → Promised table processes states room 16 buffer buffer written written
+    unfolding standTogetherAnswer standingBytes
+    standing-short {room} short = (
+      rw e (too-short _ (u16s line) room (q .quiet) exact short),
+      λ _. record { no = (λ zero. sixteen (zero .0), λ z. absurd (true≢false (sym (agrees .told .1 z) ∙ e))); yes = sixteen },
+    )
+
+    -- the line was put at the front of the buffer
+    module _ {room : ℕ} (buffer : List ℕ) {buffer′ : List ℕ} (enough : size ≤ room) {array : List ℕ} (found : array ≡ arrayOf line)
+        (put-array : buffer′ ≡ putAt buffer 0 (u16s (take (processCount t) array))) where
+      put : buffer′ ≡ putAt buffer 0 (u16s line)
+      put = put-array ∙ ap (λ (l : List ℕ). putAt buffer 0 (u16s l)) (line-found table (q .accepted) processes states found)
+
+      held : HoldsStanding t processes states buffer′
+      unfolding HoldsStanding namedLine
+      held =
+          subst⁻¹ (λ (l : List ℕ). StandOn t processes states (asLine l) × ((other : Line) → StandOn t processes states other → AtOrBelow other (asLine l)))
+          (numbers-read table (q .accepted) ceiling buffer put)
+          (agrees .stands (λ z. true≢false (sym (agrees .told .1 z) ∙ e)), agrees .latest)
+
+      pub standing-yes : {written : ℕ} → Promised table processes states room 0 buffer buffer′ written size
+      unfolding standTogetherAnswer standingBytes namedLine
+      standing-yes = (
+        rw e (answered _ (u16s line) room (q .quiet) exact enough put),
+        λ _. record {
+          no = (λ zero. absurd (nonzero (zero .1)), λ z. absurd (true≢false (sym (agrees .told .1 z) ∙ e)));
+          yes = λ _ _. held;
+        },
+      )
+        where
+          nonzero : size ≡ 0 → ⊥
+          nonzero z =
+              omega (
+                arith,
+                z,
+                exact,
+                length-u16s line,
+                under-length t (namedCeiling t processes states) ceiling,
+                facts table (q .accepted) .well-formed .some-process,
+              )
