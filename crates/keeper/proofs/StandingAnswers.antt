@@ -126,7 +126,8 @@ module _ (table processes states : List ℕ) (q : QuietCall table (standTogether
       held : HoldsStanding t processes states buffer′
       unfolding HoldsStanding namedLine
       held =
-          subst⁻¹ (λ (l : List ℕ). StandOn t processes states (asLine l) × ((other : Line) → StandOn t processes states other → AtOrBelow other (asLine l)))
+          subst⁻¹
+          (λ (l : List ℕ). StandOn t processes states (asLine l) × ((other : Line) → StandOn t processes states other → AtOrBelow other (asLine l)))
           (numbers-read table (q .accepted) ceiling buffer put)
           (agrees .stands (λ z. true≢false (sym (agrees .told .1 z) ∙ e)), agrees .latest)
 

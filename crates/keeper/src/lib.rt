@@ -166,9 +166,9 @@ pub extern "C" fn keeper_marked_line(
     0
 }
 
-// Whether named checkpoints stand together, checkpoint `states[k]` of process `processes[k]` for each k: yes, with the
-// latest consistent line that has them all, N numbers by process; or no, with no bytes. It is a no exactly when a zigzag
-// path leads from one of them to another or to itself.
+// Whether named checkpoints stand together, checkpoint `states[k]` of process `processes[k]` for each k:
+// yes, with the latest consistent line that has them all, N numbers by process; or no, with no bytes. It is
+// a no exactly when a zigzag path leads from one of them to another or to itself.
 #[no_mangle]
 pub extern "C" fn keeper_stand_together(
     table: &[u8],

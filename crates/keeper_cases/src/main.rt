@@ -7,6 +7,9 @@
 //     hold SET LEN        the line of a set
 //     under COUNT LEN C ...    the line under a list of COUNT ceilings, 64 at most: the numbers C, of which
 //                         the last goes on to the end of a longer list
+//     stand P LEN S X ...    whether named checkpoints stand together: of the numbers X, 13 at most, the
+//                         first P are the processes and the next S the checkpoints' numbers; those that the
+//                         line lacks are 0
 //     send FROM TO LEN    the table after a send
 //     deliver P LEN K ...    the table after a receipt of P: of the messages at positions K
 //     save P LEN K ...    the table after a save of P, which receives the messages at positions K
@@ -59,6 +62,9 @@ const SCRATCH: usize = 1216;
 
 const MOST_LENT: usize = SCRATCH - 2 * GUARDS;
 
+// Where the two lists of a line that names checkpoints begin among its numbers.
+const NAMES_AT: usize = 3;
+
 // The numbers of a line behind its first two, of which it has so many.
 fn behind_two(numbers: &[u16], count: usize) -> &[u16]
     requires { ⌜ (length (now numbers) ≡ 16) × (count ≤ 16) ⌝ }
@@ -79,6 +85,20 @@ fn line_under(table: &[u8], line: Line, answer: &mut [u8], written: &mut usize) 
     keeper::keeper_line_under(table, lent(&ceilings, count), answer, written)
 }
 
+// Whether the checkpoints that a line names stand together.
+fn stand_together(table: &[u8], line: Line, answer: &mut [u8], written: &mut usize) -> u32 {
+    let numbers = smalls(&line.numbers);
+    let states_at = NAMES_AT + size_up_to(&line.numbers, 0, 16 - NAMES_AT);
+    let states_end = states_at + size_up_to(&line.numbers, 2, 16 - states_at);
+    keeper::keeper_stand_together(
+        table,
+        &numbers[NAMES_AT..states_at],
+        &numbers[states_at..states_end],
+        answer,
+        written,
+    )
+}
+
 // Makes the call that a line asks for, and answers its number: the one place that knows the calls.
 fn ask(table: &[u8], line: Line, scratch: &mut [u16], answer: &mut [u8], written: &mut usize) -> u32
     requires { ⌜ line .count ≤ 16 ⌝ }
@@ -92,6 +112,9 @@ fn ask(table: &[u8], line: Line, scratch: &mut [u16], answer: &mut [u8], written
     }
     if starts(line.code, b'u', b'n') {
         return line_under(table, line, answer, written);
+    }
+    if starts(line.code, b's', b't') {
+        return stand_together(table, line, answer, written);
     }
     if starts(line.code, b's', b'e') {
         return keeper::keeper_send(

@@ -33,7 +33,8 @@ pub fn unknown_process(table: &[u8], processes: &[u16]) -> bool
 pub fn not_below_counts(table: &[u8], processes: &[u16], states: &[u16]) -> bool
     requires { ⌜ tableRefusal (now table) ≡ 0 ⌝ }
     requires { ⌜ Parallel (processCount (decode (now table))) (now processes) (now states) ⌝ }
-    ensures { λ r. ⌜ r ≡ notBelowCounts (decode (now (table .entry))) (now (processes .entry)) (now (states .entry)) ⌝ }
+    ensures { λ r. ⌜ r
+        ≡ notBelowCounts (decode (now (table .entry))) (now (processes .entry)) (now (states .entry)) ⌝ }
 {
     let counts = parts::count_array(table);
     let mut k = 0;
