@@ -1,7 +1,8 @@
 //! Tables for tests: by chance, by pattern, damaged on purpose, and all of
-//! them up to a size; and ceilings for a table. The same seed always gives the
-//! same table.
+//! them up to a size; and ceilings and names of states for a table. The same
+//! seed always gives the same table.
 
+use crate::lines::line_by_work_list;
 use crate::steps::{do_fall_back, do_receive, do_save, do_send};
 use crate::table::{
     count, messages, processes, receiver, sender, Message, Table, MOST_MESSAGES, MOST_PROCESSES,
@@ -443,6 +444,92 @@ pub fn boundary_ceilings(table: &Table) -> Vec<Vec<u16>> {
     for length in [0, n - 1, n + 1] {
         lists.extend([vec![0; length], vec![u16::MAX; length]]);
     }
+    lists
+}
+
+// ---------------------------------------------------------------------------
+// Names of states of an accepted table.
+
+/// "two parallel lists, processes and state numbers".
+pub type Names = (Vec<u16>, Vec<u16>);
+
+/// Names by chance that no check refuses: some of the processes, rising, each
+/// with a state below its count. In two of three lists each state is chosen for
+/// itself: 0, the last one, one next to a message, or any. In the third they are
+/// states of one line under chance ceilings, which stand together, and then, two
+/// times of three, one of them is moved by one.
+pub fn names(rng: &mut Rng, table: &Table) -> Names {
+    let n = table.processes();
+    let share = if rng.chance(1, 12) {
+        0
+    } else {
+        rng.between(1, 4)
+    };
+    let mut named: Vec<usize> = (0..n).filter(|_| rng.chance(share, 4)).collect();
+    let last = |p: usize| table.counts[p] as usize - 1;
+    let mut states: Vec<usize>;
+    if rng.chance(2, 3) {
+        states = Vec::new();
+        for &p in &named {
+            let at = match rng.between(0, 4) {
+                0 => 0,
+                1 => last(p),
+                2 => rng.between(0, last(p)),
+                _ => near_a_message(rng, table, p).unwrap_or(0),
+            };
+            states.push(at.min(last(p)));
+        }
+    } else {
+        let ceilings: Vec<u32> = ceilings(rng, table).into_iter().map(u32::from).collect();
+        let line = line_by_work_list(table, &ceilings);
+        named.retain(|&p| line[p] < table.counts[p]);
+        states = named.iter().map(|&p| line[p] as usize).collect();
+        if !named.is_empty() && rng.chance(2, 3) {
+            let moved = rng.between(0, named.len() - 1);
+            let at = (states[moved] + 2 * rng.between(0, 1)).saturating_sub(1);
+            states[moved] = at.min(last(named[moved]));
+        }
+    }
+    let small = |list: Vec<usize>| list.into_iter().map(|number| number as u16).collect();
+    (small(named), small(states))
+}
+
+/// Lists on both sides of "Lists of unequal length give 20, a process of N or
+/// above or not above the one before gives 21, and a state number not below its
+/// count gives 22": no names; each process alone with its state 0, its last
+/// state, its count, one more and 65,535; all processes with state 0, with their
+/// last states and with their counts; N and 65,535 for the last of them; each
+/// process twice, and with the one before it in the wrong order; a process of N
+/// behind states that are all counts; and lists of which one is longer by one
+/// number or the only one.
+pub fn boundary_names(table: &Table) -> Vec<Names> {
+    let n = table.processes() as u16;
+    let all: Vec<u16> = (0..n).collect();
+    let zeros = vec![0; all.len()];
+    let counts: Vec<u16> = table.counts.iter().map(|&count| count as u16).collect();
+    let last: Vec<u16> = counts.iter().map(|count| count - 1).collect();
+    let mut lists = vec![(vec![], vec![])];
+    for (&p, &count) in all.iter().zip(&counts) {
+        for at in [0, count - 1, count, count + 1, u16::MAX] {
+            lists.push((vec![p], vec![at]));
+        }
+        lists.push((vec![p, p], vec![0, 0]));
+        if p > 0 {
+            lists.push((vec![p, p - 1], vec![0, 0]));
+        }
+    }
+    for states in [&zeros, &last, &counts] {
+        lists.push((all.clone(), states.clone()));
+    }
+    for outside in [n, u16::MAX] {
+        let (_, rest) = all.split_last().expect("a process");
+        lists.push(([rest, &[outside]].concat(), zeros.clone()));
+        lists.push((vec![outside], vec![0]));
+    }
+    lists.push(([&all[..], &[n]].concat(), [&counts[..], &[0]].concat()));
+    lists.push((all.clone(), [&zeros[..], &[0]].concat()));
+    lists.push(([&all[..], &[n]].concat(), zeros.clone()));
+    lists.extend([(all, vec![]), (vec![], zeros)]);
     lists
 }
 

@@ -16,6 +16,7 @@ calls: check
        set SET ANSWER_LEN
        under ANSWER_LEN CEILING...
        marked MARKS_LEN ANSWER_LEN CEILING...
+       stand ANSWER_LEN PROCESSES NUMBER...
        send FROM TO ANSWER_LEN
        save PROCESS ANSWER_LEN POSITION...
        receive PROCESS ANSWER_LEN POSITION...
@@ -48,6 +49,12 @@ fn outcome(bytes: &[u8], args: &[String]) -> Option<Outcome> {
         ("under", 2..) => reference::line_under(bytes, &list(args, 2)?, number(args, 1)?),
         ("marked", 3..) => {
             reference::marked_line(bytes, &list(args, 3)?, number(args, 1)?, number(args, 2)?)
+        }
+        // The first so many of the numbers are processes, the others states.
+        ("stand", 3..) => {
+            let numbers = list(args, 3)?;
+            let (processes, states) = numbers.split_at_checked(number(args, 2)?)?;
+            reference::stand_together(bytes, processes, states, number(args, 1)?)
         }
         ("send", 4) => reference::send(bytes, number(args, 1)?, number(args, 2)?, number(args, 3)?),
         ("save", 3..) => {

@@ -2,12 +2,8 @@
 //! document 02, §3, gives it. It is "Defined by this graph alone": nothing here
 //! knows orphans, consistency or the lines of [`crate::lines`].
 
-use crate::table::{put, Table};
+use crate::table::{put, State, Table};
 use crate::Outcome;
-
-/// A state: its process and its number, which is the process's count for the
-/// new state.
-pub type State = (usize, u32);
 
 /// The graph of a table: for each process and each of its states, from 0 to
 /// the new one, the states to which an edge leads. No edge leads from a new

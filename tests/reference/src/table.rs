@@ -142,6 +142,10 @@ pub fn check_table(bytes: &[u8]) -> u32 {
 // The table as values. The numbers are wider than 16 bits, because a future
 // knows no upper bound.
 
+/// A state: its process and its number, which is the process's count for the
+/// new state.
+pub type State = (usize, u32);
+
 /// One message, (sender, sent) to (receiver, received).
 #[derive(Clone, Copy, Debug, PartialEq, Eq, Hash, PartialOrd, Ord)]
 pub struct Message {

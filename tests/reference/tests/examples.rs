@@ -206,6 +206,8 @@ fn refused_everywhere(bytes: &[u8], number: u32) {
     assert_eq!(line_under(bytes, &[0, 0], ROOM), refused);
     assert_eq!(marked_line(bytes, &[65535, 65535], 0, 0), refused);
     assert_eq!(marked_line(bytes, &[0, 0], ROOM, ROOM), refused);
+    assert_eq!(stand_together(bytes, &[99, 99], &[65535], 0), refused);
+    assert_eq!(stand_together(bytes, &[], &[], ROOM), refused);
     assert_eq!(send(bytes, 99, 99, 0), refused);
     assert_eq!(save(bytes, 99, &[9, 9], 0), refused);
     assert_eq!(receive(bytes, 99, &[9, 9], 0), refused);

@@ -193,6 +193,113 @@ fn boundary_ceilings_are_on_both_sides() {
     }
 }
 
+/// Chance names are accepted, and not all of the easy kinds: none or one, those
+/// whose line is of zeros, those of which one can't stand even alone.
+#[test]
+fn chance_names_are_accepted_and_not_trivial() {
+    let mut rng = Rng::new(28);
+    let (mut yeses, mut noes, mut later, mut apart) = (0, 0, 0, 0);
+    let mut by_number = [0; 9];
+    for round in 0..3000 {
+        let n = rng.between(1, 8);
+        let m = rng.between(0, 40);
+        let table = match round % 3 {
+            0 => history(&mut rng, n, m),
+            1 => clustered(&mut rng, n, m),
+            _ => arbitrary(&mut rng, n, m, 20),
+        };
+        let (processes, states) = names(&mut rng, &table);
+        assert_eq!(processes.len(), states.len());
+        assert!(processes.windows(2).all(|pair| pair[0] < pair[1]));
+        for (&p, &at) in processes.iter().zip(&states) {
+            assert!(u32::from(at) < table.counts[usize::from(p)]);
+        }
+        let bytes = table.to_bytes();
+        let outcome = stand_together(&bytes, &processes, &states, 2 * n);
+        assert_eq!(outcome.number, 0);
+        by_number[processes.len()] += 1;
+        if outcome.answer.is_empty() {
+            noes += 1;
+            let mut each = processes.iter().zip(&states);
+            let alone = each.all(|(&p, &at)| {
+                let outcome = stand_together(&bytes, &[p], &[at], 2 * n);
+                !outcome.answer.is_empty()
+            });
+            apart += usize::from(alone);
+        } else {
+            yeses += 1;
+            later += usize::from(outcome.answer.iter().any(|&byte| byte > 0));
+        }
+    }
+    assert!(
+        yeses > 1500 && noes > 600 && later > 1000 && apart > 200,
+        "{yeses} {noes} {later} {apart}"
+    );
+    assert!(by_number.iter().all(|&times| times > 10), "{by_number:?}");
+}
+
+#[test]
+fn boundary_names_are_on_both_sides() {
+    let table = Table {
+        counts: vec![1, 4096],
+        messages: Vec::new(),
+    };
+    let expected: [(&[u16], &[u16], u32); 26] = [
+        (&[], &[], 0),
+        (&[0], &[0], 0),
+        (&[0], &[0], 0),
+        (&[0], &[1], 22),
+        (&[0], &[2], 22),
+        (&[0], &[65535], 22),
+        (&[0, 0], &[0, 0], 21),
+        (&[1], &[0], 0),
+        (&[1], &[4095], 0),
+        (&[1], &[4096], 22),
+        (&[1], &[4097], 22),
+        (&[1], &[65535], 22),
+        (&[1, 1], &[0, 0], 21),
+        (&[1, 0], &[0, 0], 21),
+        (&[0, 1], &[0, 0], 0),
+        (&[0, 1], &[0, 4095], 0),
+        (&[0, 1], &[1, 4096], 22),
+        (&[0, 2], &[0, 0], 21),
+        (&[2], &[0], 21),
+        (&[0, 65535], &[0, 0], 21),
+        (&[65535], &[0], 21),
+        (&[0, 1, 2], &[1, 4096, 0], 21),
+        (&[0, 1], &[0, 0, 0], 20),
+        (&[0, 1, 2], &[0, 0], 20),
+        (&[0, 1], &[], 20),
+        (&[], &[0, 0], 20),
+    ];
+    let lists = boundary_names(&table);
+    assert_eq!(lists.len(), expected.len());
+    for ((processes, states), (p, s, number)) in lists.iter().zip(expected) {
+        assert_eq!((&processes[..], &states[..]), (p, s));
+        let outcome = stand_together(&table.to_bytes(), p, s, 4);
+        assert_eq!(outcome.number, number, "{p:?} {s:?}");
+    }
+    // One process and thirty-two.
+    for n in [1, 32] {
+        let mut met = BTreeMap::new();
+        for (processes, states) in boundary_names(&Table::start(n)) {
+            let bytes = Table::start(n).to_bytes();
+            let number = stand_together(&bytes, &processes, &states, 64).number;
+            *met.entry(number).or_insert(0) += 1;
+        }
+        let twice_or_falling = 2 * n - 1;
+        assert_eq!(
+            met,
+            BTreeMap::from([
+                (0, 3 + 2 * n),
+                (20, 4),
+                (21, 5 + twice_or_falling),
+                (22, 1 + 3 * n)
+            ])
+        );
+    }
+}
+
 #[test]
 fn damage_meets_its_refusal() {
     let mut rng = Rng::new(13);
@@ -318,6 +425,7 @@ fn any_bytes_can_be_looked_up_and_refused() {
         let n = if number == 0 { processes(&bytes) } else { 99 };
         let zeros = vec![0; usize::from(n)];
         assert_eq!(line_under(&bytes, &zeros, 64).number, number);
+        assert_eq!(stand_together(&bytes, &[], &[], 64).number, number);
         assert_eq!(keep_sheet(&bytes, 1024, 20_000).number, number);
         assert_eq!(
             listing(&bytes) == format!("refused {number}\n"),

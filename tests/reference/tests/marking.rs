@@ -9,7 +9,8 @@ use std::collections::BTreeSet;
 use common::{all_at_or_below, numbers, of_counts, small_tables};
 use reference::gen::*;
 use reference::lines::*;
-use reference::marking::{latest_unmarked, mark_bytes, marked_roots, Graph, Marking, State};
+use reference::marking::{latest_unmarked, mark_bytes, marked_roots, Graph, Marking};
+use reference::table::State;
 use reference::*;
 
 fn table(counts: &[u32], messages: &[(State, State)]) -> Table {

@@ -16,6 +16,9 @@ const CEILINGS: usize = 64;
 /// The bytes of their mark buffer, at most.
 const MARKS: usize = 16_500;
 
+/// The numbers for the names of states that a line has room for.
+const NAMES: usize = 13;
+
 struct Bench {
     table: Vec<u8>,
     answer: Vec<u8>,
@@ -27,6 +30,18 @@ fn ceilings(count: usize, given: &[usize]) -> Vec<u16> {
     let mut list: Vec<u16> = given.iter().map(|&c| c as u16).collect();
     list.resize(count.min(CEILINGS), list.last().copied().unwrap_or(0));
     list
+}
+
+/// The lists of named processes and of their states: the numbers given from the
+/// first on, 0 for each that is not given.
+fn names(processes: usize, states: usize, given: &[usize]) -> (Vec<u16>, Vec<u16>) {
+    let mut list: Vec<u16> = given.iter().map(|&number| number as u16).collect();
+    list.resize(NAMES, 0);
+    let processes = processes.min(NAMES);
+    let states = states.min(NAMES - processes);
+    let of_states = list[processes..][..states].to_vec();
+    list.truncate(processes);
+    (list, of_states)
 }
 
 impl Bench {
@@ -144,8 +159,8 @@ impl Bench {
             return;
         }
         if ![
-            "check", "whole", "lookup", "recovery", "hold", "under", "marked", "send", "save",
-            "deliver", "fall", "sheet",
+            "check", "whole", "lookup", "recovery", "hold", "under", "marked", "stand", "send",
+            "save", "deliver", "fall", "sheet",
         ]
         .contains(&word)
         {
@@ -189,6 +204,11 @@ impl Bench {
                 marks[..outcome.marks.unwrap_or(0)].fill(0);
                 let zeros = marks.iter().take_while(|&&byte| byte == 0).count();
                 self.outcome_with(outcome, Some(zeros));
+            }
+            "stand" => {
+                let [p, room, s] = [0, 1, 2].map(|at| a.get(at).copied().unwrap_or(0));
+                let (processes, states) = names(p, s, small.get(3..).unwrap_or(&[]));
+                self.outcome(keeper::stand_together(&whole, &processes, &states, room));
             }
             "send" => self.outcome(keeper::send(&whole, small[0] as u16, small[1] as u16, a[2])),
             "save" => {
