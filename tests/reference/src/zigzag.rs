@@ -6,12 +6,14 @@
 use crate::table::{put, Message, State, Table};
 use crate::Outcome;
 
+// Each of these is asked of received messages alone: one that waits was received
+// by nobody, and takes no part in any path. One that is unsaved was received.
+
 /// Whether a path from this state may begin with the message: its process sent
 /// it after the state. A message is sent after the state of its send number, so
-/// y is the state's number or above it. One that waits was received by nobody
-/// and takes no part in any path; one that is unsaved was received.
-pub fn begins(message: &Message, (process, number): State) -> bool {
-    !message.waiting() && message.sender == process && message.sent >= number
+/// y is the state's number or above it.
+fn begins(message: &Message, (process, number): State) -> bool {
+    message.sender == process && message.sent >= number
 }
 
 /// Whether the second message may come next to the first in a path: the
@@ -20,32 +22,29 @@ pub fn begins(message: &Message, (process, number): State) -> bool {
 /// c is what lies between state c and state c + 1, so a message with send number
 /// y was sent in interval y. Which of the two came first within an interval makes
 /// no difference. Of an unsaved message the interval is the last, count - 1.
-pub fn follows(first: &Message, second: &Message) -> bool {
-    !first.waiting()
-        && !second.waiting()
-        && second.sender == first.receiver
-        && second.sent >= first.received - 1
+fn follows(first: &Message, second: &Message) -> bool {
+    second.sender == first.receiver && second.sent >= first.received - 1
 }
 
 /// Whether a path to this state may end with the message: its process received
 /// it before the state, which is the first saved after it or a later one.
-pub fn ends(message: &Message, (process, number): State) -> bool {
-    !message.waiting() && message.receiver == process && message.received <= number
+fn ends(message: &Message, (process, number): State) -> bool {
+    message.receiver == process && message.received <= number
 }
 
 /// Whether the messages at these positions, in this order, are a zigzag path
-/// from one state to another, or to itself: there is at least one, the first
-/// begins it, each next one follows the one before it, and the last one ends it.
+/// from one state to another, or to itself: there is at least one, all were
+/// received, the first begins it, each next one follows the one before it, and
+/// the last one ends it.
 pub fn is_path(table: &Table, from: State, to: State, positions: &[usize]) -> bool {
-    let at = |&position: &usize| &table.messages[position];
-    let (Some(first), Some(last)) = (positions.first(), positions.last()) else {
+    let chain: Vec<&Message> = positions.iter().map(|&k| &table.messages[k]).collect();
+    let (Some(first), Some(last)) = (chain.first(), chain.last()) else {
         return false;
     };
-    begins(at(first), from)
-        && positions
-            .windows(2)
-            .all(|pair| follows(at(&pair[0]), at(&pair[1])))
-        && ends(at(last), to)
+    !chain.iter().any(|message| message.waiting())
+        && begins(first, from)
+        && chain.windows(2).all(|pair| follows(pair[0], pair[1]))
+        && ends(last, to)
 }
 
 /// A message to which a chain from some states leads.
@@ -55,13 +54,16 @@ struct Link {
     before: Option<usize>,
 }
 
-/// Every message to which a chain leads that begins at one of the states, each
-/// once, with a shortest chain: first those that begin one, then link by link
-/// those that follow and were not met before.
+/// Every received message to which a chain leads that begins at one of the
+/// states, each once, with a shortest chain: first those that begin one, then
+/// link by link those that follow and were not met before.
 fn chains(table: &Table, from: &[State]) -> Vec<Link> {
     let mut links: Vec<Link> = Vec::new();
     let mut left: Vec<usize> = Vec::new();
     for (position, message) in table.messages.iter().enumerate() {
+        if message.waiting() {
+            continue;
+        }
         if from.iter().any(|&state| begins(message, state)) {
             let before = None;
             links.push(Link { position, before });

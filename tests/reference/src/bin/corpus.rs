@@ -7,8 +7,8 @@
 //! is refused with N and nothing else is refused (the cases of the document and
 //! what is accepted since document 02, §4, apart), `share_N_...` ends in that
 //! share, `..._of_V_by_K_of_S` keeps K of S states, which is V percent, and the
-//! document's own cases and the first ones with unsaved messages have the texts
-//! that were worked out by hand from the documents.
+//! document's own cases, the first ones with unsaved messages and those of zigzag
+//! paths have the texts that were worked out by hand from the documents.
 
 use std::collections::BTreeSet;
 use std::path::Path;
@@ -347,6 +347,79 @@ fn of_unsaved() -> Vec<(&'static str, Vec<u8>, &'static str)> {
             "unsaved_across_no_line",
             written(&[2, 2], &[[1, 1, 0, 2], [0, 1, 1, 2], [0, 0, 1, 1]]),
             ACROSS_NO_LINE_TEXT,
+        ),
+    ]
+}
+
+// ---------------------------------------------------------------------------
+// Zigzag paths and cycles, with what each table is to print, by hand.
+
+const FIGURE_1_TEXT: &str = "line 0 0 0
+hold 0 0 0 0
+hold 1 0 0 0
+hold 2 0 0 0
+checkpoint 0 0
+checkpoint 1 0
+checkpoint 2 0
+share 50
+";
+
+const PATH_IN_ONE_INTERVAL_TEXT: &str = "line 1 1 1
+hold 0 1 1 1
+hold 1 2 2 3
+hold 2 2 3 2
+checkpoint 0 1
+checkpoint 1 1
+checkpoint 1 2
+checkpoint 2 1
+checkpoint 2 2
+share 62
+";
+
+const CYCLE_OF_THREE_TEXT: &str = "line 0 0 0
+hold 0 1 2 2
+hold 1 2 1 2
+hold 2 0 0 0
+checkpoint 0 0
+checkpoint 0 1
+checkpoint 1 0
+checkpoint 1 1
+checkpoint 2 0
+share 83
+";
+
+/// Name, table and text.
+fn of_zigzag() -> Vec<(&'static str, Vec<u8>, &'static str)> {
+    vec![
+        // A run with the facts that source document 003 tells of its Figure 1,
+        // m1 to m5 at positions 0 to 4: with any holder all go back to the start.
+        (
+            "zigzag_figure_1",
+            written(
+                &[2, 2, 2],
+                &[
+                    [0, 0, 1, 1],
+                    [1, 0, 2, 1],
+                    [2, 1, 0, 1],
+                    [0, 1, 1, 1],
+                    [1, 1, 0, 2],
+                ],
+            ),
+            FIGURE_1_TEXT,
+        ),
+        // Process 1 sent the second message in the interval in which it received
+        // the first: with 0 holding, both receivers go back.
+        (
+            "zigzag_path_in_one_interval",
+            written(&[2, 3, 3], &[[0, 1, 1, 2], [1, 1, 2, 2]]),
+            PATH_IN_ONE_INTERVAL_TEXT,
+        ),
+        // State 1 of process 2 is on a cycle of all three messages, and not kept,
+        // while the last states of the others are.
+        (
+            "zigzag_cycle_of_three",
+            written(&[2, 2, 2], &[[0, 0, 1, 1], [1, 0, 2, 1], [2, 1, 0, 1]]),
+            CYCLE_OF_THREE_TEXT,
         ),
     ]
 }
@@ -965,7 +1038,8 @@ fn corpus() -> Vec<(String, Vec<u8>, String)> {
     largest(&mut list);
     by_chance(&mut list);
     let mut all = Vec::new();
-    for (name, bytes, text) in of_the_document().into_iter().chain(of_unsaved()) {
+    let by_hand = [of_the_document(), of_unsaved(), of_zigzag()];
+    for (name, bytes, text) in by_hand.into_iter().flatten() {
         assert_eq!(listing(&bytes), text, "{name}: worked out by hand");
         enumerated(name, &bytes);
         all.push((name.to_string(), bytes, text.to_string()));
