@@ -1,10 +1,11 @@
--- The marked cases hold of the definitions, and so do the cases of lines under ceilings and by marking, and of receipts: a statement
--- each, by computation.
+-- The marked cases hold of the definitions, and so do the cases of lines under ceilings and by marking, of receipts, and of named
+-- checkpoints: a statement each, by computation.
 -- Assumes nothing.
 use mathlib.Core.Bool.{true}
 use mathlib.Core.List.{List, [], _∷_}
 use mathlib.Core.Path.{_≡_, refl, subst}
 use Prim.Native.Nat.{ℕ}
+use native.Mathlib.Omega.{arith}
 use Rattle.consistency.proofs.CeilingLaws.{ceiling-checked}
 use Rattle.marking.proofs.SameLine.{same-line}
 use Rattle.marking.specs.Procedure.{EndsWith}
@@ -24,10 +25,15 @@ use Rattle.futures.specs.Steps.{remaining, stays, waitsFor}
 use Rattle.futures.specs.Sheet.{crosses, holderLine, keepsCheckpoint, keepsMessage, keptCheckpoints, keptMessages, sheet}
 use Rattle.keeper.specs.Answers.{answer, unless}
 use Rattle.keeper.specs.Calls.{checkpointAnswer, keepSheetAnswer, lineAnswer, lineOfSetAnswer, lineUnderAnswer, markedLineAnswer, receiptAnswer}
-use Rattle.keeper.specs.Calls.{recoveryLineAnswer, rollbackAnswer}
+use Rattle.keeper.specs.Calls.{recoveryLineAnswer, rollbackAnswer, standTogetherAnswer, standingBytes}
 use Rattle.marks.specs.Room.{marksSize}
 use Rattle.refusals.specs.CallChecks.{checkpointCallChecks, keepSheetChecks, lineOfSetChecks, lineUnderChecks, markedLineChecks, receiptCallChecks}
+use Rattle.refusals.specs.CallChecks.{standTogetherChecks}
+use Rattle.zigzag.specs.Names.{notBelowCounts, unknownNamed}
+use Rattle.zigzag.specs.Paths.{Zigzag, first, receivedIn, then}
+use Rattle.zigzag.specs.Together.{misses, namedCeiling, namedLine, putNamed}
 use Rattle.keeper.specs.Cases.{MarkingExample, allHold, answerOf, ceilingCases, lateReceipt, lateSend, markedCases, markingCases, nineMarks, sameAnswer}
+use Rattle.keeper.specs.Cases.{ZigzagExample, figureOne, oneInterval, standingCases}
 use Rattle.keeper.specs.Cases.{crossing, full, oneMessage, receiptCases, sameBytes, savedA, tableA, tableB, tableC, tableD, tenMarks, unsavedA}
 
 pub marked-cases : allHold markedCases ≡ true
@@ -65,6 +71,14 @@ unfolding firstCaught outside tooShort badProcessCount tooManyMessages badLength
     answerOf sameBytes sameAnswer allHold receiptCases
 receipt-cases = refl
 
+pub standing-cases : allHold standingCases ≡ true
+unfolding firstCaught outside tooShort badProcessCount tooManyMessages badLength badCount unknownProcess toItself badSend badReceipt tableChecks
+    tableRefusal processesIn messagesIn countsPart sendsPart receiptsPart countAt processAt checkpointAt messageAt decode u16At u16Bytes u16s
+    tabulate any anyBelow processCount messageCount countOf messageOf isOrphan lower pass passes sum lineUnder unless answer notRisingAfter notRising
+    unknownNamed notBelowCounts putNamed namedCeiling namedLine misses standTogetherChecks standingBytes standTogetherAnswer tableA tableD lateReceipt
+    unsavedA crossing figureOne oneInterval answerOf sameBytes sameAnswer allHold standingCases
+standing-cases = refl
+
 -- by the theorem: the procedure ends, and with the computed line
 pub marking-example : MarkingExample
 unfolding firstCaught outside tooShort badProcessCount tooManyMessages badLength badCount unknownProcess toItself badSend badReceipt tableChecks
@@ -74,3 +88,16 @@ marking-example =
     let ceilings : List ℕ = 2 ∷ 2 ∷ [] in
     let agrees = same-line (decode tableA) (facts tableA refl .well-formed) ceilings (ceiling-checked (decode tableA) ceilings refl refl) in
     subst (EndsWith (decode tableA) ceilings) (agrees .same (agrees .ends .0) (agrees .ends .1)) (agrees .ends .1)
+
+-- process 0 sent message 3 after its checkpoint 2; process 1 received it in interval 1, in which it sent message 2; and process 0 received
+-- that before its checkpoint 2
+pub zigzag-example : ZigzagExample
+unfolding processesIn messagesIn countsPart sendsPart receiptsPart countAt processAt checkpointAt messageAt decode u16At u16Bytes u16s tabulate
+    messageOf tableA receivedIn ZigzagExample
+zigzag-example = record {
+  last = 2;
+  chain =
+      then (first 3 (record { delivered = omega arith; by-process = refl; after = omega arith })) 2
+      (record { delivered = omega arith; by-receiver = refl; same-or-later = omega arith });
+  ends = record { by-process = refl; before = omega arith };
+}

@@ -7,10 +7,12 @@ use lib.Dec.{eqb}
 use Rattle.keeper.specs.Answers.{Answer, answered, refused, unless}
 use Rattle.keeper.specs.Calls.{checkpointAnswer, keepSheetAnswer, lineOfSetAnswer, lineUnderAnswer}
 use Rattle.keeper.specs.Calls.{markedLineAnswer, receiptAnswer, recoveryLineAnswer, rollbackAnswer}
+use Rattle.keeper.specs.Calls.{standTogetherAnswer}
 use Rattle.marking.specs.Procedure.{EndsWith}
 use Rattle.run_table.specs.Checks.{tableRefusal}
 use Rattle.run_table.specs.Format.{decode}
 use Rattle.run_table.specs.Numbers.{u16s}
+use Rattle.zigzag.specs.Paths.{Zigzag}
 
 -- ---- the tables, by their numbers: N, M; the counts; the sends; the receipts
 unfoldable pub tableA : List ℕ
@@ -45,6 +47,7 @@ pub data Call : Type 0 where
   hold : ℕ → Call
   under : List ℕ → Call
   marking : List ℕ → ℕ → ℕ → Call
+  stand : List ℕ → List ℕ → ℕ → Call
   receive : ℕ → List ℕ → ℕ → Call
   save : ℕ → List ℕ → Call
   fallBack : Call
@@ -56,14 +59,15 @@ pub record Case : Type 0 where
   pub expected : Answer
 
 -- The answer of a call by the definitions, with a buffer of 1,000 bytes and a scratch of 4 numbers; of the line by
--- marking, with the bytes of its mark buffer and of its answer buffer that the case gives, and of a receipt, with those
--- of its answer buffer.
+-- marking, with the bytes of its mark buffer and of its answer buffer that the case gives; of a receipt and of names,
+-- with those of its answer buffer.
 unfoldable pub answerOf : List ℕ → Call → Answer
 answerOf table checkTable = unless (tableRefusal table) []
 answerOf table recoveryLine = recoveryLineAnswer table 1000
 answerOf table (hold set) = lineOfSetAnswer table set 1000
 answerOf table (under ceilings) = lineUnderAnswer table ceilings 1000
 answerOf table (marking ceilings bytes room) = markedLineAnswer table ceilings bytes room
+answerOf table (stand processes states room) = standTogetherAnswer table processes states room
 answerOf table (receive process list room) = receiptAnswer table process list room
 answerOf table (save process list) = checkpointAnswer table process list 1000
 answerOf table fallBack = rollbackAnswer table 1000
@@ -264,4 +268,77 @@ receiptCases =
       call = keepSheet;
       expected = answered (u16s (2 ∷ 2 ∷ 0 ∷ 1 ∷ 0 ∷ 0 ∷ 0 ∷ 1 ∷ []));
     }
+    ∷ []
+
+-- ---- named checkpoints (docs/MANUAL.md, "Checkpoints that stand together")
+-- The manual's example of a path: checkpoint 2 of process 0 leads to itself in A, by the messages at positions 3 and 2.
+unfoldable pub ZigzagExample : Type 0
+ZigzagExample = Zigzag (decode tableA) 0 2 0 2
+
+-- The facts that the source tells of its Figure 1: three processes, a path from C_{1,0} to C_{3,1} by m1 and m2, a
+-- cycle of C_{2,1} by m5 and m4, one of C_{3,1} by m3, m1 and m2. The source counts processes from 1.
+unfoldable pub figureOne : List ℕ
+figureOne =
+    u16s (3 ∷ 5 ∷ 2 ∷ 2 ∷ 2 ∷ 0 ∷ 0 ∷ 1 ∷ 0 ∷ 2 ∷ 1 ∷ 0 ∷ 1 ∷ 1 ∷ 1
+    ∷ 1 ∷ 1 ∷ 2 ∷ 1 ∷ 0 ∷ 1 ∷ 1 ∷ 1 ∷ 0 ∷ 2 ∷ [])
+
+-- Process 1 sends to 2 in the interval in which it receives from 0, perhaps before it: a path that is not causal.
+unfoldable pub oneInterval : List ℕ
+oneInterval = u16s (3 ∷ 2 ∷ 2 ∷ 3 ∷ 3 ∷ 0 ∷ 1 ∷ 1 ∷ 1 ∷ 1 ∷ 2 ∷ 2 ∷ 2 ∷ [])
+
+unfoldable pub standingCases : List Case
+standingCases =
+    -- A: no names; one; both processes; a checkpoint with a path to itself; a path from one name to the other
+    record { table = tableA; call = stand [] [] 4; expected = answered (u16s (3 ∷ 3 ∷ [])) }
+    ∷ record { table = tableA; call = stand (0 ∷ []) (0 ∷ []) 4; expected = answered (u16s (0 ∷ 1 ∷ [])) }
+    ∷ record { table = tableA; call = stand (1 ∷ []) (2 ∷ []) 4; expected = answered (u16s (3 ∷ 2 ∷ [])) }
+    ∷ record {
+      table = tableA;
+      call = stand (0 ∷ 1 ∷ []) (1 ∷ 1 ∷ []) 4;
+      expected = answered (u16s (1 ∷ 1 ∷ []));
+    }
+    ∷ record { table = tableA; call = stand (0 ∷ []) (2 ∷ []) 4; expected = answered [] }
+    ∷ record { table = tableA; call = stand (0 ∷ 1 ∷ []) (1 ∷ 2 ∷ []) 4; expected = answered [] }
+    -- D: the useless checkpoint, and a path by one message
+    ∷ record { table = tableD; call = stand (0 ∷ []) (1 ∷ []) 4; expected = answered [] }
+    ∷ record { table = tableD; call = stand (1 ∷ []) (1 ∷ []) 4; expected = answered (u16s (2 ∷ 1 ∷ [])) }
+    ∷ record { table = tableD; call = stand (0 ∷ 1 ∷ []) (0 ∷ 1 ∷ []) 4; expected = answered [] }
+    -- Figure 1: its two useless checkpoints; the others that were named there
+    ∷ record { table = figureOne; call = stand (1 ∷ []) (1 ∷ []) 6; expected = answered [] }
+    ∷ record { table = figureOne; call = stand (2 ∷ []) (1 ∷ []) 6; expected = answered [] }
+    ∷ record { table = figureOne; call = stand (0 ∷ 2 ∷ []) (0 ∷ 1 ∷ []) 6; expected = answered [] }
+    ∷ record {
+      table = figureOne;
+      call = stand (0 ∷ []) (0 ∷ []) 6;
+      expected = answered (u16s (0 ∷ 0 ∷ 0 ∷ []));
+    }
+    -- each on a line, and not both on one, though neither came before the other; with the process between
+    ∷ record {
+      table = oneInterval;
+      call = stand (0 ∷ []) (1 ∷ []) 6;
+      expected = answered (u16s (1 ∷ 1 ∷ 1 ∷ []));
+    }
+    ∷ record {
+      table = oneInterval;
+      call = stand (2 ∷ []) (2 ∷ []) 6;
+      expected = answered (u16s (2 ∷ 3 ∷ 2 ∷ []));
+    }
+    ∷ record { table = oneInterval; call = stand (0 ∷ 2 ∷ []) (1 ∷ 2 ∷ []) 6; expected = answered [] }
+    ∷ record { table = oneInterval; call = stand (0 ∷ 1 ∷ []) (1 ∷ 2 ∷ []) 6; expected = answered [] }
+    -- unsaved messages are received, in the last interval, and have a part in paths; waiting ones are not
+    ∷ record { table = unsavedA; call = stand (1 ∷ []) (2 ∷ []) 4; expected = answered [] }
+    ∷ record { table = crossing 1; call = stand (0 ∷ []) (0 ∷ []) 4; expected = answered (u16s (0 ∷ 0 ∷ [])) }
+    ∷ record { table = crossing 0; call = stand (0 ∷ []) (0 ∷ []) 4; expected = answered (u16s (0 ∷ 1 ∷ [])) }
+    -- the order: the table's, 20, 21, 22, 16, each over the whole lists
+    ∷ record { table = lateReceipt; call = stand (2 ∷ []) [] 0; expected = refused 9 }
+    ∷ record { table = tableA; call = stand (2 ∷ []) [] 0; expected = refused 20 }
+    ∷ record { table = tableA; call = stand [] (0 ∷ []) 4; expected = refused 20 }
+    ∷ record { table = tableA; call = stand (0 ∷ 2 ∷ []) (3 ∷ 0 ∷ []) 0; expected = refused 21 }
+    ∷ record { table = tableA; call = stand (0 ∷ 0 ∷ []) (1 ∷ 1 ∷ []) 4; expected = refused 21 }
+    ∷ record { table = tableA; call = stand (1 ∷ 0 ∷ []) (1 ∷ 1 ∷ []) 4; expected = refused 21 }
+    ∷ record { table = tableA; call = stand (0 ∷ []) (3 ∷ []) 0; expected = refused 22 }
+    -- 16 is of a yes; a no fits any buffer
+    ∷ record { table = tableA; call = stand (1 ∷ []) (2 ∷ []) 3; expected = refused 16 }
+    ∷ record { table = tableA; call = stand [] [] 0; expected = refused 16 }
+    ∷ record { table = tableA; call = stand (0 ∷ []) (2 ∷ []) 0; expected = answered [] }
     ∷ []
