@@ -30,7 +30,7 @@ use Rattle.marks.specs.Room.{marksSize}
 use Rattle.refusals.specs.CallChecks.{checkpointCallChecks, keepSheetChecks, lineOfSetChecks, lineUnderChecks, markedLineChecks, receiptCallChecks}
 use Rattle.refusals.specs.CallChecks.{standTogetherChecks}
 use Rattle.zigzag.specs.Names.{notBelowCounts, unknownNamed}
-use Rattle.zigzag.specs.Paths.{Zigzag, first, receivedIn, then}
+use Rattle.zigzag.specs.Paths.{first, receivedIn, then}
 use Rattle.zigzag.specs.Together.{misses, namedCeiling, namedLine, putNamed}
 use Rattle.keeper.specs.Cases.{MarkingExample, allHold, answerOf, ceilingCases, lateReceipt, lateSend, markedCases, markingCases, nineMarks, sameAnswer}
 use Rattle.keeper.specs.Cases.{ZigzagExample, figureOne, oneInterval, standingCases}

@@ -1,36 +1,37 @@
 -- The answers about named checkpoints that stand together.
---     names-accepted     where no check of the call catches, the lists are names of the run
---     names-parallel, names-few    and lists of one length, of known processes
+--     names-parallel, names-few    where no check of the call catches, the lists are of one length and each process is known
+--     names-accepted     and they are names of the run
 --     told               whether the line misses one of them, as the code found it in an array
+--     stand-under        a yes is the line under the names' ceiling, as keeper_line_under answers it, byte for byte
 --     standing-refused, standing-no, standing-short, standing-yes    what the call yields and tells at each of its returns
 -- Assumes nothing.
-use mathlib.Core.Bool.{Bool, true, false, cond, true≢false, _||_}
-use mathlib.Core.List.{List, []}
-use mathlib.Core.Path.{_≡_, refl, sym, ap, _∙_, subst, subst⁻¹}
-use Prim.Native.Nat.{ℕ, _*_, _≤_, _<_}
+use mathlib.Core.Bool.{Bool, true, false, not, true≢false, _||_}
+use mathlib.Core.List.{List, [], _∷_}
+use mathlib.Core.Path.{_≡_, refl, sym, ap, _∙_, subst⁻¹}
+use Prim.Native.Nat.{ℕ, _≤_, _<_}
 use native.Mathlib.Omega.{arith}
-use borrow.Author.Tests.{eqb-true, not-false}
+use borrow.Author.Tests.{eq-eqb, eqb-true, not-false}
+use lib.Dec.{ltb}
 use lib.ListN.{length, take}
-use Rattle.consistency.proofs.CeilingLaws.{under-length}
+use Rattle.consistency.proofs.CeilingLaws.{ceiling-quiet, under-length}
 use Rattle.consistency.specs.Ceilings.{Ceiling}
 use Rattle.consistency.specs.Lines.{AtOrBelow, Line, asLine}
 use Rattle.futures.proofs.StepLaws.{rising}
 use Rattle.futures.specs.Steps.{notRising}
 use Rattle.keeper.proofs.AnswerLaws.{answered, put-in-front, refused, sixteen, too-short}
 use Rattle.keeper.proofs.LineAnswers.{numbers-read}
-use Rattle.keeper.specs.Answers.{Yields}
-use Rattle.keeper.specs.Calls.{HoldsStanding, TellsTogether, standTogetherAnswer, standingBytes}
-use Rattle.named_checkpoints.proofs.NamedLaws.{line-found, misses-found, parallel}
+use Rattle.keeper.specs.Answers.{Yields, answer, unless}
+use Rattle.keeper.specs.Calls.{HoldsStanding, TellsTogether, lineAnswer, lineUnderAnswer, standTogetherAnswer, standingBytes}
+use Rattle.named_checkpoints.proofs.NamedLaws.{line-found, misses-found, parallel, place-inside}
 use Rattle.named_checkpoints.specs.Lists.{Parallel}
-use Rattle.refusals.proofs.RefusalLaws.{QuietCall, quiet-by}
-use Rattle.refusals.specs.CallChecks.{standTogetherChecks}
+use Rattle.refusals.proofs.RefusalLaws.{QuietCall, own-caught, quiet-by, quiet-call}
+use Rattle.refusals.specs.CallChecks.{lineUnderChecks, standTogetherChecks}
 use Rattle.run_table.proofs.AcceptLaws.{facts}
-use Rattle.run_table.proofs.CheckLaws.{caughtBy}
+use Rattle.run_table.proofs.CheckLaws.{append-passed, areRefusals, caughtBy, passed, quiet-none}
 use Rattle.run_table.proofs.ListLaws.{or-false-left, or-false-right}
 use Rattle.run_table.proofs.NumberLaws.{length-u16s}
-use Rattle.run_table.proofs.ReadLaws.{processes-few}
 use Rattle.run_table.specs.Arrays.{arrayOf}
-use Rattle.run_table.specs.Checks.{firstCaught, tableChecks}
+use Rattle.run_table.specs.Checks.{Check, firstCaught, tableChecks}
 use Rattle.run_table.specs.Format.{decode}
 use Rattle.run_table.specs.Numbers.{putAt, u16s}
 use Rattle.run_table.specs.Table.{Table, mostProcesses, processCount}
@@ -56,30 +57,24 @@ module _ (table processes states : List ℕ) (q : QuietCall table (standTogether
   abbrev t : Table
   t = decode table
 
-  same-length : length processes ≡ length states
-  unfolding standTogetherChecks tableChecks caughtBy
-  same-length = eqb-true _ _ (not-false _ (quiet-by q 20))
-
   good-processes : (unknownNamed t processes || notRising processes) ≡ false
   unfolding standTogetherChecks tableChecks caughtBy
   good-processes = quiet-by q 21
 
-  known : unknownNamed t processes ≡ false
-  known = or-false-left (unknownNamed t processes) (notRising processes) good-processes
+  pub names-parallel : Parallel (processCount t) processes states
+  unfolding standTogetherChecks tableChecks caughtBy
+  names-parallel =
+      parallel t processes states (eqb-true _ _ (not-false _ (quiet-by q 20))) (or-false-left (unknownNamed t processes) (notRising processes) good-processes)
+
+  -- of the processes of any table
+  pub names-few : Parallel mostProcesses processes states
+  names-few = record { for-each = names-parallel .for-each; known = λ k l. place-inside table (q .accepted) names-parallel l }
 
   pub names-accepted : Names t processes states
   unfolding standTogetherChecks tableChecks caughtBy
   names-accepted =
-      names-checked t processes states same-length known
+      names-checked t processes states (names-parallel .for-each) (names-parallel .known)
       (rising processes (or-false-right (unknownNamed t processes) (notRising processes) good-processes)) (quiet-by q 22)
-
-  pub names-parallel : Parallel (processCount t) processes states
-  names-parallel = parallel t processes states same-length known
-
-  -- of the processes of any table
-  pub names-few : Parallel mostProcesses processes states
-  names-few =
-      record { for-each = names-parallel .for-each; known = λ k l. omega (arith, names-parallel .known k l, processes-few table (q .accepted)) }
 
   pub told : {array : List ℕ} → array ≡ arrayOf (namedLine t processes states) → {r b : Bool} → r ≡ misses processes states array → r ≡ b
       → misses processes states (namedLine t processes states) ≡ b
@@ -151,3 +146,23 @@ module _ (table processes states : List ℕ) (q : QuietCall table (standTogether
                 under-length t (namedCeiling t processes states) ceiling,
                 facts table (q .accepted) .well-formed .some-process,
               )
+
+  -- The names' ceiling passes 17 and 18; so a yes is the answer of the line under it, also where the buffer is too short.
+  pub stand-under : misses processes states line ≡ false → (room : ℕ)
+      → standTogetherAnswer table processes states room ≡ lineUnderAnswer table (namedCeiling t processes states) room
+  unfolding standTogetherAnswer standingBytes lineUnderAnswer lineAnswer answer lineUnderChecks areRefusals namedLine
+  stand-under e room =
+      rw e
+      (ap (λ (n : ℕ). unless n (u16s line))
+      (append-passed (standTogetherChecks table processes states) last (q .quiet .refusals) (q .quiet .quiet)
+      ∙ sym (append-passed (lineUnderChecks table (namedCeiling t processes states)) last (under .quiet .refusals) (under .quiet .quiet))))
+    where
+      last : List Check
+      last = record { caught = ltb room (length (u16s line)); number = 16 } ∷ []
+
+      under : QuietCall table (lineUnderChecks table (namedCeiling t processes states))
+      under =
+          quiet-call table _ refl
+          (own-caught table _ (q .accepted)
+          (passed _ _ _ (ap not (eq-eqb _ _ (ceiling .for-each))) (passed _ _ _ (ceiling-quiet t (namedCeiling t processes states) ceiling) quiet-none)))
+          refl

@@ -1,16 +1,16 @@
 -- The lists of named checkpoints, as the code goes over them.
+--     parallel, place-inside                lists of which each process is known, and so has a place in an array
 --     Searched, searched-none, searched-more, searched-all, searched-here    a loop that looks for a name that passes a test
 --     Known, known-all, unknown-here, known-here    one that looks for a process of N or above
 --     Compared, compared-none, compared-all    one that looks for a number that is not below its count
---     process-inside, not-below-here, below-here    the process of a turn, and what its test says
+--     not-below-here, below-here            what its test says
 --     Putting, putting-none, putting-more, putting-all    a loop that puts the named numbers into an array of the counts
 --     line-put                              the line under that array
---     parallel                              lists of which each process is known
 --     misses-found, line-found              the line found as an array: whether it misses a name, and its first N numbers
 -- Assumes nothing.
 use mathlib.Core.Bool.{Bool, true, false, not}
 use mathlib.Core.List.{List}
-use mathlib.Core.Path.{_≡_, refl, sym, ap, _∙_, subst}
+use mathlib.Core.Path.{_≡_, refl, sym, ap, _∙_}
 use Prim.Native.Nat.{ℕ, _+_, _≤_, _<_, zero-le}
 use native.Mathlib.Nat.{le-antisymm}
 use native.Mathlib.Numerals.{add-one}
@@ -29,10 +29,24 @@ use Rattle.run_table.specs.Arrays.{arrayOf}
 use Rattle.run_table.specs.Checks.{tableRefusal}
 use Rattle.run_table.specs.Format.{decode}
 use Rattle.run_table.specs.Lists.{anyBelow}
-use Rattle.run_table.specs.Table.{Table, countOf, processCount}
+use Rattle.run_table.specs.Table.{Table, countOf, mostProcesses, processCount}
 use Rattle.zigzag.proofs.NameLaws.{put-length}
 use Rattle.zigzag.specs.Names.{notBelowCounts, unknownNamed}
 use Rattle.zigzag.specs.Together.{misses, namedCeiling, namedLine, putNamed}
+
+-- ---- lists that 20 and the first half of 21 let through
+pub parallel : (t : Table) (processes states : List ℕ) → length processes ≡ length states → unknownNamed t processes ≡ false
+    → Parallel (processCount t) processes states
+unfolding unknownNamed
+parallel t processes states e none = record {
+  for-each = sym e;
+  known = λ k l. leb-false (processCount t) (getD processes k 0) (none-below _ (length processes) none k l);
+}
+
+-- in an accepted table a named process has a place in an array of 32
+pub place-inside : (table : List ℕ) → tableRefusal table ≡ 0 → {processes states : List ℕ} → Parallel (processCount (decode table)) processes states
+    → {k : ℕ} → k < length processes → getD processes k 0 < mostProcesses
+place-inside table accepted lists l = omega (arith, lists .known _ l, processes-few table accepted)
 
 -- ---- a loop that looks for a name that passes a test
 -- It has found none of the first k of n.
@@ -99,9 +113,6 @@ module _ {table processes states counts : List ℕ} where
     compared-all l = searched-all (w .searched) l
 
     module _ (l : k < length processes) where
-      pub process-inside : getD processes k 0 < 32
-      process-inside = omega (arith, w .lists .known k l, processes-few table (w .accepted))
-
       count-here : getD counts (getD processes k 0) 0 ≡ countOf (decode table) (getD processes k 0)
       unfolding countOf processCount
       count-here =
@@ -135,9 +146,6 @@ module _ {table processes states : List ℕ} where
   putting-none accepted lists read = record { accepted = accepted; lists = lists; within = zero-le; put = read }
 
   module _ {ceiling : List ℕ} {k : ℕ} (w : Putting table processes states ceiling k) where
-    pub place-inside : k < length processes → getD processes k 0 < 32
-    place-inside l = omega (arith, w .lists .known k l, processes-few table (w .accepted))
-
     pub putting-more : k < length processes → Putting table processes states (set ceiling (getD processes k 0) (getD states k 0)) (k + 1)
     unfolding putNamed processCount
     putting-more l =
@@ -168,15 +176,6 @@ line-put table accepted processes states put =
     ap (lineUnder (decode table .messages)) put
     ∙ array-line (decode table .messages) _
     (omega (arith, put-length processes states (length processes) (decode table .counts), processes-few table accepted))
-
--- ---- lists that 20 and the first half of 21 let through
-pub parallel : (t : Table) (processes states : List ℕ) → length processes ≡ length states → unknownNamed t processes ≡ false
-    → Parallel (processCount t) processes states
-unfolding unknownNamed
-parallel t processes states e none = record {
-  for-each = sym e;
-  known = λ k l. leb-false (processCount t) (getD processes k 0) (none-below _ (length processes) none k l);
-}
 
 -- ---- the line, found as an array
 module _ (table : List ℕ) (accepted : tableRefusal table ≡ 0) (processes states : List ℕ) {line : List ℕ}

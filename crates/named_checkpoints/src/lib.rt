@@ -3,14 +3,12 @@
 use lines::line_under;
 use run_table::parts;
 ghost use mathlib.Core.Path.{_≡_};
-ghost use Prim.Native.Nat.{ℕ, _<_};
-ghost use lib.ListN.{getD, length};
 ghost use Rattle.named_checkpoints.specs.Lists.{Parallel};
 ghost use Rattle.run_table.specs.Arrays.{arrayOf};
 ghost use Rattle.run_table.specs.Checks.{tableRefusal};
 ghost use Rattle.run_table.specs.Format.{decode};
 ghost use Rattle.run_table.specs.Table.{mostProcesses, processCount};
-ghost use Rattle.zigzag.specs.Names.{Names, notBelowCounts, unknownNamed};
+ghost use Rattle.zigzag.specs.Names.{notBelowCounts, unknownNamed};
 ghost use Rattle.zigzag.specs.Together.{misses, namedCeiling, namedLine};
 
 // Whether one of the processes is none of an accepted table's.

@@ -20,7 +20,7 @@ use Rattle.consistency.specs.Ceilings.{Ceiling}
 use Rattle.consistency.specs.Lines.{asLine}
 use Rattle.run_table.proofs.ListLaws.{none-below}
 use Rattle.run_table.specs.Table.{Table, countOf, processCount}
-use Rattle.zigzag.specs.Names.{Named, Names, notBelowCounts, unknownNamed}
+use Rattle.zigzag.specs.Names.{Named, Names, notBelowCounts}
 use Rattle.zigzag.specs.Together.{namedCeiling, putNamed}
 
 module _ (processes states : List ℕ) where
@@ -124,13 +124,14 @@ module _ {t : Table} {processes states : List ℕ} (names : Names t processes st
   }
 
 -- ---- names are what checks 20, 21 and 22 let through
-pub names-checked : (t : Table) (processes states : List ℕ) → length processes ≡ length states → unknownNamed t processes ≡ false
+pub names-checked : (t : Table) (processes states : List ℕ) → length states ≡ length processes
+    → ((k : ℕ) → k < length processes → getD processes k 0 < processCount t)
     → ((k l : ℕ) → k < l → l < length processes → getD processes k 0 < getD processes l 0) → notBelowCounts t processes states ≡ false
     → Names t processes states
-unfolding unknownNamed notBelowCounts
-names-checked t processes states e known rises below = record {
-  for-each = sym e;
-  known = λ k b. leb-false (processCount t) (getD processes k 0) (none-below _ (length processes) known k b);
+unfolding notBelowCounts
+names-checked t processes states for-each known rises below = record {
+  for-each = for-each;
+  known = known;
   different = λ k l less b same. omega (arith, rises k l less b);
   saved = λ k b. leb-false (countOf t (getD processes k 0)) (getD states k 0) (none-below _ (length processes) below k b);
 }

@@ -2,9 +2,11 @@
 -- Assumes nothing.
 use borrow.Author.Needs.{needs}
 use native.Mathlib.Omega.{arith}
-use Prim.Native.Nat.{_-_}
-use lib.ListN.{length}
+use denote.Ref.{now}
+use Prim.Native.Nat.{_-_, _<_}
+use lib.ListN.{getD, length}
 use Rattle.named_checkpoints.proofs.NamedLaws.{Putting, place-inside, putting-all, putting-more, putting-none}
+use Rattle.run_table.specs.Table.{mostProcesses}
 use Rattle.named_checkpoints.proofs.named_ceiling.Statement.{statement}
 use Rattle.named_checkpoints.proofs.named_ceiling.Tie as tie
 
@@ -24,6 +26,13 @@ turn c = c .before
 abbrev named : tie.After-shared-slice-known5 Inv-loop μ-loop → tie.After-shared-slice-known4 Inv-loop μ-loop
 named c = c .before
 
+-- ---- what is known there: the process has a place in the array
+inside : (c : tie.After-shared-slice-known4 Inv-loop μ-loop)
+    → getD (now (entry (turn c .before .before) .args .processes)) (turn c .before .loop .k) 0 < mostProcesses
+inside c =
+    let here = turn c in
+    place-inside _ (here .before .loop .inv .accepted) (here .before .loop .inv .lists) (here .loop-test .taken)
+
 -- ---- the needs, in the code's course
 pub named-ceiling-spec : {M : Type 1} → statement M
 named-ceiling-spec =
@@ -36,15 +45,11 @@ named-ceiling-spec =
     -- the process and the number
     (λ c. omega arith)
     (λ c. omega arith)
-    (λ c. omega (arith, place-inside (turn c .before .loop .inv) (turn c .loop-test .taken)))
+    (λ c. omega (arith, inside c))
     (λ c. omega arith)
     (λ c. omega (arith, turn (named c) .before .loop .inv .lists .for-each))
-    (λ c.
-    let here = turn (named c) in
-    omega (arith, place-inside (here .before .loop .inv) (here .loop-test .taken)))
-    (λ c.
-    let here = turn (named c) in
-    place-inside (here .before .loop .inv) (here .loop-test .taken))
+    (λ c. omega (arith, inside (named c)))
+    (λ c. inside (named c))
     -- one more is put
     (λ c. omega arith)
     (λ c. omega arith)

@@ -2,9 +2,11 @@
 -- Assumes nothing.
 use borrow.Author.Needs.{needs}
 use native.Mathlib.Omega.{arith}
-use Prim.Native.Nat.{_-_}
-use lib.ListN.{length}
-use Rattle.named_checkpoints.proofs.NamedLaws.{Compared, below-here, compared-all, compared-none, not-below-here, process-inside}
+use denote.Ref.{now}
+use Prim.Native.Nat.{_-_, _<_}
+use lib.ListN.{getD, length}
+use Rattle.named_checkpoints.proofs.NamedLaws.{Compared, below-here, compared-all, compared-none, not-below-here, place-inside}
+use Rattle.run_table.specs.Table.{mostProcesses}
 use Rattle.named_checkpoints.proofs.not_below_counts.Statement.{statement}
 use Rattle.named_checkpoints.proofs.not_below_counts.Tie as tie
 
@@ -24,6 +26,13 @@ turn c = c .before
 abbrev named : tie.After-shared-slice-known5 Inv-loop μ-loop → tie.After-shared-slice-known4 Inv-loop μ-loop
 named c = c .before
 
+-- ---- what is known there: the process has a place in the array
+inside : (c : tie.After-shared-slice-known4 Inv-loop μ-loop)
+    → getD (now (entry (turn c .before .before) .args .processes)) (turn c .before .loop .k) 0 < mostProcesses
+inside c =
+    let here = turn c in
+    place-inside _ (here .before .loop .inv .accepted) (here .before .loop .inv .lists) (here .loop-test .taken)
+
 -- ---- the needs, in the code's course
 pub not-below-counts-spec : {M : Type 1} → statement M
 not-below-counts-spec =
@@ -36,9 +45,9 @@ not-below-counts-spec =
     -- the process, its count and the number
     (λ c. omega arith)
     (λ c. omega arith)
-    (λ c. omega (arith, process-inside (turn c .before .loop .inv) (turn c .loop-test .taken)))
-    (λ c. omega (arith, process-inside (turn c .before .loop .inv) (turn c .loop-test .taken)))
-    (λ c. process-inside (turn c .before .loop .inv) (turn c .loop-test .taken))
+    (λ c. omega (arith, inside c))
+    (λ c. omega (arith, inside c))
+    (λ c. inside c)
     (λ c. omega arith)
     (λ c. omega (arith, turn (named c) .before .loop .inv .lists .for-each))
     -- it is not below
