@@ -85,18 +85,32 @@ fn line_under(table: &[u8], line: Line, answer: &mut [u8], written: &mut usize) 
     keeper::keeper_line_under(table, lent(&ceilings, count), answer, written)
 }
 
-// Whether the checkpoints that a line names stand together.
-fn stand_together(table: &[u8], line: Line, answer: &mut [u8], written: &mut usize) -> u32 {
-    let numbers = smalls(&line.numbers);
-    let states_at = NAMES_AT + size_up_to(&line.numbers, 0, 16 - NAMES_AT);
-    let states_end = states_at + size_up_to(&line.numbers, 2, 16 - states_at);
+// Whether the checkpoints stand together whose processes and numbers are two parts of the numbers of a line.
+fn parts_together(
+    table: &[u8],
+    numbers: &[u16],
+    middle: usize,
+    last: usize,
+    answer: &mut [u8],
+    written: &mut usize,
+) -> u32
+    requires { ⌜ (3 ≤ middle) × (middle ≤ last) × (last ≤ length (now numbers)) ⌝ }
+{
     keeper::keeper_stand_together(
         table,
-        &numbers[NAMES_AT..states_at],
-        &numbers[states_at..states_end],
+        &numbers[NAMES_AT..middle],
+        &numbers[middle..last],
         answer,
         written,
     )
+}
+
+// Whether the checkpoints that a line names stand together.
+fn stand_together(table: &[u8], line: Line, answer: &mut [u8], written: &mut usize) -> u32 {
+    let numbers = smalls(&line.numbers);
+    let middle = NAMES_AT + size_up_to(&line.numbers, 0, 16 - NAMES_AT);
+    let last = middle + size_up_to(&line.numbers, 2, 16 - middle);
+    parts_together(table, &numbers, middle, last, answer, written)
 }
 
 // Makes the call that a line asks for, and answers its number: the one place that knows the calls.
