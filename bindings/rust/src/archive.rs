@@ -46,6 +46,17 @@ extern "C" {
         room: usize,
         written: *mut usize,
     ) -> u32;
+    pub fn keeper_stand_together(
+        table: *const u8,
+        length: usize,
+        processes: *const u16,
+        processes_length: usize,
+        states: *const u16,
+        states_length: usize,
+        answer: *mut u8,
+        room: usize,
+        written: *mut usize,
+    ) -> u32;
     pub fn keeper_send(
         table: *const u8,
         length: usize,

@@ -22,7 +22,8 @@
 //!
 //! Below it are the calls as the archive has them. A run table is bytes; an
 //! answer is written to the front of a buffer that the caller lends, and a call
-//! answers `Ok` with the length written or `Err` with a [`Refusal`]. On a
+//! answers `Ok` with the length written or `Err` with a [`Refusal`];
+//! [`stand_together`], which can answer no, has an `Option` in its `Ok`. On a
 //! refusal nothing lent is changed, with one exception: under
 //! [`Refusal::AnswerTooShort`] the scratch of [`keep_sheet`] holds the lines.
 //! Bytes and numbers beyond an answer are never changed. No call allocates,
@@ -100,8 +101,8 @@ pub const MOST_CHECKPOINTS: usize = 4_096;
 /// The bytes of the largest table: enough for the answer of every step.
 pub const LARGEST_TABLE: usize = 4 + 2 * MOST_PROCESSES + 8 * MOST_MESSAGES;
 
-/// The bytes of the largest line: enough for the answer of
-/// [`recovery_line`], [`line_of_set`], [`line_under`] and [`marked_line`].
+/// The bytes of the largest line: enough for the answer of [`recovery_line`],
+/// [`line_of_set`], [`line_under`], [`marked_line`] and [`stand_together`].
 pub const LARGEST_LINE: usize = 2 * MOST_PROCESSES;
 
 /// The bytes of marks that are enough for [`marked_line`] on every table, one bit
@@ -347,6 +348,78 @@ pub fn marks_size(table: &[u8]) -> Result<usize, Refusal> {
 /// The bytes of the marks of `n` processes whose counts have that sum.
 const fn marks_bytes(sum: usize, n: usize) -> usize {
     (sum + n + 7) / 8
+}
+
+/// Whether named checkpoints can stand together: the latest consistent line that
+/// has each of them, or a no. Checkpoint `states[k]` of process `processes[k]` is
+/// named, k from 0 on; the processes rise strictly. Those that are not named may
+/// stand anywhere up to their counts. Where nothing is named it is a yes with the
+/// counts.
+///
+/// A yes is `Some` with the length written; the answer has the form of
+/// [`recovery_line`]'s. A no is `None`: the answer buffer is unchanged, and may be
+/// of any length, 0 too, since check 16 is of a yes alone.
+///
+/// It is a no exactly when a zigzag path leads from a named checkpoint to a named
+/// one, to another or to itself (Xu and Netzer, *Adaptive Independent Checkpointing
+/// for Reducing Rollback Propagation*, Definition 1). That is a chain of one or more
+/// received messages. The first is sent by the process of the first checkpoint, after
+/// it; each next one is sent by the receiver of the one before, between the same two
+/// checkpoints as that receipt or later; the last is received by the process of the
+/// second checkpoint, before it. A message may so be sent before the one ahead of it
+/// is received, and then the path is no chain of cause and effect. A checkpoint with a
+/// zigzag path to itself is on no consistent line.
+///
+/// What is said at [`line_under`] of what may be discarded holds here too.
+///
+/// Checks: the table's, 20, 21, 22, 16.
+///
+/// ```
+/// # let example_a: Vec<u8> = [2u16, 5, 3, 3, 0, 0, 1, 0, 1, 1, 0, 2, 1, 2, 1, 2, 0, 1, 0, 2, 1, 2, 0, 0]
+/// #     .iter().flat_map(|number| number.to_le_bytes()).collect();
+/// use keeper::{stand_together, Refusal};
+/// let mut line = [0; keeper::LARGEST_LINE];
+/// // Checkpoint 1 of both processes; then checkpoint 2 of process 1.
+/// assert_eq!(stand_together(&example_a, &[0, 1], &[1, 1], &mut line), Ok(Some(4)));
+/// assert_eq!(line[..4], [1, 0, 1, 0]);
+/// assert_eq!(stand_together(&example_a, &[1], &[2], &mut line), Ok(Some(4)));
+/// assert_eq!(line[..4], [3, 0, 2, 0]);
+/// // Message 3 is sent after checkpoint 2 of process 0 and received before
+/// // checkpoint 2 of process 1. Nothing is written for a no.
+/// assert_eq!(stand_together(&example_a, &[0, 1], &[2, 2], &mut []), Ok(None));
+/// // No names: the counts.
+/// assert_eq!(stand_together(&example_a, &[], &[], &mut line), Ok(Some(4)));
+/// assert_eq!(line[..4], [3, 0, 3, 0]);
+/// // There are two processes with three checkpoints each, 0 to 2, named in their order.
+/// assert_eq!(stand_together(&example_a, &[0, 1], &[1], &mut line), Err(Refusal::UnequalLists));
+/// assert_eq!(stand_together(&example_a, &[1, 0], &[1, 1], &mut line), Err(Refusal::BadNamedProcess));
+/// assert_eq!(stand_together(&example_a, &[2], &[0], &mut line), Err(Refusal::BadNamedProcess));
+/// assert_eq!(stand_together(&example_a, &[0], &[3], &mut line), Err(Refusal::NamedStateTooHigh));
+/// ```
+pub fn stand_together(
+    table: &[u8],
+    processes: &[u16],
+    states: &[u16],
+    answer: &mut [u8],
+) -> Result<Option<usize>, Refusal> {
+    let mut written = 0;
+    // SAFETY: see above `check_table`.
+    let number = unsafe {
+        archive::keeper_stand_together(
+            table.as_ptr(),
+            table.len(),
+            processes.as_ptr(),
+            processes.len(),
+            states.as_ptr(),
+            states.len(),
+            answer.as_mut_ptr(),
+            answer.len(),
+            &mut written,
+        )
+    };
+    // A line has 2N bytes, and N is not 0.
+    let length = outcome(number, written)?;
+    Ok((length > 0).then_some(length))
 }
 
 /// The table after a send: a message from the latest checkpoint of `from`,

@@ -100,6 +100,9 @@ refusals! {
     UnknownProcessInSet = 12, call, "a set has a bit at N or above";
     WrongCeilingCount = 17, call, "the list of ceilings does not have N numbers";
     CeilingTooHigh = 18, call, "a ceiling is above its process's count";
+    UnequalLists = 20, call, "the lists of named processes and of their states are of unequal length";
+    BadNamedProcess = 21, call, "a named process is N or above, or not above the one before it";
+    NamedStateTooHigh = 22, call, "a named state is not below its process's count";
     BadList = 13, call, "the list of a save or receipt has a position of M or above, or not above the one before it, \
                          or of a message not waiting for that process";
     TableFull = 14, call, "a send meets M = 4,096, or a save meets a count of 4,096";

@@ -5,7 +5,7 @@ use std::fmt;
 use std::num::NonZeroU16;
 use std::ops::Deref;
 
-use crate::{run_table, Refusal, Sheet, LARGEST_LINE, MOST_PROCESSES};
+use crate::{run_table, Checkpoint, Refusal, Sheet, LARGEST_LINE, MOST_PROCESSES};
 
 /// An accepted run table, owned: the run as it is now. With the feature
 /// `run_table`.
@@ -293,6 +293,40 @@ impl Table {
     /// [`marks_size`](crate::marks_size).
     pub fn marks_size(&self) -> usize {
         crate::marks_size(&self.bytes).expect(NEVER_REFUSED)
+    }
+
+    /// Whether the named checkpoints can stand together, as
+    /// [`stand_together`](crate::stand_together): the latest consistent line that has
+    /// each of them, or `None`, which is a no. They stand by process, strictly rising,
+    /// and may be none at all; the other processes may stand anywhere up to their
+    /// counts. Refused by 21 where a process is N or above or not above the one before
+    /// it, and by 22 where the process has no such checkpoint. The two lists of the
+    /// call are made of this one, so that 20 never catches.
+    ///
+    /// ```
+    /// # use keeper::{Checkpoint, Refusal, Table};
+    /// # let example_a: Vec<u8> = [2u16, 5, 3, 3, 0, 0, 1, 0, 1, 1, 0, 2, 1, 2, 1, 2, 0, 1, 0, 2, 1, 2, 0, 0]
+    /// #     .iter().flat_map(|number| number.to_le_bytes()).collect();
+    /// let table = Table::from_bytes(&example_a[..])?;
+    /// let of = |process, number| Checkpoint { process, number };
+    /// let line = table.stand_together(&[of(0, 1), of(1, 1)])?.expect("a yes");
+    /// assert_eq!(*line, [1, 1]);
+    /// let line = table.stand_together(&[of(1, 2)])?.expect("a yes");
+    /// assert_eq!(*line, [3, 2]); // process 0 stands at its new state
+    /// // Process 0 sends message 3 after its checkpoint 2, and process 1 receives it
+    /// // between its checkpoints 1 and 2, as it sends message 2, which process 0
+    /// // receives before its checkpoint 2: a zigzag path from that checkpoint to itself.
+    /// assert_eq!(table.stand_together(&[of(0, 2)])?, None);
+    /// assert_eq!(table.stand_together(&[of(1, 1), of(0, 1)]), Err(Refusal::BadNamedProcess));
+    /// assert_eq!(table.stand_together(&[of(0, 3)]), Err(Refusal::NamedStateTooHigh));
+    /// # Ok::<(), Refusal>(())
+    /// ```
+    pub fn stand_together(&self, named: &[Checkpoint]) -> Result<Option<Line>, Refusal> {
+        let processes: Vec<u16> = named.iter().map(|one| one.process).collect();
+        let states: Vec<u16> = named.iter().map(|one| one.number).collect();
+        let mut answer = [0; LARGEST_LINE];
+        let written = crate::stand_together(&self.bytes, &processes, &states, &mut answer)?;
+        Ok(written.map(|length| Line(numbers(&answer[..length]))))
     }
 
     /// Sends a message from one process to another, and answers its position.

@@ -130,6 +130,11 @@ pub fn lines_below(ceilings: &[u16]) -> Vec<Vec<u16>> {
 pub fn latest(table: &Table, ceilings: &[u16]) -> Vec<u16> {
     let mut lines = lines_below(ceilings);
     lines.retain(|line| is_consistent(table, line));
+    latest_of(lines)
+}
+
+/// Of some lines the one that is at or above all others, at every process.
+pub fn latest_of(lines: Vec<Vec<u16>>) -> Vec<u16> {
     let is_above = |line: &[u16], other: &[u16]| line.iter().zip(other).all(|(l, o)| l >= o);
     let mut latest = lines
         .iter()
