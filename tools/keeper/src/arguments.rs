@@ -4,6 +4,8 @@ use std::ffi::{OsStr, OsString};
 use std::fmt::Display;
 use std::os::unix::ffi::{OsStrExt, OsStringExt};
 
+use keeper::Checkpoint;
+
 use crate::command::Failure;
 use crate::usage::{self, Opt, Subcommand, Takes, Times};
 use crate::why::Item;
@@ -16,6 +18,7 @@ enum Value {
     Number(u16),
     Numbers(Vec<u16>),
     Ceilings(Vec<Option<u16>>),
+    Checkpoints(Vec<Checkpoint>),
     Word(&'static str),
     Item(Item),
 }
@@ -58,6 +61,14 @@ impl Arguments {
     pub fn ceilings(&self, name: &str) -> Option<&[Option<u16>]> {
         match self.value(name) {
             Some(Value::Ceilings(ceilings)) => Some(ceilings),
+            _ => None,
+        }
+    }
+
+    /// The checkpoints that were given, in the order in which they stand.
+    pub fn checkpoints(&self, name: &str) -> Option<&[Checkpoint]> {
+        match self.value(name) {
+            Some(Value::Checkpoints(checkpoints)) => Some(checkpoints),
             _ => None,
         }
     }
@@ -245,6 +256,19 @@ fn value(subcommand: &Subcommand, takes: Takes, given: OsString) -> Result<Value
             let ceilings = parts.map(|part| ceiling(subcommand, &given, OsStr::from_bytes(part)));
             Value::Ceilings(ceilings.collect::<Result<_, _>>()?)
         }
+        Takes::Checkpoint => Value::Checkpoints(vec![checkpoint(subcommand, &given)?]),
+        Takes::Checkpoints => {
+            let parts = given.as_bytes().split(|byte| *byte == b',');
+            let named = parts.map(|part| match OsStr::from_bytes(part) {
+                part if part.is_empty() => {
+                    let list = given.to_string_lossy();
+                    let what = format_args!("`{list}`: a checkpoint is missing: {EACH}");
+                    Err(wrong(subcommand, what))
+                }
+                part => checkpoint(subcommand, part),
+            });
+            Value::Checkpoints(named.collect::<Result<_, _>>()?)
+        }
         Takes::OneOf(words) => Value::Word(one_of(words).ok_or_else(|| {
             let shown = given.to_string_lossy();
             wrong(
@@ -303,7 +327,15 @@ fn positions(
                     parsed.values.push((argument.name, value));
                 }
             }
-            // FILE may stand next: an argument of digits alone is a number.
+            // FILE may stand next: what has the form is no FILE.
+            Times::Any if argument.takes == Takes::Checkpoint => {
+                let mut named = Vec::new();
+                while let Some(given) = plain.next_if(|next| is_checkpoint(next)) {
+                    named.push(checkpoint(subcommand, &given)?);
+                }
+                let value = Value::Checkpoints(named);
+                parsed.values.push((argument.name, value));
+            }
             Times::Any => {
                 let mut numbers = Vec::new();
                 while let Some(given) = plain.next_if(|next| is_number(next)) {
@@ -319,11 +351,13 @@ fn positions(
     let Some(further) = plain.next() else {
         return Ok(());
     };
-    // Behind numbers, what was taken for FILE was meant as one of them.
-    let numbers = subcommand.arguments.last();
-    let numbers = numbers.is_some_and(|last| last.times == Times::Any);
-    Err(match &parsed.file {
-        Some(file) if numbers => not_a_number(subcommand, file),
+    // Behind numbers, or checkpoints, what was taken for FILE was meant as one of
+    // them.
+    let several = subcommand.arguments.last();
+    let several = several.filter(|last| last.times == Times::Any);
+    Err(match (&parsed.file, several.map(|last| last.takes)) {
+        (Some(file), Some(Takes::Checkpoint)) => not_a_checkpoint(subcommand, file),
+        (Some(file), Some(_)) => not_a_number(subcommand, file),
         _ => {
             let what = format_args!("one argument too many: `{}`", further.to_string_lossy());
             wrong(subcommand, what)
@@ -352,6 +386,43 @@ fn number(subcommand: &Subcommand, argument: &OsStr) -> Result<u16, Failure> {
     let shown = argument.to_string_lossy();
     let parsed = is_number(argument).then(|| shown.parse().ok()).flatten();
     parsed.ok_or_else(|| not_a_number(subcommand, argument))
+}
+
+/// Whether an argument has the form of a checkpoint: numbers of any size with a
+/// point between.
+fn is_checkpoint(argument: &OsStr) -> bool {
+    let mut parts = argument.as_bytes().split(|byte| *byte == b'.');
+    let mut number = || {
+        parts
+            .next()
+            .is_some_and(|part| is_number(OsStr::from_bytes(part)))
+    };
+    number() && number() && parts.next().is_none()
+}
+
+/// Reads `1.2`, checkpoint 2 of process 1.
+pub fn read_checkpoint(text: &str) -> Option<Checkpoint> {
+    let (process, number) = is_checkpoint(text.as_ref()).then(|| text.split_once('.'))??;
+    Some(Checkpoint {
+        process: process.parse().ok()?,
+        number: number.parse().ok()?,
+    })
+}
+
+fn checkpoint(subcommand: &Subcommand, argument: &OsStr) -> Result<Checkpoint, Failure> {
+    let read = argument.to_str().and_then(read_checkpoint);
+    read.ok_or_else(|| not_a_checkpoint(subcommand, argument))
+}
+
+/// What is said of a checkpoint that is not in the form.
+const EACH: &str = "each is a process and a number from 0 to 65535, such as 1.2";
+
+fn not_a_checkpoint(subcommand: &Subcommand, argument: &OsStr) -> Failure {
+    let shown = argument.to_string_lossy();
+    wrong(
+        subcommand,
+        format_args!("`{shown}` is no checkpoint: {EACH}"),
+    )
 }
 
 /// A part of a list of ceilings.
@@ -395,6 +466,7 @@ mod tests {
     static EITHER: Opt = option(&["--either"], Takes::NumbersOr(&["all", "none"]));
     static CEILINGS: Opt = option(&["--under"], Takes::Ceilings);
     static HOLD: Opt = option(&["--hold"], Takes::NumbersOr(&["all"]));
+    static STAND: Opt = option(&["--stand"], Takes::Checkpoints);
     static ROW: Subcommand = Subcommand {
         name: "row",
         arguments: &[
@@ -410,7 +482,7 @@ mod tests {
             },
         ],
         file: true,
-        options: &[&FLAG, &NUMBERS, &EITHER, &CEILINGS, &HOLD],
+        options: &[&FLAG, &NUMBERS, &EITHER, &CEILINGS, &HOLD, &STAND],
         short: "",
         words: "",
         work: Work::Alone(|_| Ok(())),
@@ -461,10 +533,61 @@ mod tests {
             assert_eq!(attached.ceilings("--under"), Some(&ceilings[..]), "{list}");
         }
         assert_eq!(one.ceilings("--under"), None);
+        let named = given(&["one", "--stand", "1.20,0.0"]);
+        let of = |process, number| Checkpoint { process, number };
+        let expected = [of(1, 20), of(0, 0)];
+        assert_eq!(named.checkpoints("--stand"), Some(&expected[..]));
+        assert_eq!(one.checkpoints("--stand"), None);
         // Behind `--` nothing is an option.
         let three = given(&["--", "one", "--flag"]);
         assert_eq!(three.file.as_deref(), Some(OsStr::new("--flag")));
         assert!(parsed(&["one", "-h"]).expect("taken").is_none());
+    }
+
+    #[test]
+    fn checkpoints_before_a_file() {
+        static ROW: Subcommand = Subcommand {
+            name: "names",
+            arguments: &[Argument {
+                name: "STATE",
+                takes: Takes::Checkpoint,
+                times: Times::Any,
+            }],
+            file: true,
+            options: &[],
+            short: "",
+            words: "",
+            work: Work::Alone(|_| Ok(())),
+        };
+        let parsed = |arguments: &[&str]| {
+            let arguments = arguments.iter().map(OsString::from).collect();
+            let parsed = parse(&ROW, arguments);
+            parsed.map_err(|failure| failure.message().unwrap_or("").to_string())
+        };
+        let of = |process, number| Checkpoint { process, number };
+        for (arguments, named, file) in [
+            (&[][..], &[][..], None),
+            (&["0.1"], &[of(0, 1)], None),
+            (&["1.65535", "1.65535"], &[of(1, 65535); 2], None),
+            (&["2.3", "./0.1"], &[of(2, 3)], Some("./0.1")),
+            (&["2.3", "7"], &[of(2, 3)], Some("7")),
+            (&["0.1.2"], &[], Some("0.1.2")),
+            (&["1."], &[], Some("1.")),
+            (&["-"], &[], Some("-")),
+        ] {
+            let given = parsed(arguments).expect("taken").expect("no help");
+            assert_eq!(given.checkpoints("STATE"), Some(named), "{arguments:?}");
+            assert_eq!(given.file.as_deref(), file.map(OsStr::new), "{arguments:?}");
+        }
+        for (arguments, shown) in [
+            (&["0.65536"][..], "0.65536"),
+            (&["0.1", "m1", "x"], "m1"),
+            (&["x", "0.1"], "x"),
+        ] {
+            let told = parsed(arguments).err().expect("not taken");
+            let message = format!("`{shown}` is no checkpoint: {EACH} (see `keeper names --help`)");
+            assert_eq!(told, message);
+        }
     }
 
     #[test]
@@ -515,6 +638,22 @@ mod tests {
             (
                 &["one", "--under", "1", "--hold", "all"],
                 "--under and --hold exclude each other",
+            ),
+            (
+                &["one", "--stand", "1.2,1"],
+                "`1` is no checkpoint: each is a process and a number from 0 to 65535, such as 1.2",
+            ),
+            (
+                &["one", "--stand", "1.2,"],
+                "`1.2,`: a checkpoint is missing: each is a process and a number from 0 to 65535, such as 1.2",
+            ),
+            (
+                &["one", "--hold", "1", "--stand", "1.2"],
+                "--stand and --hold exclude each other",
+            ),
+            (
+                &["one", "--stand", "1.2", "--under", "1"],
+                "--stand and --under exclude each other",
             ),
             (&["one", "--flag=1"], "--flag takes no value"),
             (&["one", "-f1"], "-f stands alone"),

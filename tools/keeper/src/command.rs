@@ -13,7 +13,7 @@ use crate::input::Input;
 use crate::output::put;
 use crate::run::{Choice, Holders, Run};
 use crate::usage::{self, Subcommand, Work};
-use crate::{completion, draw, json, text};
+use crate::{completion, draw, json, stand, text};
 
 /// Why nothing, or not all, was done.
 pub struct Failure {
@@ -40,6 +40,20 @@ impl Failure {
             message: Some(message),
             answer: None,
         }
+    }
+
+    /// An answer that is a no, with the reason.
+    pub fn no(message: String) -> Failure {
+        Failure {
+            status: 3,
+            message: Some(message),
+            answer: None,
+        }
+    }
+
+    /// What a program that does as it should never says.
+    pub fn internal(words: &str) -> Failure {
+        Failure::trouble(format!("internal error: {words}; please report it"))
     }
 
     /// Nobody reads what is written: the status that a shell gives a program
@@ -149,7 +163,7 @@ pub fn put_table(
     arguments: &Arguments,
 ) -> Result<(), Failure> {
     match arguments.text_out() {
-        true => put(output, text::write(table.as_bytes()).as_bytes()),
+        true => put(output, text::write(table).as_bytes()),
         false => put(output, table.as_bytes()),
     }
 }
@@ -161,7 +175,7 @@ pub fn encode(arguments: &Arguments) -> Result<(), Failure> {
 
 pub fn decode(input: &Input, _: &Arguments) -> Result<Vec<u8>, Failure> {
     let table = input.accepted()?;
-    Ok(text::write(table.as_bytes()).into_bytes())
+    Ok(text::write(&table).into_bytes())
 }
 
 pub fn check(input: &Input, _: &Arguments) -> Result<Vec<u8>, Failure> {
@@ -326,10 +340,16 @@ pub fn draw(input: &Input, arguments: &Arguments) -> Result<Vec<u8>, Failure> {
         last: arguments.number("--last").map(usize::from),
         kept_only: arguments.has("--kept-only"),
     };
-    let run = match ceilings(&input.table, arguments) {
-        Some(ceilings) => Run::read_under(&input.table, &ceilings)
+    let named = arguments.checkpoints("--stand").map(stand::names);
+    let run = match (ceilings(&input.table, arguments), &named) {
+        (Some(ceilings), _) => Run::read_under(&input.table, &ceilings)
             .map_err(|refusal| input.refused(&Call::Under(&ceilings), refusal))?,
-        None => Run::read(&input.table, &holders)
+        (None, Some(named)) => {
+            let together = stand::ask(input, named, arguments)?;
+            Run::read_standing(&input.table, named, together)
+                .map_err(|refusal| input.refused(&Call::Stand(named), refusal))?
+        }
+        (None, None) => Run::read(&input.table, &holders)
             .map_err(|refusal| input.refused(&Call::Hold(hold), refusal))?,
     };
     draw::draw(&run, &choice, arguments.text("--title"))

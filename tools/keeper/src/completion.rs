@@ -28,6 +28,8 @@ fn in_bash(takes: Takes) -> String {
         | Takes::Number
         | Takes::Numbers
         | Takes::Ceilings
+        | Takes::Checkpoint
+        | Takes::Checkpoints
         | Takes::Item => ":".to_string(),
     }
 }
@@ -140,6 +142,8 @@ fn in_zsh(takes: Takes) -> String {
         | Takes::Number
         | Takes::Numbers
         | Takes::Ceilings
+        | Takes::Checkpoint
+        | Takes::Checkpoints
         | Takes::Item => " ".to_string(),
     }
 }

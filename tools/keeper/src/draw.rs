@@ -10,9 +10,9 @@ use crate::run::{BadChoice, Choice, Message, Run, View};
 use legend::Legend;
 pub use shapes::escape;
 use shapes::{
-    arrow, bracket, dot, label, label_over_lines, open_arrows, polyline, short, virtual_dot,
-    width_of, wrap, Box2, Cut, Point, Space, Style, BRACKET, DOT, FAINT, INK, KEPT, PLAIN, UNSAVED,
-    UNSAVED_KEPT, WAITING,
+    arrow, bracket, dot, label, label_over_lines, open_arrows, polyline, ring, short, virtual_dot,
+    way, width_of, wrap, Box2, Cut, Point, Space, Style, BRACKET, DOT, FAINT, INK, KEPT, PLAIN,
+    RING, UNSAVED, UNSAVED_KEPT, WAITING, WAY,
 };
 
 const LEFT: f64 = 104.0;
@@ -101,12 +101,13 @@ fn hold_paint(place: usize, holders: usize) -> String {
     format!("stroke=\"{colour}\" stroke-width=\"{width}\" stroke-dasharray=\"{dashes}\"")
 }
 
-/// The line under ceilings, and its brackets. It has no dashes, and no holder's
-/// line is without them.
-const UNDER_COLOUR: &str = "#b00020";
+/// What was asked for: the line under ceilings and its brackets; named checkpoints,
+/// and the line that has them or the zigzag path. These lines have no dashes, and no
+/// holder's line is without them.
+const ASKED_COLOUR: &str = "#b00020";
 
-fn under_paint() -> String {
-    format!("stroke=\"{UNDER_COLOUR}\" stroke-width=\"2.4\"")
+fn asked_paint() -> String {
+    format!("stroke=\"{ASKED_COLOUR}\" stroke-width=\"2.4\"")
 }
 
 /// How far to the side a line of a holder runs: side by side where they run
@@ -168,6 +169,17 @@ fn checkpoint_title(run: &Run, p: usize, number: usize) -> String {
 /// What a message is, and why it is kept.
 fn message_title(run: &Run, k: usize) -> String {
     let message = &run.messages[k];
+    let title = title_off_the_path(run, k, message);
+    match (message.on_path, run.path()) {
+        (Some(place), Some(path)) => {
+            let all = path.messages.len();
+            format!("{title}; number {} of {all} on the zigzag path", place + 1)
+        }
+        _ => title,
+    }
+}
+
+fn title_off_the_path(run: &Run, k: usize, message: &Message) -> String {
     let sent = format!(
         "message {k}: from process {} after its checkpoint {}",
         message.from, message.sent
@@ -373,16 +385,18 @@ impl<'a> Picture<'a> {
     fn draw(mut self, title: Option<&str>) -> String {
         self.head(title);
         self.recovery_line();
+        self.zigzag_path();
         self.lifelines();
         self.names();
         self.hold_lines();
-        self.under_line();
+        self.asked_line();
         // The bold arrows over the thin ones.
         for style in [&PLAIN, &UNSAVED, &KEPT, &UNSAVED_KEPT, &WAITING] {
             self.arrows(style);
         }
         self.dots();
         self.ceilings();
+        self.named();
         self.numbers();
         self.holders();
         self.positions();
@@ -507,19 +521,90 @@ impl<'a> Picture<'a> {
         }
     }
 
-    fn under_line(&mut self) {
-        let Some(under) = &self.run.under else {
+    /// The line under ceilings, or the one that has the named checkpoints.
+    fn asked_line(&mut self) {
+        let (class, name, line) = match (&self.run.under, &self.run.stand) {
+            (Some(under), _) => {
+                let name = legend::under_words(self.view, under);
+                ("under-line", name, &under.line)
+            }
+            (None, Some(stand)) => match self.run.standing_line() {
+                Some(line) => ("standing-line", legend::standing_words(stand), line),
+                None => return,
+            },
+            (None, None) => return,
+        };
+        let corners = self.line(line, 0.36);
+        let title = legend::line_words(self.view, &name, line);
+        polyline(&mut self.svg, class, &asked_paint(), &corners, &title);
+        self.space.add_lines(&corners);
+    }
+
+    /// The zigzag path as a way: from its first checkpoint along the lifeline to the
+    /// send of its first message, along the arrow, from its receipt to the next send,
+    /// forwards or back, and so on to its second checkpoint; but for what is left out.
+    fn zigzag_path(&mut self) {
+        let Some(path) = self.run.path() else {
             return;
         };
-        let corners = self.line(&under.line, 0.36);
-        let title = legend::line_words(
-            self.view,
-            &legend::under_words(self.view, under),
-            &under.line,
+        let at = |one: keeper::Checkpoint| {
+            let row = self.view.row(one.process.into())?;
+            let column = self.layout.column(row, one.number.into())?;
+            Some(self.point((column, row as f64)))
+        };
+        let mut pieces = vec![Vec::from_iter(at(path.from))];
+        for position in &path.messages {
+            let (corners, cut) = match self.arrow((*position).into()) {
+                Some(drawn) => drawn,
+                None => (vec![], Cut::AtTail),
+            };
+            // What comes before an end that is left out is not joined to it.
+            if cut == Cut::AtTail {
+                pieces.push(vec![]);
+            }
+            pieces.last_mut().expect("one").extend(corners);
+            if cut == Cut::AtTip {
+                pieces.push(vec![]);
+            }
+        }
+        pieces.last_mut().expect("one").extend(at(path.to));
+        pieces.retain(|piece| piece.len() > 1);
+        if pieces.is_empty() {
+            return;
+        }
+        let title = format!("zigzag path {}", path.leads());
+        way(&mut self.svg, ASKED_COLOUR, &pieces, &title);
+        for piece in &pieces {
+            self.space.add_way(piece);
+        }
+    }
+
+    /// A ring around each named checkpoint that is drawn.
+    fn named(&mut self) {
+        let Some(stand) = &self.run.stand else {
+            return;
+        };
+        let _ = writeln!(
+            self.svg,
+            "<g class=\"names\" fill=\"none\" stroke=\"{ASKED_COLOUR}\" stroke-width=\"2\">"
         );
-        let paint = under_paint();
-        polyline(&mut self.svg, "under-line", &paint, &corners, &title);
-        self.space.add_lines(&corners);
+        for one in &stand.named {
+            let row = self.view.row(one.process.into());
+            let place = row.and_then(|row| {
+                let column = self.layout.column(row, one.number.into())?;
+                Some((column, row as f64))
+            });
+            if let Some(place) = place {
+                let at = self.point(place);
+                let title = format!(
+                    "named: checkpoint {} of process {}",
+                    one.number, one.process
+                );
+                ring(&mut self.svg, at, &title);
+                self.space.add_box(Box2::around(at, RING + 1.0));
+            }
+        }
+        let _ = writeln!(self.svg, "</g>");
     }
 
     /// A bracket at each ceiling that is drawn, right of its checkpoint. The
@@ -530,7 +615,7 @@ impl<'a> Picture<'a> {
         };
         let _ = writeln!(
             self.svg,
-            "<g class=\"ceilings\" fill=\"none\" stroke=\"{UNDER_COLOUR}\" stroke-width=\"2\">"
+            "<g class=\"ceilings\" fill=\"none\" stroke=\"{ASKED_COLOUR}\" stroke-width=\"2\">"
         );
         for (row, p) in self.rows() {
             let ceiling = under.ceilings[p];
@@ -773,27 +858,33 @@ impl<'a> Picture<'a> {
     }
 
     fn positions(&mut self) {
-        if !labels_messages(self.view) {
+        let labelled = labelled(self.view);
+        if labelled.is_empty() {
             return;
         }
         let _ = writeln!(
             self.svg,
             "<g class=\"positions\" font-size=\"10\" font-style=\"italic\" text-anchor=\"middle\">"
         );
-        for k in 0..self.run.messages.len() {
+        for k in labelled {
             let Some((corners, cut)) = self.arrow(k) else {
                 continue;
             };
+            let on_path = self.run.messages[k].on_path.is_some();
+            let clear = if on_path { WAY + 4.0 } else { 3.0 };
+            let places = |text: &str| match cut {
+                Cut::Nowhere => beside(&corners, text, clear),
+                Cut::AtTail => around(corners[0], text, 10.0).to_vec(),
+                Cut::AtTip => around(corners[1], text, 10.0).to_vec(),
+            };
             // As much of it as there is room for.
-            for text in self.other_end(k, cut).into_iter().chain([format!("m{k}")]) {
-                let places = match cut {
-                    Cut::Nowhere => beside(&corners, &text),
-                    Cut::AtTail => around(corners[0], &text, 10.0).to_vec(),
-                    Cut::AtTip => around(corners[1], &text, 10.0).to_vec(),
-                };
-                if label(&mut self.svg, &mut self.space, &text, 10.0, places) {
-                    break;
-                }
+            let own = format!("m{k}");
+            let mut texts = self.other_end(k, cut).into_iter().chain([own.clone()]);
+            let (svg, space) = (&mut self.svg, &mut self.space);
+            let found = texts.any(|text| label(svg, space, &text, 10.0, places(&text)));
+            // The note below the picture names those of the path.
+            if !found && on_path {
+                label_over_lines(svg, space, &own, 10.0, &places(&own));
             }
         }
         let _ = writeln!(self.svg, "</g>");
@@ -814,9 +905,16 @@ impl<'a> Picture<'a> {
     }
 }
 
-/// Whether the messages have their positions beside them.
-fn labels_messages(view: &View) -> bool {
-    (1..=MOST_LABELLED).contains(&view.messages().count())
+/// The messages that have their positions beside them: those of the zigzag path first,
+/// and the others where all are not too many.
+fn labelled(view: &View) -> Vec<usize> {
+    let on_path = |k: &usize| view.run.messages[*k].on_path.is_some();
+    let (mut drawn, others): (Vec<usize>, Vec<usize>) = view.messages().partition(on_path);
+    if drawn.len() + others.len() <= MOST_LABELLED {
+        drawn.extend(others);
+    }
+    drawn.truncate(MOST_LABELLED);
+    drawn
 }
 
 /// Places for a text around a point, the best first.
@@ -837,14 +935,14 @@ fn around(at: Point, text: &str, size: f64) -> [Point; 10] {
     .map(|(x, y)| at.moved(x, y))
 }
 
-/// Places beside an arrow, from its middle outwards, on either side.
-fn beside(corners: &[Point], text: &str) -> Vec<Point> {
+/// Places so far beside an arrow, from its middle outwards, on either side.
+fn beside(corners: &[Point], text: &str, clear: f64) -> Vec<Point> {
     let half = width_of(text, 10.0) / 2.0;
     // Where an arrow bends, its first part is the one that tells.
     let (from, to) = (corners[0], corners[1]);
     let length = (to.x - from.x).hypot(to.y - from.y);
     let (along_x, along_y) = ((to.x - from.x) / length, (to.y - from.y) / length);
-    let aside = 3.0 + half * along_y.abs() + 4.5 * along_x.abs();
+    let aside = clear + half * along_y.abs() + 4.5 * along_x.abs();
     let mut places = Vec::new();
     for part in [0.5, 0.4, 0.6, 0.3, 0.7, 0.22, 0.78] {
         let there = from.moved((to.x - from.x) * part, (to.y - from.y) * part);

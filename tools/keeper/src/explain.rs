@@ -2,7 +2,7 @@
 //! numbers. That a call is refused, and by which number, is the library's
 //! answer; here is looked up what caught.
 
-use keeper::{run_table, Refusal};
+use keeper::{run_table, Checkpoint, Refusal};
 
 /// A call on a table, with its arguments as the caller named them.
 pub enum Call<'a> {
@@ -24,6 +24,8 @@ pub enum Call<'a> {
     Hold(&'a [u16]),
     /// The line under these ceilings.
     Under(&'a [u16]),
+    /// Whether these checkpoints stand together, by process and then by number.
+    Stand(&'a [Checkpoint]),
 }
 
 /// `refused`, the number, and what caught.
@@ -152,7 +154,7 @@ fn in_call(table: &[u8], call: &Call, refusal: Refusal) -> Option<String> {
     let (n, m) = sizes(table);
     let unknown = |named: &[u16]| {
         let process = named.iter().find(|process| usize::from(**process) >= n)?;
-        Some(format!("there is no process {process} (N is {n})"))
+        Some(no_process(*process, n))
     };
     match (refusal, call) {
         (Refusal::UnknownProcess, Call::Send { from, to }) => unknown(&[*from, *to]),
@@ -172,6 +174,22 @@ fn in_call(table: &[u8], call: &Call, refusal: Refusal) -> Option<String> {
             Some(format!(
                 "the ceiling {ceiling} of process {p} is above its count {count}"
             ))
+        }
+        (Refusal::BadNamedProcess, Call::Stand(named)) => {
+            let mut pairs = named.windows(2);
+            let twice = pairs.find(|pair| pair[0].process == pair[1].process);
+            match twice.filter(|pair| usize::from(pair[0].process) < n) {
+                Some([one, other]) => Some(format!(
+                    "process {} is named twice, with checkpoints {} and {}",
+                    one.process, one.number, other.number
+                )),
+                _ => unknown(&named.iter().map(|one| one.process).collect::<Vec<_>>()),
+            }
+        }
+        (Refusal::NamedStateTooHigh, Call::Stand(named)) => {
+            let count = |one: &Checkpoint| run_table::count(table, one.process.into());
+            let one = named.iter().find(|one| one.number >= count(one))?;
+            Some(no_checkpoint(one.process, one.number, count(one)))
         }
         (Refusal::SendToItself, Call::Send { from, .. }) => {
             Some(format!("process {from} does not send to itself"))
@@ -226,6 +244,19 @@ fn in_list(table: &[u8], process: u16, list: &[u16]) -> Option<String> {
         }
     }
     None
+}
+
+/// Of a process that the table does not have.
+pub fn no_process(process: u16, n: usize) -> String {
+    format!("there is no process {process} (N is {n})")
+}
+
+/// Of a checkpoint that a process does not have.
+pub fn no_checkpoint(process: u16, number: u16, count: u16) -> String {
+    format!(
+        "there is no checkpoint {number} of process {process}: it has {}",
+        plural(count.into(), "checkpoint")
+    )
 }
 
 /// A number of things.

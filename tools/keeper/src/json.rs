@@ -1,6 +1,8 @@
 //! Answers in JSON: one object on one line.
 
-use keeper::{Line, Refusal, Sheet, Table};
+use keeper::{Checkpoint, Line, Refusal, Sheet, Table};
+
+use crate::stand::Path;
 
 /// A string with its quotes.
 fn string(text: &str) -> String {
@@ -23,23 +25,31 @@ fn array<T: ToString>(items: impl Iterator<Item = T>) -> String {
     format!("[{}]", items.join(","))
 }
 
+fn checkpoint(one: Checkpoint) -> String {
+    format!("{{\"process\":{},\"number\":{}}}", one.process, one.number)
+}
+
 /// The keys of a sheet, without the braces.
 fn kept(sheet: &Sheet) -> String {
-    let checkpoints = sheet.checkpoints().map(|kept| {
-        format!(
-            "{{\"process\":{},\"number\":{}}}",
-            kept.process, kept.number
-        )
-    });
     format!(
         "\"checkpoints\":{},\"messages\":{}",
-        array(checkpoints),
+        array(sheet.checkpoints().map(checkpoint)),
         array(sheet.messages())
     )
 }
 
 pub fn line(line: &Line) -> String {
     format!("{{\"line\":{}}}\n", array(line.iter()))
+}
+
+/// No line, and the path that shows why.
+pub fn path(path: &Path) -> String {
+    format!(
+        "{{\"line\":null,\"from\":{},\"to\":{},\"path\":{}}}\n",
+        checkpoint(path.from),
+        checkpoint(path.to),
+        array(path.messages.iter())
+    )
 }
 
 pub fn sheet(sheet: &Sheet) -> String {

@@ -16,6 +16,7 @@ pub mod page;
 pub mod run;
 pub mod script;
 pub mod sheet;
+pub mod stand;
 pub mod text;
 pub mod usage;
 pub mod why;

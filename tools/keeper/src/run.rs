@@ -3,7 +3,9 @@
 
 use std::fmt;
 
-use keeper::{Line, Refusal, Table};
+use keeper::{Checkpoint, Line, Refusal, Table};
+
+use crate::stand::{Path, Together};
 
 pub struct Message {
     pub from: usize,
@@ -16,6 +18,8 @@ pub struct Message {
     /// Whether it is received and not saved yet.
     pub unsaved: bool,
     pub kept: bool,
+    /// Its place on the zigzag path that is drawn, from 0.
+    pub on_path: Option<usize>,
 }
 
 impl Message {
@@ -44,12 +48,27 @@ pub struct Run {
     pub holders: Vec<usize>,
     /// The line under ceilings, where it is drawn.
     pub under: Option<Under>,
+    /// The named checkpoints, where some are.
+    pub stand: Option<Stand>,
 }
 
 /// A line under ceilings, both by process.
 pub struct Under {
     pub ceilings: Vec<usize>,
     pub line: Vec<usize>,
+}
+
+/// Named checkpoints, by process, and whether they stand together.
+pub struct Stand {
+    pub named: Vec<Checkpoint>,
+    pub answer: Standing,
+}
+
+pub enum Standing {
+    /// The line that has them all, by process.
+    Line(Vec<usize>),
+    /// There is none, and this shows why.
+    Path(Path),
 }
 
 impl Run {
@@ -84,6 +103,7 @@ impl Run {
                 received: message.received.map_or(0, |number| number.get().into()),
                 unsaved: message.is_unsaved(),
                 kept: sheet.has_message(position),
+                on_path: None,
             });
         let hold_line = |p| places(sheet.line(p).expect("a line of each process"));
         Ok(Run {
@@ -94,6 +114,7 @@ impl Run {
             hold_lines: processes.map(hold_line).collect(),
             holders,
             under: None,
+            stand: None,
         })
     }
 
@@ -111,6 +132,58 @@ impl Run {
         })
     }
 
+    /// Reads a table with named checkpoints, and whether they stand together.
+    pub fn read_standing(
+        table: &[u8],
+        named: &[Checkpoint],
+        together: Together,
+    ) -> Result<Run, Refusal> {
+        let mut run = Run::read(table, &Holders::Of(vec![]))?;
+        let answer = match together {
+            Together::Yes(line) => Standing::Line(places(&line)),
+            Together::No(path) => {
+                for (place, position) in path.messages.iter().enumerate() {
+                    run.messages[usize::from(*position)].on_path = Some(place);
+                }
+                Standing::Path(path)
+            }
+        };
+        let named = named.to_vec();
+        run.stand = Some(Stand { named, answer });
+        Ok(run)
+    }
+
+    /// The line that has the named checkpoints, where there is one.
+    pub fn standing_line(&self) -> Option<&Vec<usize>> {
+        match &self.stand.as_ref()?.answer {
+            Standing::Line(line) => Some(line),
+            Standing::Path(_) => None,
+        }
+    }
+
+    /// The zigzag path between named checkpoints, where there is one.
+    pub fn path(&self) -> Option<&Path> {
+        match &self.stand.as_ref()?.answer {
+            Standing::Line(_) => None,
+            Standing::Path(path) => Some(path),
+        }
+    }
+
+    /// Whether the checkpoint is a named one.
+    pub fn names(&self, p: usize, number: usize) -> bool {
+        let named = self.stand.iter().flat_map(|stand| &stand.named);
+        let mut named = named.map(|one| (usize::from(one.process), usize::from(one.number)));
+        named.any(|one| one == (p, number))
+    }
+
+    /// Whether the checkpoint is drawn though it is not kept: that of a line that
+    /// was asked for, and a named one.
+    fn is_asked_for(&self, p: usize, number: usize) -> bool {
+        let under = self.under.iter().map(|under| &under.line);
+        let mut lines = under.chain(self.standing_line());
+        self.names(p, number) || lines.any(|line| line[p] == number)
+    }
+
     /// The number of the checkpoint before which the arrow of message k ends:
     /// the virtual one for a waiting message, and for one that is not saved yet.
     pub fn ends_before(&self, k: usize) -> usize {
@@ -122,19 +195,22 @@ impl Run {
         }
     }
 
-    /// The lines that are drawn: the recovery line, those of the holders, and
-    /// the one under ceilings.
+    /// The lines that are drawn: the recovery line, those of the holders, the one
+    /// under ceilings, and the one that has the named checkpoints.
     pub fn lines(&self) -> impl Iterator<Item = &[usize]> {
         let holders = self.holders.iter().map(|holder| &self.hold_lines[*holder]);
         std::iter::once(&self.recovery_line)
             .chain(holders)
             .chain(self.under.iter().map(|under| &under.line))
+            .chain(self.standing_line())
             .map(Vec::as_slice)
     }
 
-    /// Whether the checkpoint is kept or on one of the lines.
+    /// Whether the checkpoint is kept, named or on one of the lines.
     pub fn marks(&self, p: usize, number: usize) -> bool {
-        self.kept[p].get(number) == Some(&true) || self.lines().any(|line| line[p] == number)
+        self.kept[p].get(number) == Some(&true)
+            || self.names(p, number)
+            || self.lines().any(|line| line[p] == number)
     }
 
     /// The processes whose lines, each alone holding, have the checkpoint.
@@ -248,11 +324,10 @@ impl<'a> View<'a> {
     }
 
     /// Whether a checkpoint is drawn. The virtual one of a row always is, and so
-    /// is that of a line, though under ceilings it need not be kept.
+    /// are those of lines and the named ones, though they need not be kept.
     pub fn has_checkpoint(&self, p: usize, number: usize) -> bool {
         let kept = self.run.kept[p].get(number) != Some(&false);
-        let mut under = self.run.under.iter();
-        let wanted = !self.kept_only || kept || under.any(|under| under.line[p] == number);
+        let wanted = !self.kept_only || kept || self.run.is_asked_for(p, number);
         wanted && self.has_after(p, number)
     }
 
@@ -261,9 +336,11 @@ impl<'a> View<'a> {
         self.row_of[p].is_some() && number >= self.first[p]
     }
 
-    /// Whether a message may be drawn where its ends are.
+    /// Whether a message may be drawn where its ends are. That of a zigzag path need
+    /// not be kept.
     fn wants(&self, k: usize) -> bool {
-        !self.kept_only || self.run.messages[k].kept
+        let message = &self.run.messages[k];
+        !self.kept_only || message.kept || message.on_path.is_some()
     }
 
     /// Whether the place of the send of message k is drawn.

@@ -18,7 +18,7 @@
 
 use std::fmt::{self, Write};
 
-use keeper::{run_table, Refusal};
+use keeper::{Message, Refusal, Table};
 
 use crate::explain::{self, Culprit};
 
@@ -290,24 +290,28 @@ pub fn read(text: &[u8]) -> Result<Read, SyntaxError> {
     })
 }
 
-/// The text of an accepted table.
-pub fn write(table: &[u8]) -> String {
-    let n = run_table::processes(table);
-    let mut text = format!("processes {n}\nstates");
-    for process in 0..usize::from(n) {
-        let _ = write!(text, " {}", run_table::count(table, process));
+/// The text of a table.
+pub fn write(table: &Table) -> String {
+    let mut text = format!("processes {}\nstates", table.processes());
+    for count in table.counts() {
+        let _ = write!(text, " {count}");
     }
     text.push('\n');
-    for k in 0..usize::from(run_table::messages(table)) {
-        let (sender, sent) = (run_table::sender(table, k), run_table::sent(table, k));
-        let receiver = run_table::receiver(table, k);
-        let count = run_table::count(table, receiver.into());
-        let _ = write!(text, "message {sender}.{sent} -> {receiver}");
-        let _ = match run_table::received(table, k) {
-            0 => writeln!(text, " waiting"),
-            received if received == count => writeln!(text, ".{received} unsaved"),
-            received => writeln!(text, ".{received}"),
-        };
+    for message in table.messages() {
+        let _ = writeln!(text, "message {}", ends(&message));
     }
     text
+}
+
+/// A message by its ends: `0.0 -> 1.2`, `0.1 -> 1.3 unsaved`, `1.2 -> 0 waiting`.
+pub fn ends(message: &Message) -> String {
+    let sent = format!(
+        "{}.{} -> {}",
+        message.sender, message.sent, message.receiver
+    );
+    match message.received {
+        None => format!("{sent} waiting"),
+        Some(received) if message.is_unsaved() => format!("{sent}.{received} unsaved"),
+        Some(received) => format!("{sent}.{received}"),
+    }
 }

@@ -12,7 +12,7 @@ use crate::arguments::Arguments;
 use crate::command::{self, Failure, Stepped};
 use crate::completion::SHELLS;
 use crate::input::Input;
-use crate::{script, sheet, why};
+use crate::{script, sheet, stand, why};
 
 /// What an option or an argument takes.
 #[derive(Clone, Copy, Debug, PartialEq, Eq)]
@@ -28,6 +28,10 @@ pub enum Takes {
     NumbersOr(&'static [&'static str]),
     /// Numbers with a comma between two; in the place of each may stand `-`.
     Ceilings,
+    /// A checkpoint: `1.2`.
+    Checkpoint,
+    /// Checkpoints with a comma between two.
+    Checkpoints,
     /// One of these words.
     OneOf(&'static [&'static str]),
     /// The name of a subcommand.
@@ -178,6 +182,14 @@ const DRAW_UNDER: Opt = Opt {
 the count, which leaves that process free; a bracket stands at each ceiling below the count",
 };
 
+const STAND: Opt = Opt {
+    names: &["--stand"],
+    takes: Takes::Checkpoints,
+    value: "LIST",
+    words: "draw as well whether the checkpoints of LIST can stand together, such as `0.2,1.3`: a ring stands around each, \
+with the latest line that has them all; or, where the answer is no, a zigzag path between two of them, or from one to itself",
+};
+
 const LAST: Opt = Opt {
     names: &["--last"],
     takes: Takes::Number,
@@ -196,7 +208,8 @@ const KEPT_ONLY: Opt = Opt {
     names: &["--kept-only"],
     takes: Takes::Nothing,
     value: "",
-    words: "draw only the checkpoints and messages that are kept, and the lines, those under ceilings with checkpoints not kept",
+    words: "draw only the checkpoints and messages that are kept, and the lines, those of --under and --stand with checkpoints not \
+kept, the named checkpoints and the zigzag path",
 };
 
 const TITLE: Opt = Opt {
@@ -246,7 +259,12 @@ const TABLES: Opt = Opt {
 const STEP_OPTIONS: &[&Opt] = &[&TEXT_IN, &TEXT_OUT, &TEXT, &OUTPUT];
 
 /// Options and arguments that a subcommand takes one of.
-pub const EXCLUDING: &[(&str, &str)] = &[("--under", "PROCESS"), ("--under", "--hold")];
+pub const EXCLUDING: &[(&str, &str)] = &[
+    ("--under", "PROCESS"),
+    ("--under", "--hold"),
+    ("--stand", "--hold"),
+    ("--stand", "--under"),
+];
 
 /// Those of several subcommands, which the man page explains once.
 pub const COMMON: &[&Opt] = STEP_OPTIONS;
@@ -359,6 +377,45 @@ the same line for every table and all ceilings, so that what is written is the s
 In JSON it is an object with the key `line`, an array of numbers; that of a refusal has the keys `refused`, the number, \
 and `words`.",
         work: Work::Answer(command::line),
+    },
+    Subcommand {
+        name: "stand",
+        arguments: &[Argument {
+            name: "STATE",
+            takes: Takes::Checkpoint,
+            times: Times::Any,
+        }],
+        file: true,
+        options: &[&JSON, &READ_TEXT, &OUTPUT],
+        short: "whether named checkpoints can stand together: the latest line that has them all",
+        words: "\
+Reads a run table and writes the latest consistent line that has the checkpoint of each STATE named, one decimal number for \
+each process: `1.2` is checkpoint 2 of process 1. Processes that are not named may stand anywhere up to their counts. That \
+is the answer yes, with exit status 0.
+
+  keeper stand 0.2 1.3 run.table
+
+Where there is no such line the answer is no: the exit status is 3, nothing is written, and a message on standard error \
+names a zigzag path that shows why (Xu and Netzer, \"Adaptive Independent Checkpointing for Reducing Rollback \
+Propagation\", Definition 1). It leads from a named checkpoint to another or to itself, by messages that were received: \
+the first is sent after the first checkpoint, each next one is sent by the receiver of the one before, between the same two \
+checkpoints as that receipt or later, and the last is received before the second checkpoint. A message `m0` of process 0 to \
+process 1 is shown as in a text, `0.0 -> 1.2`: sent after checkpoint 0, received before checkpoint 2. A checkpoint from \
+which such a path leads to itself is on no consistent line at all.
+
+That it is a yes or a no, and the line, is the library's answer, and is proved: it is a no exactly when there is a zigzag \
+path. The path itself is found by this command, which searches breadth first over the messages, so that none is shorter; \
+that search is tested and not proved. Where it did not agree with the library, it would say so as an internal error.
+
+Names may stand in any order, and one that stands twice is one name. Two checkpoints of one process are refused by 21, and \
+one that the process does not have by 22. Without any STATE the line is the counts. A file whose name is such as `1.2` is \
+written `./1.2`. As is said at `line` of a line under ceilings, no step goes to this line, and the keep sheet does not \
+protect it.
+
+In JSON a yes is an object with the key `line`, an array of numbers. A no has the keys `line`, which is null, `from` and `to`, \
+objects with `process` and `number`, and `path`, an array of positions in the order of the path. A refusal has the keys \
+`refused`, the number, and `words`.",
+        work: Work::Answer(stand::stand),
     },
     Subcommand {
         name: "sheet",
@@ -491,8 +548,8 @@ protects: store them by an identity of your own, and carry it along a fall back.
         short: "the steps of a script, one after another",
         words: "\
 Reads a script, and makes its steps on the table of FILE. A line is a subcommand with its arguments and options, without \
-FILE: `send 0 1`, `receive 1 0`, `save 1`, `fall back`, `list`, `line`, `sheet`, `check`, `why 1.2`, `draw`; `text` is the \
-text of the table. What follows `#` is skipped. A script that begins with `new` reads no FILE. SCRIPT is standard input where it is `-`.
+FILE: `send 0 1`, `receive 1 0`, `save 1`, `fall back`, `list`, `line`, `stand 0.1 1.2`, `sheet`, `check`, `why 1.2`, `draw`; \
+`text` is the text of the table. What follows `#` is skipped. A script that begins with `new` reads no FILE. SCRIPT is standard input where it is `-`.
 
   new 2
   send 0 1
@@ -500,7 +557,8 @@ text of the table. What follows `#` is skipped. A script that begins with `new` 
   list
 
 Answers go to standard output, as texts. The last table is written just where -o names a file for it. A line that fails \
-ends the run; it is named with its number and its words, and then nothing is written to that file. Words that are no step \
+ends the run; it is named with its number and its words, and then nothing is written to that file. So does a `stand` whose \
+answer is no, with its exit status. Words that are no step \
 are found before the first step is made.",
         work: Work::Alone(script::run),
     },
@@ -508,7 +566,7 @@ are found before the first step is made.",
         name: "draw",
         arguments: &[],
         file: true,
-        options: &[&HOLD, &DRAW_UNDER, &LAST, &PROCESSES, &KEPT_ONLY, &TITLE, &READ_TEXT, &OUTPUT],
+        options: &[&HOLD, &DRAW_UNDER, &STAND, &LAST, &PROCESSES, &KEPT_ONLY, &TITLE, &READ_TEXT, &OUTPUT],
         short: "the run as a diagram in SVG",
         words: "\
 Reads a run table and writes the run as a space-time diagram in SVG: a lifeline for each process, checkpoints as dots \
@@ -516,7 +574,9 @@ and messages as arrows, with what is kept and the recovery line. The arrow of a 
 a hollow head and ends before the square of its receiver, what that process has become. Time runs to the right where some order of time fits \
 the table; else places are by checkpoint number, and the legend says so.
 
---hold and --under exclude each other. What the options leave out is counted below the picture. Of a message whose other end is left out a short piece is \
+--hold, --under and --stand exclude each other. Of --stand a no is drawn as a yes is, with exit status 0: the zigzag path, \
+that of `stand`, runs as a way with two sides along lifelines and arrows, and below the picture stands which messages it \
+has. What the options leave out is counted below the picture. Of a message whose other end is left out a short piece is \
 drawn, with a ring where it is cut. A browser shows what a dot or an arrow is, and why it is kept, when it is pointed \
 at. Many renderers stop at 32767 px, so a picture that would be wider is not drawn; the message then names a `--last` \
 that is narrow enough.",
@@ -653,6 +713,10 @@ of what the table does not have",
     (
         "2",
         "wrong usage; a text, a script or a sheet that is not in the form; an error of input or output",
+    ),
+    (
+        "3",
+        "`stand` answers no: the named checkpoints can't stand together, and a message on standard error says why",
     ),
     (
         "141",

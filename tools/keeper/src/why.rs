@@ -4,11 +4,11 @@
 
 use std::fmt::{self, Write};
 
-use keeper::{Line, Message, Refusal, Sheet, Table};
+use keeper::{Checkpoint, Line, Message, Refusal, Sheet, Table};
 
-use crate::arguments::Arguments;
+use crate::arguments::{read_checkpoint, Arguments};
 use crate::command::Failure;
-use crate::explain::plural;
+use crate::explain::{no_checkpoint, no_process, plural};
 use crate::input::Input;
 use crate::text;
 
@@ -22,18 +22,15 @@ pub enum Item {
 impl Item {
     /// Reads `1.2` or `m4`.
     pub fn read(text: &str) -> Option<Item> {
-        let number = |digits: &str| {
-            let all = !digits.is_empty() && digits.bytes().all(|byte| byte.is_ascii_digit());
-            all.then(|| digits.parse().ok()).flatten()
-        };
-        if let Some(position) = text.strip_prefix('m') {
-            return number(position).map(Item::Message);
+        if let Some(digits) = text.strip_prefix('m') {
+            let all = digits.bytes().all(|byte| byte.is_ascii_digit());
+            return all
+                .then(|| digits.parse().ok())
+                .flatten()
+                .map(Item::Message);
         }
-        let (process, checkpoint) = text.split_once('.')?;
-        Some(Item::Checkpoint {
-            process: number(process)?,
-            number: number(checkpoint)?,
-        })
+        let Checkpoint { process, number } = read_checkpoint(text)?;
+        Some(Item::Checkpoint { process, number })
     }
 
     /// Itself, with its message where it is one; or why the table does not have
@@ -41,15 +38,10 @@ impl Item {
     fn found(self, table: &Table) -> Result<Found, String> {
         let n = table.processes();
         match self {
-            Item::Checkpoint { process, .. } if process >= n => {
-                Err(format!("there is no process {process} (N is {n})"))
-            }
+            Item::Checkpoint { process, .. } if process >= n => Err(no_process(process, n.into())),
             Item::Checkpoint { process, number } => match table.count(process) {
                 count if number < count => Ok(Found::Checkpoint(process, number)),
-                count => Err(format!(
-                    "there is no checkpoint {number} of process {process}: it has {}",
-                    plural(count.into(), "checkpoint")
-                )),
+                count => Err(no_checkpoint(process, number, count)),
             },
             Item::Message(position) => match table.message(position) {
                 Some(message) => Ok(Found::Message(position, message)),
@@ -74,14 +66,7 @@ impl fmt::Display for Found {
         match self {
             Found::Checkpoint(process, number) => write!(to, "Checkpoint {process}.{number}"),
             Found::Message(position, message) => {
-                let (sender, sent) = (message.sender, message.sent);
-                let receiver = message.receiver;
-                write!(to, "Message {position} ({sender}.{sent} -> {receiver}")?;
-                match message.received {
-                    Some(received) if message.is_unsaved() => write!(to, ".{received} unsaved)"),
-                    Some(received) => write!(to, ".{received})"),
-                    None => write!(to, " waiting)"),
-                }
+                write!(to, "Message {position} ({})", text::ends(message))
             }
         }
     }
@@ -231,9 +216,7 @@ impl From<Unanswered> for Failure {
     fn from(unanswered: Unanswered) -> Failure {
         match unanswered {
             Unanswered::NotThere(words) => Failure::refused(words),
-            Unanswered::Internal(words) => {
-                Failure::trouble(format!("internal error: {words}; please report it"))
-            }
+            Unanswered::Internal(words) => Failure::internal(&words),
         }
     }
 }
@@ -314,7 +297,7 @@ impl Reasons {
         for (process, table) in future.saves.iter().zip(&after) {
             let _ = writeln!(script, "save {process}");
             if show {
-                for line in text::write(table.as_bytes()).lines() {
+                for line in text::write(table).lines() {
                     let _ = writeln!(script, "#     {line}");
                 }
             }

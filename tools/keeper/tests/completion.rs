@@ -72,6 +72,7 @@ fn bash() {
     assert_eq!(offered(&["keeper", "de"]), ["decode"]);
     assert_eq!(offered(&["keeper", "se"]), ["send"]);
     assert_eq!(offered(&["keeper", "re"]), ["receive"]);
+    assert_eq!(offered(&["keeper", "st"]), ["stand"]);
     assert_eq!(offered(&["keeper", "zz"]), [""; 0]);
     for row in SUBCOMMANDS {
         let mut names: Vec<&str> = row
@@ -118,6 +119,11 @@ fn bash() {
         offered(&["keeper", "line", "--under", "3,2", "st"]),
         ["steps.txt"]
     );
+    assert_eq!(offered(&["keeper", "stand", "--j"]), ["--json"]);
+    assert_eq!(offered(&["keeper", "stand", ""]), files);
+    assert_eq!(offered(&["keeper", "stand", "0.1", "st"]), ["steps.txt"]);
+    assert_eq!(offered(&["keeper", "draw", "--s"]), ["--stand"]);
+    assert_eq!(offered(&["keeper", "draw", "--stand", ""]), [""; 0]);
     assert_eq!(offered(&["keeper", "new", ""]), [""; 0]);
     assert_eq!(offered(&["keeper", "completion", ""]), ["bash", "zsh"]);
     assert_eq!(offered(&["keeper", "completion", "z"]), ["zsh"]);
@@ -141,9 +147,10 @@ fn options_that_exclude_each_other_in_zsh() {
             .map(|line| line.split(name.as_str()).next().expect("one"))
             .collect()
     };
-    // In `line` and in `draw`, which has both.
-    assert_eq!(specs("--under"), ["'(--under", "'(--under --hold"]);
-    assert_eq!(specs("--hold"), ["'(--hold --under"]);
+    // In `line` and in `draw`, which has all of them.
+    assert_eq!(specs("--under"), ["'(--under", "'(--under --hold --stand"]);
+    assert_eq!(specs("--hold"), ["'(--hold --under --stand"]);
+    assert_eq!(specs("--stand"), ["'(--stand --hold --under"]);
     assert_eq!(specs("--last"), ["'(--last"]);
 }
 
@@ -205,6 +212,8 @@ fn zsh() {
         ("keeper send 0 1 st", "keeper send 0 1 steps.txt "),
         ("keeper save 0 1 st", "keeper save 0 1 steps.txt "),
         ("keeper rec", "keeper receive "),
+        ("keeper sta", "keeper stand "),
+        ("keeper stand 0.1 st", "keeper stand 0.1 steps.txt "),
         ("keeper receive 0 1 st", "keeper receive 0 1 steps.txt "),
         ("keeper run steps.txt fo", "keeper run steps.txt folder/"),
         ("keeper completion z", "keeper completion zsh "),

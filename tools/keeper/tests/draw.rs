@@ -12,6 +12,7 @@ use common::{bytes, corpus, done, example_a, fails, refused, refuses, Random};
 use keeper_command::draw::{self, Undrawn};
 use keeper_command::layout::{self, Arrow, Layout, Scale};
 use keeper_command::run::{BadChoice, Choice, Holders, Run, View};
+use keeper_command::stand::{Path, Together};
 use xml::{elements, Element};
 
 const SCALE: Scale = Scale {
@@ -771,6 +772,309 @@ fn the_line_under_ceilings_has_its_checkpoints() {
         not_kept > 100 && before > 100 && brackets > 100,
         "{not_kept} {before} {brackets}"
     );
+}
+
+/// The checkpoints with a ring, told by its title and by where it stands.
+fn rings_in(picture: &Picture) -> Vec<(usize, usize)> {
+    let mut found = Vec::new();
+    for (place, element) in picture.all.iter().enumerate() {
+        if !element.is("named") || !element.is_within("names") {
+            continue;
+        }
+        let mut own = picture.all.iter().filter(|one| one.parent == Some(place));
+        let title = &own.next().expect("a title").text;
+        assert!(title.starts_with("named: checkpoint "), "{title}");
+        let [number, p] = numbers_in(title)[..] else {
+            panic!("{title}")
+        };
+        let at = (element.number("cx"), element.number("cy"));
+        assert_eq!(picture.dots[&(p, number)].at, at, "{title}");
+        // Around the dot, and clear of it.
+        assert!(element.number("r") > 7.0, "{title}");
+        found.push((p, number));
+    }
+    found
+}
+
+/// The pieces of the way that a zigzag path is drawn as: its sides, and the white
+/// between them, which runs along the same corners.
+fn way_in(picture: &Picture) -> Vec<Vec<(f64, f64)>> {
+    let pieces = |class: &str| -> Vec<Vec<(f64, f64)>> {
+        let own = in_class(&picture.all, "way").filter(|one| one.is(class));
+        let own = own.filter(|one| !one.is_within("legend"));
+        own.map(points).collect()
+    };
+    assert_eq!(pieces("sides"), pieces("between"));
+    pieces("sides")
+}
+
+/// The way as the picture's dots and arrows give it: from the first checkpoint to the
+/// first arrow, along it, to the next, and to the second checkpoint; in pieces where
+/// something is left out.
+fn way_along(picture: &Picture, path: &Path) -> Vec<Vec<(f64, f64)>> {
+    let dot = |one: keeper::Checkpoint| {
+        let dot = picture.dots.get(&(one.process.into(), one.number.into()));
+        dot.map(|dot| dot.at)
+    };
+    let mut pieces: Vec<Vec<(f64, f64)>> = vec![dot(path.from).into_iter().collect()];
+    for position in &path.messages {
+        let Some(arrow) = picture.arrows.get(&usize::from(*position)) else {
+            pieces.push(vec![]);
+            continue;
+        };
+        let mut corners = arrow.shaft.clone();
+        *corners.last_mut().expect("two") = arrow.tip;
+        let near =
+            |one: (f64, f64), other: (f64, f64)| (one.0 - other.0).hypot(one.1 - other.1) < 5.0;
+        let cut_at = |end: (f64, f64)| arrow.ring.is_some_and(|ring| near(ring, end));
+        if cut_at(corners[0]) {
+            pieces.push(vec![]);
+        }
+        let last = pieces.last_mut().expect("one");
+        // From one event of a lifeline to another.
+        if let Some(end) = last.last() {
+            assert!((end.1 - corners[0].1).abs() < 0.11, "{path:?}");
+        }
+        last.extend(&corners);
+        if cut_at(arrow.tip) {
+            pieces.push(vec![]);
+        }
+    }
+    pieces.last_mut().expect("one").extend(dot(path.to));
+    pieces.retain(|piece| piece.len() > 1);
+    pieces
+}
+
+#[test]
+fn named_checkpoints_of_example_a() {
+    let picture = |arguments: &[&str]| {
+        let arguments = [&["draw"], arguments].concat();
+        let svg = String::from_utf8(done(&arguments, &example_a())).expect("UTF-8");
+        Picture::read(&svg)
+    };
+    // A yes: the line that has it.
+    let yes = picture(&["--stand", "1.2"]);
+    let line = yes.lines("standing-line");
+    assert_eq!(
+        (line.len(), through(&yes, &line[0])),
+        (1, vec![(0, 3), (1, 2)])
+    );
+    assert_eq!(rings_in(&yes), [(1, 2)]);
+    assert!(way_in(&yes).is_empty());
+    let legend = yes.texts("legend");
+    assert!(legend.contains(&"named checkpoint"), "{legend:?}");
+    assert!(legend.contains(&"latest line with 1.2: 3 2"), "{legend:?}");
+    assert!(!legend.iter().any(|text| text.contains("zigzag")));
+    assert!(!yes.notes().contains("No: "), "{}", yes.notes());
+    let two = picture(&["--stand", "1.1,0.0"]);
+    assert_eq!(rings_in(&two), [(0, 0), (1, 1)]);
+    let legend = two.texts("legend");
+    assert!(
+        legend.contains(&"latest line with 0.0 1.1: 0 1"),
+        "{legend:?}"
+    );
+    // A no: the path, by messages 3 and 2 from checkpoint 2 of process 0 to itself.
+    let no = picture(&["--stand", "0.2"]);
+    assert!(no.lines("standing-line").is_empty());
+    assert_eq!(rings_in(&no), [(0, 2)]);
+    let own = keeper::Checkpoint {
+        process: 0,
+        number: 2,
+    };
+    let path = Path {
+        from: own,
+        to: own,
+        messages: vec![3, 2],
+    };
+    let way = way_in(&no);
+    assert_eq!((way.len(), way[0].len()), (1, 6));
+    assert_eq!(way, way_along(&no, &path));
+    let legend = no.texts("legend");
+    let words = "zigzag path from 0.2 to itself";
+    assert!(legend.contains(&words), "{legend:?}");
+    assert!(!legend.iter().any(|text| text.contains("latest line")));
+    let note = "No: 0.2 is on no consistent line. A zigzag path leads from 0.2 to itself by m3, then m2. Time ";
+    assert!(no.notes().starts_with(note), "{}", no.notes());
+    for (message, place) in [(3, 1), (2, 2)] {
+        let (start, end) = (
+            format!("message {message}: "),
+            format!("; number {place} of 2 on the zigzag path"),
+        );
+        let mut titles = no.titles.iter();
+        assert!(titles.any(|title| title.starts_with(&start) && title.ends_with(&end)));
+    }
+    assert_eq!(
+        no.titles
+            .iter()
+            .filter(|one| one.contains("zigzag"))
+            .count(),
+        2
+    );
+    // Neither is kept, and they are drawn all the same, with the checkpoint.
+    let kept = picture(&["--stand", "0.2", "--kept-only"]);
+    assert_eq!(
+        kept.arrows.keys().copied().collect::<Vec<_>>(),
+        [0, 2, 3, 4]
+    );
+    assert_eq!(kept.dots[&(0, 2)].class, "other");
+    assert_eq!(way_in(&kept), way_along(&kept, &path));
+    let note = "Drawn: only what is kept, the named checkpoints and the zigzag path. Left out: 2 checkpoints (none kept) \
+                and 1 message (none kept).";
+    assert!(kept.notes().ends_with(note), "{}", kept.notes());
+    let kept = picture(&["--stand", "0.0,1.0", "--kept-only"]);
+    let note = "Drawn: only what is kept, and the line with the named checkpoints. Left out: ";
+    assert!(kept.notes().contains(note), "{}", kept.notes());
+    assert_eq!(rings_in(&kept), [(0, 0), (1, 0)]);
+    // Without one of the lifelines there are pieces of it.
+    let one = picture(&["--stand", "0.2", "--processes", "0"]);
+    let way = way_in(&one);
+    assert_eq!((way.len(), way[0].len(), way[1].len()), (2, 3, 3));
+    assert_eq!(way, way_along(&one, &path));
+    // Nothing of it is drawn, so there is nothing to explain; the note says why.
+    let none = picture(&["--stand", "0.2", "--last", "1", "--processes", "1"]);
+    assert!(way_in(&none).is_empty() && rings_in(&none).is_empty());
+    let legend = none.texts("legend");
+    assert!(!legend.contains(&words) && !legend.contains(&"named checkpoint"));
+    assert!(none
+        .notes()
+        .starts_with("No: 0.2 is on no consistent line. "));
+    // The same in other words.
+    let bytes = |stand: &str| done(&["draw", "--stand", stand], &example_a());
+    assert_eq!(bytes("1.1,0.0"), bytes("0.0,1.1"));
+    assert_eq!(bytes("1.2,1.2"), bytes("1.2"));
+    // None of it is there where nothing was named.
+    let none = picture(&["--under", "0,-"]);
+    assert!(none.lines("standing-line").is_empty() && rings_in(&none).is_empty());
+    assert!(way_in(&none).is_empty());
+}
+
+/// Names by chance, and whatever is left out: a ring around each that is drawn; the
+/// line has its checkpoints, or the way runs along the path's arrows, each of which
+/// has its position beside it.
+#[test]
+fn named_checkpoints_have_their_line_or_their_path() {
+    let mut random = Random(31);
+    let (mut lines, mut ways, mut cut, mut not_kept) = (0, 0, 0, 0);
+    let tables = corpus().into_iter().map(|case| (case.name, case.table));
+    let histories = (0..30).map(|seed| {
+        let mut random = Random(seed);
+        let n = 2 + random.below(6);
+        (format!("history {seed}"), random.history(n, 60))
+    });
+    for (name, bytes) in tables.chain(histories) {
+        let Ok(table) = keeper::Table::from_bytes(&bytes[..]) else {
+            continue;
+        };
+        if table.counts().map(usize::from).sum::<usize>() > 500 {
+            continue;
+        }
+        let mut named = Vec::new();
+        for (process, count) in (0..).zip(table.counts()) {
+            if random.below(3) == 0 {
+                let number = random.below(count.into()) as u16;
+                named.push(keeper::Checkpoint { process, number });
+            }
+        }
+        let together = match table.stand_together(&named).expect("not refused") {
+            Some(line) => Together::Yes(line),
+            None => Together::No(Path::shortest(&table, &named).expect("a path")),
+        };
+        let run = Run::read_standing(&bytes, &named, together.clone()).expect("accepted");
+        for choice in choices(run.counts.len()) {
+            let svg = draw::draw(&run, &choice, None).expect("not too large");
+            let picture = Picture::read(&svg);
+            let name = format!("{name}, {named:?}, {choice:?}");
+            picture.assert_inside(&name);
+            let view = View::of(&run, &choice).expect("there");
+            let there = |p: usize, number: usize| view.row(p).is_some() && number >= view.first[p];
+            let rings: Vec<(usize, usize)> = named
+                .iter()
+                .map(|one| (usize::from(one.process), usize::from(one.number)))
+                .filter(|(p, number)| there(*p, *number))
+                .collect();
+            assert_eq!(rings_in(&picture), rings, "{name}");
+            match &together {
+                Together::Yes(line) => {
+                    assert!(way_in(&picture).is_empty(), "{name}");
+                    let standing = picture.lines("standing-line");
+                    assert_eq!(standing.len(), 1, "{name}");
+                    let on_line = through(&picture, &standing[0]);
+                    for p in &view.rows {
+                        let number = usize::from(line[*p]);
+                        let has = on_line.contains(&(*p, number));
+                        assert_eq!(has, there(*p, number), "{name}: {p}");
+                    }
+                    lines += 1;
+                }
+                Together::No(path) => {
+                    assert!(picture.lines("standing-line").is_empty(), "{name}");
+                    let way = way_in(&picture);
+                    assert_eq!(way, way_along(&picture, path), "{name}");
+                    ways += usize::from(!way.is_empty());
+                    cut += usize::from(way.len() > 1);
+                    let labels = picture.texts("positions");
+                    for position in &path.messages {
+                        let k = usize::from(*position);
+                        let ends = [view.has_send(k), view.has_end(k)];
+                        let drawn = picture.arrows.contains_key(&k);
+                        assert_eq!(drawn, ends.contains(&true), "{name}: {k}");
+                        not_kept += usize::from(drawn && choice.kept_only && !run.messages[k].kept);
+                        let own = format!("m{k}");
+                        let mut first = labels.iter().map(|label| label.split(' ').next());
+                        assert!(
+                            !drawn || first.any(|word| word == Some(&own)),
+                            "{name}: {k}"
+                        );
+                    }
+                    let by: Vec<String> = path.messages.iter().map(|k| format!("m{k}")).collect();
+                    let by = match by.len() {
+                        0..=12 => by.join(", then "),
+                        all => format!("{all} messages, from {} to {}", by[0], by[all - 1]),
+                    };
+                    let note = format!(" A zigzag path leads {} by {by}.", path.leads());
+                    assert!(
+                        picture.notes().contains(&note),
+                        "{name}: {}",
+                        picture.notes()
+                    );
+                }
+            }
+        }
+    }
+    assert!(lines > 300 && ways > 300, "{lines} {ways}");
+    assert!(cut > 50 && not_kept > 50, "{cut} {not_kept}");
+}
+
+/// The picture of a path of more messages than have positions beside them.
+#[test]
+fn a_long_path_is_drawn() {
+    // From 3 to 0, to and fro between 0 and 1, one interval lower each time, and from 0
+    // to 2.
+    let count = 100;
+    let sends = (1..count).rev().flat_map(|k| [0, k, 1, k - 1]);
+    let receipts = (1..count).rev().flat_map(|k| [1, k, 0, k]);
+    let numbers = [4, 2 * count, count, count, 2, 1].into_iter();
+    let numbers = numbers.chain([3, 0]).chain(sends).chain([0, 0]);
+    let numbers = numbers.chain([0, count]).chain(receipts).chain([2, 1]);
+    let table = bytes(&numbers.collect::<Vec<u16>>());
+    let svg = done(&["draw", "--stand", "3.0,2.1"], &table);
+    let picture = Picture::read(&String::from_utf8(svg).expect("UTF-8"));
+    let note = "No: 3.0 and 2.1 are on no consistent line together. A zigzag path leads from 3.0 to 2.1 by 200 messages, \
+                from m0 to m199. ";
+    assert!(picture.notes().starts_with(note), "{}", picture.notes());
+    let of = |process, number| keeper::Checkpoint { process, number };
+    let path = Path {
+        from: of(3, 0),
+        to: of(2, 1),
+        messages: (0..200).collect(),
+    };
+    let way = way_in(&picture);
+    assert_eq!((way.len(), &way), (1, &way_along(&picture, &path)));
+    assert_eq!(picture.texts("positions").len(), 120);
+    // Of as many messages none has its position there where there is no path.
+    let svg = done(&["draw", "--stand", "3.0,2.0"], &table);
+    let picture = Picture::read(&String::from_utf8(svg).expect("UTF-8"));
+    assert!(picture.texts("positions").is_empty());
 }
 
 #[test]

@@ -718,6 +718,9 @@ fn a_full_device_is_an_error() {
         "line \"$table\"",
         "line --under 0,- \"$table\"",
         "line --marking \"$table\"",
+        "stand 1.2 \"$table\"",
+        "stand --json 0.2 \"$table\"",
+        "draw --stand 0.2 \"$table\"",
         "decode \"$table\"",
         "send 0 1 \"$table\"",
         "receive 0 4 \"$table\"",
@@ -749,8 +752,10 @@ fn a_closed_pipe_ends_silently() {
         (&["send", "0", "1"], example_a()),
         (&["receive", "0", "4"], example_a()),
         (&["fall-back", "--moves"], example_a()),
-        // A refusal, too, says nothing then.
+        (&["stand", "1.2"], example_a()),
+        // A refusal and a no, too, say nothing then.
         (&["list"], vec![1, 2, 3]),
+        (&["stand", "--json", "0.2"], example_a()),
         (&["run", "-"], b"new 2\nlist\n".to_vec()),
     ] {
         let mut child = Command::new(env!("CARGO_BIN_EXE_keeper"))

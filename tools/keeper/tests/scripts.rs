@@ -152,6 +152,10 @@ fn answers_as_the_subcommands_give_them() {
             "line --marking --json --under=3,2",
             &["line", "--json", "1"],
         ),
+        ("stand", &["line", "--under", "3,3"]),
+        ("stand 1.2", &["stand", "1.2"]),
+        ("stand 1.1 0.1", &["stand", "0.1", "1.1"]),
+        ("stand --json 1.2", &["stand", "--json", "1.2"]),
         ("sheet", &["sheet", "--text-out"]),
         ("sheet --text-out", &["sheet", "--text-out"]),
         ("sheet --json", &["sheet", "--json"]),
@@ -162,6 +166,7 @@ fn answers_as_the_subcommands_give_them() {
         ("check", &["check"]),
         ("draw --hold=1", &["draw", "--hold", "1"]),
         ("draw --under -,2", &["draw", "--under", "3,2"]),
+        ("draw --stand 0.2", &["draw", "--stand", "0.2"]),
         ("fall back --moves", &["fall-back", "--moves"]),
     ] {
         let expected = done(arguments, &example_a());
@@ -250,14 +255,38 @@ fn a_line_that_fails() {
             "2: line under 3,2: `under` is not a number from 0 to 65535 (see `keeper line --help`)",
         ),
         (
+            "line\nstand 0.2\nline",
+            3,
+            "2: stand 0.2: no: 0.2 is on no consistent line: a zigzag path leads from 0.2 to itself by message 3 \
+             (0.2 -> 1.2), then message 2 (1.1 -> 0.2)",
+        ),
+        (
+            "line\nstand --json 0.1 1.2\nline",
+            3,
+            "2: stand --json 0.1 1.2: no: 0.1 and 1.2 are on no consistent line together: a zigzag path leads from 0.1 \
+             to 1.2 by message 3 (0.2 -> 1.2)",
+        ),
+        (
+            "line\nstand 0.0 0.1",
+            1,
+            "2: stand 0.0 0.1: refused 21: process 0 is named twice, with checkpoints 0 and 1",
+        ),
+        (
+            "line\nstand 0.3",
+            1,
+            "2: stand 0.3: refused 22: there is no checkpoint 3 of process 0: it has 3 checkpoints",
+        ),
+        ("stand 0 1", 2, "1: stand 0 1: `0` is no checkpoint: each is a process and a number from 0 to 65535, such as 1.2 (see `keeper stand --help`)"),
+        ("line\nstand 0.1 0", 2, "2: stand 0.1 0: one word too many: `0`"),
+        (
             "line\nsned 0 1",
             2,
-            "2: sned 0 1: there is no step `sned`; there are new, decode, check, list, line, sheet, why, send, save, receive, fall-back, draw",
+            "2: sned 0 1: there is no step `sned`; there are new, decode, check, list, line, stand, sheet, why, send, save, receive, fall-back, draw",
         ),
         (
             "fall",
             2,
-            "1: fall: there is no step `fall`; there are new, decode, check, list, line, sheet, why, send, save, receive, fall-back, draw",
+            "1: fall: there is no step `fall`; there are new, decode, check, list, line, stand, sheet, why, send, save, receive, fall-back, draw",
         ),
         (
             "send 0",
@@ -298,7 +327,7 @@ fn a_line_that_fails() {
         assert_eq!(ran.status, *status, "{steps}");
         // What is no step is found before the first is made.
         let before = match *status {
-            1 if steps.starts_with("line\n") => "1 1\n",
+            1 | 3 if steps.starts_with("line\n") => "1 1\n",
             2 if steps.ends_with("new 2") => "1 1\n",
             _ => "",
         };

@@ -201,6 +201,7 @@ fn new_tables() {
 
 #[derive(Clone, Debug, PartialEq)]
 enum Json {
+    Null,
     Number(u32),
     Text(String),
     Array(Vec<Json>),
@@ -294,6 +295,10 @@ impl Reader<'_> {
             }
             Some('[') => self.list('[', ']', Self::value).map(Json::Array),
             Some('"') => self.text().map(Json::Text),
+            Some('n') if self.rest.starts_with("null") => {
+                self.rest = &self.rest["null".len()..];
+                Ok(Json::Null)
+            }
             Some('0'..='9') => {
                 let end = self.rest.find(|sign: char| !sign.is_ascii_digit());
                 let (digits, rest) = self.rest.split_at(end.unwrap_or(self.rest.len()));
@@ -326,6 +331,7 @@ fn the_reader_of_json_is_strict() {
         "[]",
         " [ 1 , 2 ] ",
         r#"{"a":[{"b":0}],"c":"\"\\\u0007"}"#,
+        "[null,{\"a\":null}]",
     ] {
         json(good.as_bytes()).expect(good);
     }
@@ -349,6 +355,9 @@ fn the_reader_of_json_is_strict() {
         "[1",
         "-",
         "tru",
+        "nul",
+        "[nullx]",
+        "Null",
     ] {
         assert!(json(bad.as_bytes()).is_err(), "{bad}");
     }
@@ -568,5 +577,62 @@ fn lines_in_json() {
             .errors
             .ends_with(&format!("refused {number}: {words}\n"));
         assert!(told, "{}", ran.errors);
+    }
+}
+
+#[test]
+fn named_checkpoints_in_json() {
+    let a = example_a();
+    for (names, line) in [
+        (&[][..], "[3,3]"),
+        (&["1.2"], "[3,2]"),
+        (&["1.1", "0.1"], "[1,1]"),
+    ] {
+        let arguments = [&["stand", "--json"], names].concat();
+        let written = String::from_utf8(done(&arguments, &a)).expect("UTF-8");
+        assert_eq!(written, format!("{{\"line\":{line}}}\n"), "{names:?}");
+        json(written.as_bytes()).expect("JSON");
+    }
+    // A no has no line, and a path.
+    for (names, from, to, path) in [
+        (&["0.2"][..], [0, 2], [0, 2], &[3, 2][..]),
+        (&["1.0", "0.1"], [1, 0], [0, 1], &[1]),
+    ] {
+        let arguments = [&["stand", "--json"], names].concat();
+        let ran = keeper(&arguments, &a);
+        assert_eq!(ran.status, 3, "{names:?}");
+        assert!(ran.errors.starts_with("keeper: no: "), "{}", ran.errors);
+        assert!(ran.output.ends_with(b"}\n"), "{names:?}");
+        let object = json(&ran.output).expect("JSON");
+        assert_eq!(keys(&object), ["line", "from", "to", "path"]);
+        assert_eq!(field(&object, "line"), Json::Null);
+        for (key, [process, number]) in [("from", from), ("to", to)] {
+            let end = field(&object, key);
+            assert_eq!(keys(&end), ["process", "number"]);
+            assert_eq!(field(&end, "process"), Json::Number(process));
+            assert_eq!(field(&end, "number"), Json::Number(number));
+        }
+        let path = path.iter().copied().map(Json::Number).collect();
+        assert_eq!(field(&object, "path"), Json::Array(path), "{names:?}");
+    }
+    for (names, table, number, words) in [
+        (&["2.0"][..], &a[..], 21, "there is no process 2 (N is 2)"),
+        (
+            &["0.3"],
+            &a,
+            22,
+            "there is no checkpoint 3 of process 0: it has 3 checkpoints",
+        ),
+        (
+            &["9.9"],
+            &a[..3],
+            1,
+            "the table has 3 bytes, and needs 4 at least",
+        ),
+    ] {
+        let ran = keeper(&[&["stand", "--json"], names].concat(), table);
+        let expected = format!("{{\"refused\":{number},\"words\":\"{words}\"}}\n");
+        assert_eq!(String::from_utf8_lossy(&ran.output), expected);
+        assert_eq!(ran.status, 1, "{names:?}");
     }
 }

@@ -3,15 +3,15 @@
 use std::fmt::Write;
 
 use super::shapes::{
-    arrow, bracket, dot, escape, open_arrows, points, short, virtual_dot, width_of, wrap,
-    write_label, Cut, Point, Style, FAINT, INK, KEPT, PLAIN, UNSAVED, UNSAVED_KEPT, WAITING,
+    arrow, bracket, dot, escape, open_arrows, points, ring, short, virtual_dot, way, width_of,
+    wrap, write_label, Cut, Point, Style, FAINT, INK, KEPT, PLAIN, UNSAVED, UNSAVED_KEPT, WAITING,
 };
 use super::{
-    hold_paint, labels_messages, style, under_paint, MOST_HOLD_ENTRIES, RECOVERY_PAINT,
-    UNDER_COLOUR,
+    asked_paint, hold_paint, labelled, style, ASKED_COLOUR, MOST_HOLD_ENTRIES, RECOVERY_PAINT,
 };
 use crate::layout::{Arrow, Layout};
-use crate::run::{Choice, Under, View};
+use crate::run::{Choice, Stand, Standing, Under, View};
+use crate::stand::shown;
 
 const SIZE: f64 = 12.0;
 /// The height of a line of text.
@@ -34,6 +34,8 @@ enum Sample {
     Arrow(&'static Style, Cut),
     Line(String),
     Ceiling,
+    Named,
+    Path,
     LeftOut,
     Position,
 }
@@ -58,6 +60,15 @@ pub fn under_words(view: &View, under: &Under) -> String {
     format!("line under ceilings {numbers}")
 }
 
+/// What the line is called that has the named checkpoints.
+pub fn standing_words(stand: &Stand) -> String {
+    let named: Vec<String> = stand.named.iter().map(|one| shown(*one)).collect();
+    match named.len() {
+        0..=MOST_NUMBERS => format!("latest line with {}", named.join(" ")),
+        _ => "latest line with all named checkpoints".to_string(),
+    }
+}
+
 /// The height of some lines of text and what is beside them.
 fn height(lines: &[String]) -> f64 {
     LINE * lines.len() as f64 + APART
@@ -80,7 +91,11 @@ impl Legend {
         // As many columns as there is room for.
         let fits = |rows: &usize| entries.chunks(*rows).map(column).sum::<f64>() <= room + MARGIN;
         let rows = (1..entries.len()).find(fits).unwrap_or(entries.len());
-        let notes = [order_note(view, layout.timed), left_out_note(view, choice)];
+        let notes = [
+            path_note(view),
+            order_note(view, layout.timed),
+            left_out_note(view, choice),
+        ];
         let notes = notes.into_iter().filter(|note| !note.is_empty());
         Legend {
             rows,
@@ -192,7 +207,7 @@ fn entries(view: &View, layout: &Layout) -> Vec<(Sample, String)> {
             0..=MOST_NUMBERS => under_words(view, under),
             _ => "line under ceilings".to_string(),
         };
-        let sample = Sample::Line(under_paint());
+        let sample = Sample::Line(asked_paint());
         entries.push((sample, line(&name, &under.line)));
         let mut rows = view.rows.iter().enumerate();
         if rows.any(|(row, p)| {
@@ -200,6 +215,29 @@ fn entries(view: &View, layout: &Layout) -> Vec<(Sample, String)> {
             ceiling < run.counts[*p] && layout.column(row, ceiling).is_some()
         }) {
             entries.push((Sample::Ceiling, "ceiling of a process".to_string()));
+        }
+    }
+
+    if let Some(stand) = &run.stand {
+        let mut named = stand.named.iter();
+        if named.any(|one| {
+            let row = view.row(one.process.into());
+            row.is_some_and(|row| layout.column(row, one.number.into()).is_some())
+        }) {
+            entries.push((Sample::Named, "named checkpoint".to_string()));
+        }
+        match &stand.answer {
+            Standing::Line(numbers) => {
+                let sample = Sample::Line(asked_paint());
+                entries.push((sample, line(&standing_words(stand), numbers)));
+            }
+            Standing::Path(path) => {
+                let mut messages = path.messages.iter();
+                if messages.any(|k| view.has_message((*k).into())) {
+                    let words = format!("zigzag path {}", path.leads());
+                    entries.push((Sample::Path, words));
+                }
+            }
         }
     }
 
@@ -220,10 +258,31 @@ fn entries(view: &View, layout: &Layout) -> Vec<(Sample, String)> {
         let words = "message whose other end is left out";
         entries.push((Sample::Arrow(&PLAIN, Cut::AtTail), words.to_string()));
     }
-    if labels_messages(view) {
+    if !labelled(view).is_empty() {
         entries.push((Sample::Position, "position of a message".to_string()));
     }
     entries
+}
+
+/// That the named checkpoints do not stand together, and why.
+fn path_note(view: &View) -> String {
+    let Some(path) = view.run.path() else {
+        return String::new();
+    };
+    let messages: Vec<String> = path.messages.iter().map(|k| format!("m{k}")).collect();
+    let by = match messages.len() {
+        0..=MOST_NUMBERS => messages.join(", then "),
+        all => format!(
+            "{all} messages, from {} to {}",
+            messages[0],
+            messages[all - 1]
+        ),
+    };
+    format!(
+        "No: {}. A zigzag path leads {} by {by}.",
+        path.keeps_off(),
+        path.leads()
+    )
 }
 
 /// What the order from left to right says: no more than the table gives.
@@ -283,9 +342,16 @@ fn left_out_note(view: &View, choice: &Choice) -> String {
         Some(last) => chosen.push(format!("the last {last} checkpoints of each process")),
     }
     if choice.kept_only {
-        let words = match run.under {
-            None => "only what is kept",
-            Some(_) => "only what is kept, and the line under ceilings",
+        let answer = run.stand.as_ref().map(|stand| &stand.answer);
+        let words = match (&run.under, answer) {
+            (Some(_), _) => "only what is kept, and the line under ceilings",
+            (None, Some(Standing::Line(_))) => {
+                "only what is kept, and the line with the named checkpoints"
+            }
+            (None, Some(Standing::Path(_))) => {
+                "only what is kept, the named checkpoints and the zigzag path"
+            }
+            (None, None) => "only what is kept",
         };
         chosen.push(words.to_string());
     }
@@ -320,14 +386,18 @@ fn draw_sample(svg: &mut String, sample: &Sample, at: Point) {
                 points(&[from, to])
             );
         }
-        Sample::Ceiling => {
+        Sample::Ceiling | Sample::Named => {
             let _ = writeln!(
                 svg,
-                "<g fill=\"none\" stroke=\"{UNDER_COLOUR}\" stroke-width=\"2\">"
+                "<g fill=\"none\" stroke=\"{ASKED_COLOUR}\" stroke-width=\"2\">"
             );
-            bracket(svg, middle.moved(-6.0, 0.0), "");
+            match sample {
+                Sample::Ceiling => bracket(svg, middle.moved(-6.0, 0.0), ""),
+                _ => ring(svg, middle, ""),
+            }
             let _ = writeln!(svg, "</g>");
         }
+        Sample::Path => way(svg, ASKED_COLOUR, &[vec![from, to]], ""),
         Sample::LeftOut => {
             let _ = writeln!(
                 svg,

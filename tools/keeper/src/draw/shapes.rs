@@ -142,6 +142,22 @@ impl Space {
         }
     }
 
+    /// Both sides of a way along the corners.
+    pub fn add_way(&mut self, corners: &[Point]) {
+        for part in corners.windows(2) {
+            let (from, to) = (part[0], part[1]);
+            let length = (to.x - from.x).hypot(to.y - from.y);
+            if length > 0.0 {
+                let (x, y) = (
+                    WAY * (to.y - from.y) / length,
+                    WAY * (from.x - to.x) / length,
+                );
+                self.add_line(from.moved(x, y), to.moved(x, y));
+                self.add_line(from.moved(-x, -y), to.moved(-x, -y));
+            }
+        }
+    }
+
     pub fn add_box(&mut self, own: Box2) {
         for square in squares(&own) {
             self.boxes.entry(square).or_default().push(own);
@@ -487,6 +503,45 @@ pub fn virtual_dot(svg: &mut String, at: Point, title: &str) {
         "<rect class=\"virtual\" x=\"{x}\" y=\"{y}\" width=\"{size}\" height=\"{size}\" fill=\"#ffffff\">{}</rect>",
         titled(title)
     );
+}
+
+/// The radius of the ring around a named checkpoint.
+pub const RING: f64 = 9.5;
+
+/// A ring around a checkpoint.
+pub fn ring(svg: &mut String, at: Point, title: &str) {
+    let _ = writeln!(
+        svg,
+        "<circle class=\"named\" cx=\"{}\" cy=\"{}\" r=\"{RING}\">{}</circle>",
+        short(at.x),
+        short(at.y),
+        titled(title)
+    );
+}
+
+/// How far each side of a way is from its middle.
+pub const WAY: f64 = 5.0;
+
+/// A way along each of these pieces, as maps have them: two thin sides and white
+/// between.
+pub fn way(svg: &mut String, colour: &str, pieces: &[Vec<Point>], title: &str) {
+    let _ = writeln!(
+        svg,
+        "<g class=\"way\" fill=\"none\" stroke-linejoin=\"round\" stroke-linecap=\"round\">{}",
+        titled(title)
+    );
+    let (sides, between) = (2.0 * WAY + 1.6, 2.0 * WAY - 1.6);
+    for (class, colour, width) in [("sides", colour, sides), ("between", "#ffffff", between)] {
+        for piece in pieces {
+            let _ = writeln!(
+                svg,
+                "<polyline class=\"{class}\" stroke=\"{colour}\" stroke-width=\"{}\" points=\"{}\"/>",
+                short(width),
+                points(piece)
+            );
+        }
+    }
+    let _ = writeln!(svg, "</g>");
 }
 
 /// How far a bracket reaches from the middle of its checkpoint: to the right,
