@@ -71,6 +71,16 @@ differs docs/refusals.txt '/^keeper_receive /d' keeper_receive
 differs docs/refusals.txt '/^keeper_receive /s/10 13/13 10/' keeper_receive
 differs docs/refusals.txt '/^keeper_receive /s/13 16/13 14 16/' keeper_receive
 differs docs/refusals.txt '/^keeper_receive /s/10 //' keeper_receive
+differs docs/refusals.txt '/^20 /{h;d;};/^21 /G' 'keeper_stand_together: 21 '
+differs docs/refusals.txt '/^22 /{h;d;};/^16 /G' 'keeper_stand_together: 16 '
+differs docs/refusals.txt '/^2[012] /{H;d;};/^19 /{p;g;s/^\n//;}' UNEQUAL_LISTS
+differs docs/refusals.txt '/^20 /s/named processes and of their states/processes and states/' UNEQUAL_LISTS
+differs docs/refusals.txt '/^21 /s/, or not above the one before it//' BAD_NAMED_PROCESS
+differs docs/refusals.txt '/^22 /s/not below/above/' NAMED_STATE_TOO_HIGH
+differs docs/refusals.txt '/^keeper_stand_together /d' keeper_stand_together
+differs docs/refusals.txt '/^keeper_stand_together /s/20 21/21 20/' keeper_stand_together
+differs docs/refusals.txt '/^keeper_stand_together /s/22 //' keeper_stand_together
+differs docs/refusals.txt '/^keeper_stand_together /s/ 16//' keeper_stand_together
 
 # The headers.
 differs include/keeper.h 's/NUMBER_TOO_HIGH = 8/NUMBER_TOO_HIGH = 9/;t;s/NUMBER_TOO_HIGH = 9/NUMBER_TOO_HIGH = 8/' KEEPER_SEND_NUMBER_TOO_HIGH
@@ -95,6 +105,13 @@ differs include/keeper.h "s/Checks: the table's, 10, 13, 16/Checks: the table's,
 differs include/keeper.h "s/Checks: the table's, 10, 13, 16/Checks: the table's, 13, 10, 16/" keeper_receive
 differs include/keeper.h 's/KEEPER_UNKNOWN_PROCESS = 10, .*/KEEPER_UNKNOWN_PROCESS = 10, \/* a process named in a send or save is N or above *\//' KEEPER_UNKNOWN_PROCESS
 differs include/keeper.h 's/return "the list of a save or receipt/return "the list of a save/' 'keeper_refusal_words.*KEEPER_BAD_LIST'
+differs include/keeper.h "s/Checks: the table's, 20, 21, 22, 16/Checks: the table's, 20, 21, 22/" keeper_stand_together
+differs include/keeper.h "s/Checks: the table's, 20, 21, 22, 16/Checks: the table's, 21, 20, 22, 16/" keeper_stand_together
+differs include/keeper.h '/KEEPER_BAD_NAMED_PROCESS = /{h;d;};/KEEPER_NAMED_STATE_TOO_HIGH = /G' KEEPER_BAD_NAMED_PROCESS
+differs include/keeper.h '/KEEPER_UNEQUAL_LISTS = /{N;h;d;};/KEEPER_TABLE_FULL = /G' KEEPER_UNEQUAL_LISTS
+differs include/keeper.h 's/KEEPER_NAMED_STATE_TOO_HIGH = 22, .*/KEEPER_NAMED_STATE_TOO_HIGH = 22, \/* a named state is above its count *\//' KEEPER_NAMED_STATE_TOO_HIGH
+differs include/keeper.h '/case KEEPER_NAMED_STATE_TOO_HIGH: /d' 'keeper_refusal_words.*row 8'
+differs include/keeper.h 's/return "the lists of named processes/return "the lists of processes/' 'keeper_refusal_words.*KEEPER_UNEQUAL_LISTS'
 differs include/keeper.h "s/Checks: the table's, 15, 16/Checks: the table's, 16, 15/" keeper_keep_sheet
 differs include/keeper.h "s/ Checks: the table's\\. / /" keeper_check_table
 differs include/run_table.h 's/RUN_TABLE_TOO_SHORT = 1/RUN_TABLE_TOO_SHORT = 2/' RUN_TABLE_TOO_SHORT
@@ -127,6 +144,11 @@ differs man/keeper.3 "s/^Checks: the table's, 17, 18, 16/Checks: the table's, 18
 differs man/keeper.3 '/^\.It 19 Dv/{N;h;d;};/^\.It 15 Dv/{N;G;}' KEEPER_MARKS_TOO_SHORT
 differs man/keeper.3 's/^The mark buffer is shorter than (sum of counts + N)/The mark buffer is shorter than (sum of counts)/' KEEPER_MARKS_TOO_SHORT
 differs man/keeper.3 "s/^Checks: the table's, 17, 18, 19, 16/Checks: the table's, 17, 18, 16, 19/" keeper_marked_line
+differs man/keeper.3 '/^\.It 20 Dv/{N;h;d;};/^\.It 22 Dv/{N;G;}' KEEPER_UNEQUAL_LISTS
+differs man/keeper.3 '/^\.It 21 Dv/{N;d;}' KEEPER_BAD_NAMED_PROCESS
+differs man/keeper.3 's/^A named state is not below/A named state is above/' KEEPER_NAMED_STATE_TOO_HIGH
+differs man/keeper.3 "s/^Checks: the table's, 20, 21, 22, 16/Checks: the table's, 20, 22, 21, 16/" keeper_stand_together
+differs man/keeper.3 "/^Checks: the table's, 20, 21, 22, 16/d" keeper_stand_together
 differs man/keeper.3 "s/^Checks: the table's, 10, 13, 16/Checks: the table's, 10, 13, 14, 16/" keeper_receive
 differs man/keeper.3 "/^Checks: the table's, 10, 13, 16/d" keeper_receive
 differs man/keeper.3 's/^A receipt number is above/A receipt number is not below/' KEEPER_RECEIPT_NUMBER_TOO_HIGH
@@ -150,6 +172,11 @@ differs docs/MANUAL.md '/^| 19 |/{h;d;};/^| 16 |/G' '19 (call)'
 differs docs/MANUAL.md '/^| 19 |/s/, rounded up//' '19 (call)'
 differs docs/MANUAL.md '/^| `uint32_t keeper_marked_line(/d' keeper_marked_line
 differs docs/MANUAL.md '/^| `uint32_t keeper_marked_line(/s/18, 19, 16/18, 16/' keeper_marked_line
+differs docs/MANUAL.md '/^| 20 |/{h;d;};/^| 16 |/G' '20 (call)'
+differs docs/MANUAL.md '/^| 21 |/s/N or above, or//' '21 (call)'
+differs docs/MANUAL.md '/^| 22 |/d' '22 (call)'
+differs docs/MANUAL.md '/^| `uint32_t keeper_stand_together(/d' keeper_stand_together
+differs docs/MANUAL.md '/^| `uint32_t keeper_stand_together(/s/20, 21, 22, 16/20, 21, 22/' keeper_stand_together
 differs docs/MANUAL.md '/^| `uint32_t keeper_send(/s/10, 11, 14/10, 14/' keeper_send
 differs docs/MANUAL.md '/^| 9 |/s/is above/is not below/' '9 (table)'
 differs docs/MANUAL.md '/^| `uint32_t keeper_receive(/d' keeper_receive
@@ -170,6 +197,11 @@ changed bindings/rust/src/lib.rs "s/^\\/\\/\\/ Checks: the table's, 17, 18, 16/\
 differs bindings/rust/src/refusal.rs '/^    MarksTooShort = /{h;d;};/^    ScratchTooShort = /G' MarksTooShort
 differs bindings/rust/src/refusal.rs 's/MarksTooShort = 19, call/MarksTooShort = 19, table/' MarksTooShort
 changed bindings/rust/src/lib.rs "s/^\\/\\/\\/ Checks: the table's, 17, 18, 19, 16/\\/\\/\\/ Checks: the table's, 19, 17, 18, 16/"
+differs bindings/rust/src/refusal.rs '/^    UnequalLists = /{h;d;};/^    NamedStateTooHigh = /G' UnequalLists
+differs bindings/rust/src/refusal.rs 's/BadNamedProcess = 21, call/BadNamedProcess = 21, table/' BadNamedProcess
+differs bindings/rust/src/refusal.rs 's/NamedStateTooHigh = 22/NamedStateTooHigh = 21/' NamedStateTooHigh
+changed bindings/rust/src/lib.rs "s/^\\/\\/\\/ Checks: the table's, 20, 21, 22, 16/\\/\\/\\/ Checks: the table's, 20, 21, 16/"
+changed bindings/rust/src/lib.rs "/^\\/\\/\\/ Checks: the table's, 20, 21, 22, 16/d"
 differs bindings/rust/src/refusal.rs 's/a receipt number is above/a receipt number is not below/' ReceiptNumberTooHigh
 changed bindings/rust/src/lib.rs "s/^\\/\\/\\/ Checks: the table's, 10, 13, 16/\\/\\/\\/ Checks: the table's, 10, 13, 14, 16/"
 changed bindings/rust/src/lib.rs "/^\\/\\/\\/ Checks: the table's, 10, 13, 16/d"
@@ -185,6 +217,7 @@ changed tests/reference/src/steps.rs "s/^\\/\\/\\/ Checks: the table's, 10, 13, 
 changed tests/reference/src/steps.rs "s/^\\/\\/\\/ Checks: the table's, 10, 13, 16/\\/\\/\\/ Checks: the table's, 13, 16/"
 differs tests/reference/src/table.rs 's/^    \/\/ 9\. A receipt number is above/    \/\/ 9. A receipt number is not below/' '9: a receipt number'
 changed tests/reference/src/marking.rs "s/^\\/\\/\\/ Checks: the table's, 17, 18, 19, 16/\\/\\/\\/ Checks: the table's, 17, 18, 16, 19/"
+changed tests/reference/src/zigzag.rs "s/^\\/\\/\\/ Checks: the table's, 20, 21, 22, 16/\\/\\/\\/ Checks: the table's, 20, 21, 16/"
 differs crates/run_table/specs/Checks.antt '/number = 8 }/{h;d;};/number = 9 }/G' 'row 8 '
 
 # A file that is not there.
