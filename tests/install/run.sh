@@ -68,6 +68,7 @@ keeper_recovery_line keeper
 keeper_refusal_words keeper
 keeper_save keeper
 keeper_send keeper
+keeper_stand_together keeper
 keeper_u16_at keeper
 run_table_count run_table_check
 run_table_messages run_table_check
