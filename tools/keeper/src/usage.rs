@@ -395,13 +395,13 @@ is the answer yes, with exit status 0.
 
   keeper stand 0.2 1.3 run.table
 
-Where there is no such line the answer is no: the exit status is 3, nothing is written, and a message on standard error \
-names a zigzag path that shows why (Xu and Netzer, \"Adaptive Independent Checkpointing for Reducing Rollback \
+Where there is no such line the answer is no: the exit status is 3, standard output is left empty, and a message on standard \
+error names a zigzag path that shows why (Xu and Netzer, \"Adaptive Independent Checkpointing for Reducing Rollback \
 Propagation\", Definition 1). It leads from a named checkpoint to another or to itself, by messages that were received: \
 the first is sent after the first checkpoint, each next one is sent by the receiver of the one before, between the same two \
-checkpoints as that receipt or later, and the last is received before the second checkpoint. A message `m0` of process 0 to \
-process 1 is shown as in a text, `0.0 -> 1.2`: sent after checkpoint 0, received before checkpoint 2. A checkpoint from \
-which such a path leads to itself is on no consistent line at all.
+checkpoints as that receipt or later, and the last is received before the second checkpoint. Each is shown with its position \
+and its ends as in a text: `0.0 -> 1.2` is sent by process 0 after its checkpoint 0, and received by process 1 before its \
+checkpoint 2. A checkpoint from which such a path leads to itself is on no consistent line at all.
 
 That it is a yes or a no, and the line, is the library's answer, and is proved: it is a no exactly when there is a zigzag \
 path. The path itself is found by this command, which searches breadth first over the messages, so that none is shorter; \
@@ -412,7 +412,7 @@ one that the process does not have by 22. Without any STATE the line is the coun
 written `./1.2`. As is said at `line` of a line under ceilings, no step goes to this line, and the keep sheet does not \
 protect it.
 
-In JSON a yes is an object with the key `line`, an array of numbers. A no has the keys `line`, which is null, `from` and `to`, \
+In JSON a yes is an object with the key `line`, an array of numbers. A no, which is written too, has the keys `line`, which is null, `from` and `to`, \
 objects with `process` and `number`, and `path`, an array of positions in the order of the path. A refusal has the keys \
 `refused`, the number, and `words`.",
         work: Work::Answer(stand::stand),

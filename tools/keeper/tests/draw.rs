@@ -1917,4 +1917,12 @@ fn pictures_in_the_documents_are_what_is_drawn() {
         domino == read("docs/domino.svg"),
         "docs/domino.svg is not what `keeper draw` writes"
     );
+    let zigzag = done(
+        &["draw", "--stand", "0.2", "--title", "A useless checkpoint"],
+        &read("tests/corpus/example_a.table"),
+    );
+    assert!(
+        zigzag == read("docs/zigzag.svg"),
+        "docs/zigzag.svg is not what `keeper draw` writes"
+    );
 }
