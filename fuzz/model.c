@@ -361,6 +361,79 @@ uint32_t MODEL(marked_line)(const uint8_t *table, size_t length, const uint16_t 
     return answer_line(&run, root, answer, room, written);
 }
 
+/* "Can these saved states stand together?", of the change requests: zigzag paths, after Definition 1 of source
+   document 003. The messages that lie on one from a named state: sent at or after that state, or sent by the receiver
+   of such a message, in the interval of its receipt or a later one. Receipt number r lies in interval r - 1; a waiting
+   message lies on no path. `named` has a state for each process, or NOT_NAMED. */
+enum { NOT_NAMED = -1 };
+
+static void follow_paths(const struct run *run, const int named[MOST_PROCESSES], bool on_path[MOST_MESSAGES])
+{
+    static unsigned stack[MOST_MESSAGES];
+    unsigned height = 0;
+    for (unsigned k = 0; k < run->m; k++) {
+        const struct message *message = &run->message[k];
+        int from = named[message->j];
+        on_path[k] = message->r != 0 && from != NOT_NAMED && (int)message->y >= from;
+        if (on_path[k])
+            stack[height++] = k;
+    }
+    while (height > 0) {
+        const struct message *last = &run->message[stack[--height]];
+        for (int k = run->first[last->i]; k >= 0; k = run->message[k].next) {
+            const struct message *message = &run->message[k];
+            if (on_path[k] || message->r == 0 || message->y < last->r - 1)
+                continue;
+            on_path[k] = true;
+            stack[height++] = (unsigned)k;
+        }
+    }
+}
+
+/* Where a path leads to a named state the answer is no, and empty. Else each process that is not named stands at the
+   latest state, its new one included, to which no path leads. */
+uint32_t MODEL(stand_together)(const uint8_t *table, size_t length, const uint16_t *processes, size_t of_processes,
+                               const uint16_t *states, size_t of_states, uint8_t *answer, size_t room, size_t *written)
+{
+    static bool on_path[MOST_MESSAGES];
+    uint32_t refusal = read_run(table, length, &run);
+    if (refusal != 0)
+        return refusal;
+    if (of_processes != of_states)
+        return 20;
+    for (size_t at = 0; at < of_processes; at++) {
+        if (processes[at] >= run.n)
+            return 21;
+        if (at > 0 && processes[at] <= processes[at - 1])
+            return 21;
+    }
+    for (size_t at = 0; at < of_states; at++)
+        if (states[at] >= run.count[processes[at]])
+            return 22;
+    int named[MOST_PROCESSES];
+    unsigned line[MOST_PROCESSES];
+    for (unsigned p = 0; p < run.n; p++) {
+        named[p] = NOT_NAMED;
+        line[p] = run.count[p];
+    }
+    for (size_t at = 0; at < of_states; at++) {
+        named[processes[at]] = states[at];
+        line[processes[at]] = states[at];
+    }
+    follow_paths(&run, named, on_path);
+    for (unsigned k = 0; k < run.m; k++) {
+        const struct message *message = &run.message[k];
+        if (!on_path[k] || message->r > line[message->i])
+            continue;
+        if (named[message->i] != NOT_NAMED) {
+            *written = 0;
+            return 0;
+        }
+        line[message->i] = message->r - 1;
+    }
+    return answer_line(&run, line, answer, room, written);
+}
+
 /* "Steps". */
 uint32_t MODEL(send)(const uint8_t *table, size_t length, uint16_t from, uint16_t to, uint8_t *answer, size_t room,
                      size_t *written)

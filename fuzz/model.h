@@ -18,6 +18,7 @@ __typeof__(keeper_recovery_line) MODEL(recovery_line);
 __typeof__(keeper_line_of_set) MODEL(line_of_set);
 __typeof__(keeper_line_under) MODEL(line_under);
 __typeof__(keeper_marked_line) MODEL(marked_line);
+__typeof__(keeper_stand_together) MODEL(stand_together);
 __typeof__(keeper_send) MODEL(send);
 __typeof__(keeper_save) MODEL(save);
 __typeof__(keeper_receive) MODEL(receive);

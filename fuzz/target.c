@@ -16,9 +16,11 @@
    (0 and 7) has no answer: the listing, which takes any bytes too and no more than they, is made behind it, and
    its buffer is by the byte of lengths. Behind the line under a list of ceilings comes the line by marking, with
    the same list and the same room: bits 3 to 5 of the byte of lengths say how long its mark buffer is, bits 6 and
-   7 what stands in it before, and it takes no byte of its own. With every save comes the receipt of the same list
-   by the same process. Bits 4 to 6 of the first byte say by which of the two answers a chain of steps goes on: by
-   the receipt's where they are 6, else by the save's. */
+   7 what stands in it before, and it takes no byte of its own. Behind that comes the question whether states can
+   stand together: each ceiling that is not its count names a state, and again no byte is taken. Where bits 4 to 6 of
+   the first byte are 5, it is asked once more, with names and a room by the bytes that follow. With every save
+   comes the receipt of the same list by the same process. Bits 4 to 6 of the first byte say by which of the two
+   answers a chain of steps goes on: by the receipt's where they are 6, else by the save's. */
 #include "model.h"
 
 #include <stdbool.h>
@@ -67,6 +69,7 @@ struct loan {
     uint8_t answer[GUARDS + LARGEST_ROOM + GUARDS];
     uint16_t scratch[GUARDS + LARGEST_SCRATCH + GUARDS];
     uint16_t list[GUARDS + LARGEST_LIST + GUARDS];
+    uint16_t states[GUARDS + LARGEST_LIST + GUARDS];
     uint8_t marks[GUARDS + LARGEST_MARKS + GUARDS];
     size_t written[3];
 };
@@ -75,16 +78,16 @@ static struct loan before, by_archive, by_model;
 /* A call with its arguments. */
 enum {
     CHECK_TABLE, RECOVERY_LINE, LINE_OF_SET, SEND, SAVE, FALL_BACK, KEEP_SHEET, LINE_UNDER, LISTING, MARKED_LINE,
-    RECEIVE
+    RECEIVE, STAND_TOGETHER
 };
 struct call {
     unsigned which;
     uint32_t set;
     uint16_t from, to;
-    size_t entries, numbers, marks, room;
+    size_t entries, states, numbers, marks, room;
 };
-static const char *const names[] = {"check_table", "recovery_line", "line_of_set", "send",        "save",   "fall_back",
-                                    "keep_sheet",  "line_under",    "listing",     "marked_line", "receive"};
+static const char *const names[] = {"check_table", "recovery_line", "line_of_set", "send",        "save",    "fall_back",
+                                    "keep_sheet",  "line_under",    "listing",     "marked_line", "receive", "stand_together"};
 
 static uint32_t of_archive(const struct call *call, struct loan *loan)
 {
@@ -111,6 +114,9 @@ static uint32_t of_archive(const struct call *call, struct loan *loan)
     case MARKED_LINE:
         return keeper_marked_line(table, table_length, loan->list + GUARDS, call->entries, loan->marks + GUARDS,
                                   call->marks, answer, call->room, &loan->written[1]);
+    case STAND_TOGETHER:
+        return keeper_stand_together(table, table_length, loan->list + GUARDS, call->entries, loan->states + GUARDS,
+                                     call->states, answer, call->room, &loan->written[1]);
     default: return keeper_listing(table, table_length, answer, call->room, &loan->written[1]);
     }
 }
@@ -140,6 +146,9 @@ static uint32_t of_model(const struct call *call, struct loan *loan)
     case MARKED_LINE:
         return model_marked_line(table, table_length, loan->list + GUARDS, call->entries, loan->marks + GUARDS,
                                  call->marks, answer, call->room, &loan->written[1]);
+    case STAND_TOGETHER:
+        return model_stand_together(table, table_length, loan->list + GUARDS, call->entries, loan->states + GUARDS,
+                                    call->states, answer, call->room, &loan->written[1]);
     default: return model_listing(table, table_length, answer, call->room, &loan->written[1]);
     }
 }
@@ -152,6 +161,14 @@ static void show_bytes(const char *what, const uint8_t *bytes, size_t length)
     printf("\n");
 }
 
+static void show_list(const char *what, const uint16_t *list, size_t entries)
+{
+    printf("%s of %zu:", what, entries);
+    for (size_t at = 0; at < entries && at < MOST_POSITIONS; at++)
+        printf(" %u", list[at]);
+    printf("%s\n", entries > MOST_POSITIONS ? " and so on" : "");
+}
+
 /* A listing, as far as the length written says. */
 static void show_text(const char *what, const struct call *call, const struct loan *loan, uint32_t returned)
 {
@@ -162,11 +179,11 @@ static void show_text(const char *what, const struct call *call, const struct lo
 static _Noreturn void differ(const char *what, const struct call *call, uint32_t got, uint32_t expected)
 {
     printf("difference: %s\n", what);
-    printf("call %s: set %#x, from or process %u, to %u, room %zu, scratch %zu, marks %zu, list of %zu:",
-           names[call->which], call->set, call->from, call->to, call->room, call->numbers, call->marks, call->entries);
-    for (size_t at = 0; at < call->entries && at < MOST_POSITIONS; at++)
-        printf(" %u", before.list[GUARDS + at]);
-    printf("%s\n", call->entries > MOST_POSITIONS ? " and so on" : "");
+    printf("call %s: set %#x, from or process %u, to %u, room %zu, scratch %zu, marks %zu\n", names[call->which],
+           call->set, call->from, call->to, call->room, call->numbers, call->marks);
+    show_list("list", before.list + GUARDS, call->entries);
+    if (call->which == STAND_TOGETHER)
+        show_list("states", before.states + GUARDS, call->states);
     show_bytes("table", table_before + GUARDS, table_length);
     printf("archive: number %u, length %zu; model: number %u, length %zu; length before the call %zu\n", got,
            by_archive.written[1], expected, by_model.written[1], before.written[1]);
@@ -189,6 +206,7 @@ static bool same_loans(const struct call *call, const char **what)
     size_t room = GUARDS + call->room + GUARDS;
     size_t numbers = sizeof(uint16_t) * (GUARDS + call->numbers + GUARDS);
     size_t entries = sizeof(uint16_t) * (GUARDS + call->entries + GUARDS);
+    size_t states = sizeof(uint16_t) * (GUARDS + call->states + GUARDS);
     size_t marks = GUARDS + call->marks + GUARDS;
     *what = "the answer buffer or its guards";
     if (memcmp(by_archive.answer, by_model.answer, room) != 0)
@@ -198,6 +216,9 @@ static bool same_loans(const struct call *call, const char **what)
         return false;
     *what = "the list or its guards";
     if (memcmp(by_archive.list, before.list, entries) != 0)
+        return false;
+    *what = "the list of states or its guards";
+    if (memcmp(by_archive.states, before.states, states) != 0)
         return false;
     *what = "the marks or their guards";
     if (memcmp(by_archive.marks, by_model.marks, marks) != 0)
@@ -211,6 +232,7 @@ static void copy_loan(struct loan *to, const struct call *call)
     memcpy(to->answer, before.answer, GUARDS + call->room + GUARDS);
     memcpy(to->scratch, before.scratch, sizeof(uint16_t) * (GUARDS + call->numbers + GUARDS));
     memcpy(to->list, before.list, sizeof(uint16_t) * (GUARDS + call->entries + GUARDS));
+    memcpy(to->states, before.states, sizeof(uint16_t) * (GUARDS + call->states + GUARDS));
     memcpy(to->marks, before.marks, GUARDS + call->marks + GUARDS);
     memcpy(to->written, before.written, sizeof before.written);
 }
@@ -333,14 +355,27 @@ static size_t built_table(struct input *input, unsigned mode)
     return length;
 }
 
+static void guard_list(uint16_t *list, size_t entries)
+{
+    for (size_t at = 0; at < GUARDS; at++) {
+        list[at] = (uint16_t)(at * 7 + 50001);
+        list[GUARDS + entries + at] = (uint16_t)(at * 11 + 50101);
+    }
+}
+
 /* The length and the guards of the list are set. */
 static void list_is_set(struct call *call, size_t entries)
 {
     call->entries = entries;
-    for (size_t at = 0; at < GUARDS; at++) {
-        before.list[at] = (uint16_t)(at * 7 + 50001);
-        before.list[GUARDS + entries + at] = (uint16_t)(at * 11 + 50101);
-    }
+    guard_list(before.list, entries);
+}
+
+/* Those of both lists of a question whether states can stand together: the list is that of the processes. */
+static void names_are_set(struct call *call, size_t entries, size_t states)
+{
+    list_is_set(call, entries);
+    call->states = states;
+    guard_list(before.states, states);
 }
 
 /* A list for a save and a receipt: entries of the input, and, where the upper four bits of its byte are 3, 65,536
@@ -383,6 +418,12 @@ static void make_list(struct input *input, struct call *call)
     list_is_set(call, entries);
 }
 
+/* The count of a process as the table has it, accepted or not. */
+static unsigned count_of(size_t p)
+{
+    return 6 + 2 * p <= table_length ? get_number(2 + p) : 1;
+}
+
 /* A list of ceilings: as many as there are processes, or another number of them. A byte for each process: 0 is
    its count, and from there on downwards; from 128 on upwards from 0; the last few are above the count. */
 static void make_ceilings(struct input *input, struct call *call, size_t n)
@@ -402,7 +443,7 @@ static void make_ceilings(struct input *input, struct call *call, size_t n)
             list[p] = 65535;
             continue;
         }
-        unsigned count = 6 + 2 * p <= table_length ? get_number(2 + p) : 1;
+        unsigned count = count_of(p);
         unsigned from = byte(input);
         if (from < 128)
             list[p] = (uint16_t)(count - from % (count + 1));
@@ -416,6 +457,96 @@ static void make_ceilings(struct input *input, struct call *call, size_t n)
     list_is_set(call, entries);
 }
 
+/* The ceilings as names: each that is not its count names that state of its process. */
+static void name_ceilings(struct call *call, size_t n)
+{
+    uint16_t *processes = before.list + GUARDS, *states = before.states + GUARDS;
+    size_t entries = 0;
+    for (size_t p = 0; p < call->entries; p++) {
+        uint16_t ceiling = processes[p];
+        if (p < n && ceiling == count_of(p))
+            continue;
+        states[entries] = ceiling;
+        processes[entries++] = (uint16_t)p;
+    }
+    names_are_set(call, entries, entries);
+}
+
+/* What is wrong with the lists of names, by the low three bits of a byte. A list that is longer by 65,536 has a length
+   that 16 bits don't tell from the other's. */
+static void damage_names(struct input *input, struct call *call, size_t n, unsigned kind)
+{
+    uint16_t *processes = before.list + GUARDS, *states = before.states + GUARDS;
+    size_t entries = call->entries;
+    size_t place = (kind & 7) >= 1 && (kind & 7) <= 3 && entries > 0 ? byte(input) % entries : 0;
+    switch (kind & 7) {
+    case 1:
+        if (entries > 0)
+            processes[place] = (uint16_t)number(input);
+        break;
+    case 2:
+        if (place > 0)
+            processes[place] = processes[place - 1];
+        break;
+    case 3:
+        if (place > 0) {
+            uint16_t other = processes[place];
+            processes[place] = processes[place - 1];
+            processes[place - 1] = other;
+        }
+        break;
+    case 4:
+        processes[entries] = (uint16_t)n;
+        states[entries] = 0;
+        names_are_set(call, entries + 1, entries + 1);
+        break;
+    case 5:
+        processes[entries] = (uint16_t)(entries > 0 ? processes[entries - 1] + 1 : 0);
+        states[entries] = 0;
+        names_are_set(call, entries + ((kind & 8) != 0), entries + ((kind & 8) == 0));
+        break;
+    case 6: {
+        size_t more_processes = (kind & 8) != 0 ? 65536 : 0, more_states = (kind & 16) != 0 ? 65536 : 0;
+        memset(processes + entries, 0xFF, sizeof(uint16_t) * more_processes);
+        memset(states + entries, 0, sizeof(uint16_t) * more_states);
+        names_are_set(call, entries + more_processes, entries + more_states);
+        break;
+    }
+    case 7: names_are_set(call, (kind & 8) != 0 ? entries : 0, (kind & 8) != 0 ? 0 : entries); break;
+    default: break;
+    }
+}
+
+/* Names of the input: a byte for what is wrong with them, the set of processes, and a byte for each named state: 0 is
+   the last state, and from there on downwards; from 128 on upwards from 0; the last few are the count and above. */
+static void make_names(struct input *input, struct call *call, size_t n)
+{
+    unsigned kind = byte(input);
+    uint32_t set = 0;
+    for (size_t bit = 0; bit < n; bit += 8)
+        set |= (uint32_t)byte(input) << bit;
+    uint16_t *processes = before.list + GUARDS, *states = before.states + GUARDS;
+    size_t entries = 0;
+    for (size_t p = 0; p < n; p++) {
+        if ((set >> p & 1) == 0)
+            continue;
+        unsigned count = count_of(p) > 0 ? count_of(p) : 1;
+        unsigned from = byte(input);
+        processes[entries] = (uint16_t)p;
+        if (from < 128)
+            states[entries] = (uint16_t)(count - 1 - from % count);
+        else if (from < 250)
+            states[entries] = (uint16_t)((from - 128) % count);
+        else if (from < 252)
+            states[entries] = (uint16_t)count;
+        else
+            states[entries] = (uint16_t)(from == 252 ? 65535 : number(input));
+        entries++;
+    }
+    names_are_set(call, entries, entries);
+    damage_names(input, call, n, kind);
+}
+
 /* The mark buffer of a line by marking: its length, and what stands in it before: bytes that depend on the place,
    or all marks, no mark, every other one. The exact length is that of the counts that the table has, accepted or
    not; 65,536 bytes, which 16 bits don't count, are lent too. */
@@ -424,7 +555,7 @@ static void make_marks(struct call *call, size_t n, unsigned lengths)
     unsigned fill = lengths >> 6;
     size_t sum = 0;
     for (size_t p = 0; p < n; p++)
-        sum += 6 + 2 * p <= table_length ? get_number(2 + p) : 1;
+        sum += count_of(p);
     size_t exact = KEEPER_MARKS_SIZE(sum, n);
     switch (lengths >> 3 & 7) {
     case 0: call->marks = exact; break;
@@ -445,30 +576,78 @@ static void make_marks(struct call *call, size_t n, unsigned lengths)
         memset(before.marks + GUARDS, fills[fill], call->marks);
 }
 
-/* The line by marking behind the line under the same ceilings, whose call this was and whose number is given:
-   of the archive too, the same line. */
-static void marking_behind(struct call *call, uint32_t refusal, size_t n, unsigned lengths)
+/* What the archive found as the line under a list of ceilings: its number, and the line where that is 0. */
+struct line {
+    uint32_t number;
+    size_t length;
+    uint8_t bytes[KEEPER_LARGEST_LINE];
+};
+
+static struct line line_found(uint32_t number)
 {
-    static uint8_t line[KEEPER_LARGEST_LINE];
-    size_t length = refusal == 0 ? by_archive.written[1] : 0;
-    memcpy(line, by_archive.answer + GUARDS, length);
+    struct line line = {.number = number, .length = number == 0 ? by_archive.written[1] : 0};
+    memcpy(line.bytes, by_archive.answer + GUARDS, line.length);
+    return line;
+}
+
+/* The line by marking behind the line under the same ceilings, whose call this was: of the archive too, the same
+   line. */
+static void marking_behind(struct call *call, const struct line *under, size_t n, unsigned lengths)
+{
     call->which = MARKED_LINE;
     make_marks(call, n, lengths);
     uint32_t got = compare(call);
-    bool too_short = got == 19 && (refusal == 0 || refusal == 16);
-    if (got != refusal && !too_short)
-        differ("the number of the line by marking beside that of the line under the ceilings", call, got, refusal);
-    if (got == 0 && memcmp(by_archive.answer + GUARDS, line, length) != 0)
-        differ("the line by marking is not the line under the ceilings", call, got, refusal);
+    bool too_short = got == 19 && (under->number == 0 || under->number == 16);
+    if (got != under->number && !too_short)
+        differ("the number of the line by marking beside that of the line under the ceilings", call, got, under->number);
+    if (got == 0 && memcmp(by_archive.answer + GUARDS, under->bytes, under->length) != 0)
+        differ("the line by marking is not the line under the ceilings", call, got, under->number);
 }
 
-/* The length of the answer of a call, as the model has it; 0 where it is refused. */
+/* The length of the answer of a call, as the model has it; 0 where it is refused or a no. */
 static size_t answer_size(const struct call *call)
 {
     struct call unbounded = *call;
     unbounded.room = LARGEST_ROOM;
     memcpy(by_model.list, before.list, sizeof(uint16_t) * (GUARDS + call->entries + GUARDS));
+    memcpy(by_model.states, before.states, sizeof(uint16_t) * (GUARDS + call->states + GUARDS));
     return of_model(&unbounded, &by_model) == 0 ? by_model.written[1] : 0;
+}
+
+/* Whether a line has every named state. */
+static bool has_names(const struct line *line, const struct call *call)
+{
+    for (size_t at = 0; at < call->entries; at++)
+        if (keeper_u16_at(line->bytes, 2 * (size_t)before.list[GUARDS + at]) != before.states[GUARDS + at])
+            return false;
+    return true;
+}
+
+/* Whether the states that the ceilings name can stand together. Of the archive too: where the list has a ceiling for
+   each process, it is a yes with the line under them if that line has every named state, and a no else; a name of no
+   state is a ceiling above its count. There is room for a yes, or one byte less, where the line has no answer. */
+static void names_behind(struct call *call, const struct line *under, size_t n, unsigned lengths)
+{
+    bool is_whole = call->entries == n;
+    call->which = STAND_TOGETHER;
+    call->marks = 0;
+    name_ceilings(call, n);
+    size_t size = answer_size(call);
+    if (under->number != 0 && under->number != 16 && size > 0)
+        call->room = size - ((lengths & 7) == 0);
+    uint32_t got = compare(call);
+    if (!is_whole)
+        return;
+    bool is_no = got == 0 && by_archive.written[1] == 0;
+    if (got != (under->number == 18 ? 22 : under->number) && !(under->number == 16 && is_no))
+        differ("the number of named states beside that of the line under them", call, got, under->number);
+    if (got != 0)
+        return;
+    if (under->number == 0 && is_no == has_names(under, call))
+        differ("named states stand together where the line under them has them all, and nowhere else", call, got,
+               under->number);
+    if (!is_no && memcmp(by_archive.answer + GUARDS, under->bytes, under->length) != 0)
+        differ("the line of named states is not the line under them", call, got, under->number);
 }
 
 /* A save and the receipt of the same list by the same process; the call is one of them, and is made last. Of the
@@ -503,6 +682,24 @@ static uint32_t save_and_receipt(const struct call *call, size_t size, unsigned 
             differ("a save is not the receipt of its list and one count more", call, save.number, receipt.number);
     }
     return call->which == SAVE ? save.number : receipt.number;
+}
+
+/* The room of a call whose answer has so many bytes. */
+static void make_room(struct input *input, struct call *call, size_t answer, unsigned lengths)
+{
+    switch (lengths & 7) {
+    case 0: call->room = answer > 0 ? answer - 1 : 0; break;
+    case 1: call->room = answer + 1 + byte(input) % 40; break;
+    case 2: call->room = 0; break;
+    case 3: call->room = byte(input); break;
+    case 4:
+        if (call->which == LISTING)
+            call->room = KEEPER_LISTING_ROOM;
+        else
+            call->room = answer > 0 ? number(input) % answer : 0;
+        break;
+    default: call->room = answer; break;
+    }
 }
 
 static void one_call(struct input *input)
@@ -542,23 +739,19 @@ static void one_call(struct input *input)
         }
     }
     size_t answer = answer_size(&call);
-    switch (lengths & 7) {
-    case 0: call.room = answer > 0 ? answer - 1 : 0; break;
-    case 1: call.room = answer + 1 + byte(input) % 40; break;
-    case 2: call.room = 0; break;
-    case 3: call.room = byte(input); break;
-    case 4:
-        if (call.which == LISTING)
-            call.room = KEEPER_LISTING_ROOM;
-        else
-            call.room = answer > 0 ? number(input) % answer : 0;
-        break;
-    default: call.room = answer; break;
-    }
+    make_room(input, &call, answer, lengths);
     bool lists = call.which == SAVE || call.which == RECEIVE;
     uint32_t got = lists ? save_and_receipt(&call, answer, lengths) : compare(&call);
-    if (call.which == LINE_UNDER)
-        marking_behind(&call, got, n, lengths);
+    if (call.which == LINE_UNDER) {
+        struct line under = line_found(got);
+        marking_behind(&call, &under, n, lengths);
+        names_behind(&call, &under, n, lengths);
+        if ((first & 0x70) == 0x50) {
+            make_names(input, &call, n);
+            make_room(input, &call, 2 * n, lengths);
+            compare(&call);
+        }
+    }
     bool step = lists || call.which == SEND || call.which == FALL_BACK;
     if ((first & 128) != 0 && step && got == 0) {
         memcpy(table_bytes + GUARDS, by_archive.answer + GUARDS, by_archive.written[1]);
