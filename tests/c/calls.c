@@ -54,29 +54,31 @@ static struct lent lend(const void *contents, size_t size, size_t odd, uint8_t f
     return l;
 }
 
+/* Whether all bytes from one place to another, of which there is one at least, are the fill: the first is, and each is
+   the one before it. */
+static int filled(const uint8_t *from, const uint8_t *to, uint8_t fill)
+{
+    return *from == fill && memcmp(from, from + 1, (size_t)(to - from) - 1) == 0;
+}
+
 /* Whether the memory holds `count` bytes of these contents, the fill beyond them, and its guards. */
 static int holds(const struct lent *l, const void *contents, size_t count)
 {
-    const uint8_t *p;
     if (count > l->size || (count > 0 && memcmp(l->at, contents, count) != 0))
         return 0;
-    for (p = l->all; p < l->at; p++)
-        if (*p != l->fill)
-            return 0;
-    for (p = l->at + count; p < l->at + l->size + GUARD; p++)
-        if (*p != l->fill)
-            return 0;
-    return 1;
+    return filled(l->all, l->at, l->fill) && filled(l->at + count, l->at + l->size + GUARD, l->fill);
 }
 
 /* ---- one call */
 enum call {
-    CHECK_TABLE, RECOVERY_LINE, LINE_OF_SET, LINE_UNDER, MARKED_LINE, SEND, SAVE, RECEIVE, FALL_BACK, KEEP_SHEET, LISTING
+    CHECK_TABLE, RECOVERY_LINE, LINE_OF_SET, LINE_UNDER, MARKED_LINE, STAND_TOGETHER, SEND, SAVE, RECEIVE, FALL_BACK,
+    KEEP_SHEET, LISTING
 };
 
 static const char *const names[] = {
     "keeper_check_table", "keeper_recovery_line", "keeper_line_of_set", "keeper_line_under", "keeper_marked_line",
-    "keeper_send", "keeper_save", "keeper_receive", "keeper_fall_back", "keeper_keep_sheet", "keeper_listing",
+    "keeper_stand_together", "keeper_send", "keeper_save", "keeper_receive", "keeper_fall_back", "keeper_keep_sheet",
+    "keeper_listing",
 };
 
 struct question {
@@ -86,8 +88,10 @@ struct question {
     uint32_t set;
     uint16_t from; /* the process of a save or receipt too */
     uint16_t to;
-    const uint16_t *list; /* of a save or receipt, or of ceilings */
+    const uint16_t *list; /* of a save or receipt, of ceilings, or of named processes */
     size_t list_length;
+    const uint16_t *states; /* of the named processes */
+    size_t states_length;
     size_t numbers;
     size_t marks; /* the length of the mark buffer */
     size_t room;
@@ -103,8 +107,8 @@ struct answer {
     size_t marks_size;
 };
 
-static uint32_t call(const struct question *q, uint8_t *table, uint16_t *list, uint16_t *scratch, uint8_t *marks,
-                     uint8_t *answer, size_t *written)
+static uint32_t call(const struct question *q, uint8_t *table, uint16_t *list, uint16_t *states, uint16_t *scratch,
+                     uint8_t *marks, uint8_t *answer, size_t *written)
 {
     switch (q->call) {
     case CHECK_TABLE:
@@ -117,6 +121,9 @@ static uint32_t call(const struct question *q, uint8_t *table, uint16_t *list, u
         return keeper_line_under(table, q->length, list, q->list_length, answer, q->room, written);
     case MARKED_LINE:
         return keeper_marked_line(table, q->length, list, q->list_length, marks, q->marks, answer, q->room, written);
+    case STAND_TOGETHER:
+        return keeper_stand_together(table, q->length, list, q->list_length, states, q->states_length, answer, q->room,
+                                     written);
     case SEND:
         return keeper_send(table, q->length, q->from, q->to, answer, q->room, written);
     case SAVE:
@@ -151,11 +158,13 @@ static struct lent lend_marks(size_t size, uint8_t fill)
     return lend(marks_after, size, asked % 8, fill);
 }
 
-/* Asks once; empty memory is NULL or not, and `fill` is what stands in all that the call might write. */
+/* Asks once; empty memory is NULL or not, and `fill` is what stands in all that the call might write. Lists stand at
+   addresses of 16-bit numbers that are none of larger ones, one of the two and the other in turn. */
 static void ask_once(const char *what, const struct question *q, const struct answer *a, uint8_t fill, int null)
 {
     struct lent table = lend(q->table, q->length, 1, fill);
-    struct lent list = lend(q->list, 2 * q->list_length, 0, fill);
+    struct lent list = lend(q->list, 2 * q->list_length, asked % 2 * 2, fill);
+    struct lent states = lend(q->states, 2 * q->states_length, 2 - asked % 2 * 2, fill);
     struct lent scratch = lend(NULL, 2 * q->numbers, 0, fill);
     struct lent marks = lend_marks(q->call == MARKED_LINE ? q->marks : 0, fill);
     struct lent answer = lend(NULL, q->room, 1, fill);
@@ -164,8 +173,8 @@ static void ask_once(const char *what, const struct question *q, const struct an
     int lines = q->call == KEEP_SHEET && (a->number == KEEPER_OK || a->number == KEEPER_ANSWER_TOO_SHORT);
     char where[200];
     uint32_t number = call(q, pointer(&table, null), (uint16_t *)(void *)pointer(&list, null),
-                           (uint16_t *)(void *)pointer(&scratch, null), pointer(&marks, null), pointer(&answer, null),
-                           (size_t *)(void *)written.at);
+                           (uint16_t *)(void *)pointer(&states, null), (uint16_t *)(void *)pointer(&scratch, null),
+                           pointer(&marks, null), pointer(&answer, null), (size_t *)(void *)written.at);
     asked++;
     snprintf(where, sizeof where, "%s: %s, room %lu", names[q->call], what, (unsigned long)q->room);
     if (ok && q->call == MARKED_LINE)
@@ -175,6 +184,8 @@ static void ask_once(const char *what, const struct question *q, const struct an
         failed(where, "the table was changed, or its guards");
     if (!holds(&list, q->list, 2 * q->list_length))
         failed(where, "the list was changed, or its guards");
+    if (!holds(&states, q->states, 2 * q->states_length))
+        failed(where, "the list of states was changed, or its guards");
     if (!holds(&scratch, a->lines, lines ? 2 * a->line_numbers : 0))
         failed(where, "the scratch does not hold what it should, or its guards were changed");
     if (!holds(&marks, marks_after, marks.size))
@@ -185,6 +196,7 @@ static void ask_once(const char *what, const struct question *q, const struct an
         failed(where, "*written is not what it should be, or its guards were changed");
     free(table.all);
     free(list.all);
+    free(states.all);
     free(scratch.all);
     free(marks.all);
     free(answer.all);
@@ -271,7 +283,7 @@ static void answers(const char *what, struct question q, struct answer a)
 
 static struct question about(enum call call, const uint8_t *table, size_t length)
 {
-    struct question q = { call, table, length, 0, 0, 1, NULL, 0, KEEPER_SCRATCH_NUMBERS, KEEPER_MARKS_ROOM,
+    struct question q = { call, table, length, 0, 0, 1, NULL, 0, NULL, 0, KEEPER_SCRATCH_NUMBERS, KEEPER_MARKS_ROOM,
                           KEEPER_LISTING_ROOM };
     return q;
 }
@@ -296,6 +308,61 @@ static void of_marks(const char *what, struct question q, const uint16_t *number
     a.marks_size = marks_size;
     q.call = MARKED_LINE;
     answers(what, q, a);
+}
+
+/* The number at a place of a table, counted in numbers: N, M, the counts, the sends, the receipts. */
+static size_t of_table(const uint8_t *table, size_t place)
+{
+    return table[2 * place] + 256u * table[2 * place + 1];
+}
+
+/* Names that can't stand together: no bytes, and nothing is written to the answer, whatever room there is. */
+static void says_no(const char *what, struct question q)
+{
+    struct answer a = { KEEPER_OK, NULL, 0, NULL, 0, 0 };
+    size_t size = 2 * of_table(q.table, 0), rooms[6], i;
+    rooms[0] = 0;
+    rooms[1] = 1;
+    rooms[2] = size - 1;
+    rooms[3] = size;
+    rooms[4] = size + 1;
+    rooms[5] = size + 5000;
+    for (i = 0; i < sizeof rooms / sizeof rooms[0]; i++) {
+        q.room = rooms[i];
+        ask(what, &q, &a);
+    }
+}
+
+/* Ceilings as names: each that is below its count names that checkpoint. A yes with this line, or a no where it is NULL. */
+static void stand(const char *what, struct question q, const uint16_t *line)
+{
+    uint16_t processes[32], states[32];
+    size_t n = of_table(q.table, 0), named = 0, p;
+    for (p = 0; p < n; p++)
+        if (q.list[p] < of_table(q.table, 2 + p)) {
+            processes[named] = (uint16_t)p;
+            states[named++] = q.list[p];
+        }
+    q.call = STAND_TOGETHER;
+    q.list = processes;
+    q.states = states;
+    q.list_length = q.states_length = named;
+    if (line == NULL)
+        says_no(what, q);
+    else
+        of_numbers(what, q, line, n);
+}
+
+/* The same, given the line under the ceilings: a yes with it where it has all that is named, else a no. */
+static void of_names(const char *what, struct question q, const uint16_t *line)
+{
+    size_t n = of_table(q.table, 0), p;
+    for (p = 0; p < n; p++)
+        if (q.list[p] < of_table(q.table, 2 + p) && line[p] != q.list[p]) {
+            stand(what, q, NULL);
+            return;
+        }
+    stand(what, q, line);
 }
 
 static void example_a_lines(void)
@@ -324,7 +391,7 @@ static void example_a_lines(void)
 }
 
 /* Ceilings. The consistent lines of A are 0 0, 0 1, 1 1, 3 2 and 3 3. */
-static uint16_t many[65536 + 2];
+static uint16_t many[65536 + 2], many_states[65536 + 2];
 
 static void example_a_ceilings(void)
 {
@@ -370,6 +437,100 @@ static void example_a_ceilings(void)
                 }
             }
         }
+}
+
+/* Names, by that of 0 and that of 1; 3 names nothing. 9 9 is a no: no consistent line has both, and none has 2 at 0. */
+static void example_a_names(void)
+{
+    static const uint16_t lines[4][4][2] = {
+        { { 0, 0 }, { 0, 1 }, { 9, 9 }, { 0, 1 } },
+        { { 9, 9 }, { 1, 1 }, { 9, 9 }, { 1, 1 } },
+        { { 9, 9 }, { 9, 9 }, { 9, 9 }, { 9, 9 } },
+        { { 0, 0 }, { 1, 1 }, { 3, 2 }, { 3, 3 } },
+    };
+    uint16_t list[2];
+    struct question q = about(STAND_TOGETHER, a_bytes, A_SIZE);
+    q.list = list;
+    for (list[0] = 0; list[0] < 4; list[0]++)
+        for (list[1] = 0; list[1] < 4; list[1]++) {
+            const uint16_t *line = lines[list[0]][list[1]];
+            stand("A, names", q, line[0] == 9 ? NULL : line);
+        }
+}
+
+/* Names that are refused: 20 before 21, 21 of the whole list before 22, and all of them before 16. */
+static void example_a_bad_names(void)
+{
+    static const struct {
+        uint32_t refusal;
+        size_t of_processes, of_states;
+        uint16_t processes[3], states[3];
+    } cases[] = {
+        { 20, 1, 0, { 0 }, { 0 } }, { 20, 0, 1, { 0 }, { 0 } }, { 20, 2, 1, { 0, 1 }, { 1, 1 } },
+        { 20, 1, 2, { 0, 1 }, { 1, 1 } }, { 20, 3, 2, { 0, 1, 2 }, { 1, 1 } }, { 20, 2, 3, { 0, 1 }, { 1, 1, 0 } },
+        { 20, 2, 0, { 0, 1 }, { 1, 1 } }, { 20, 0, 2, { 0, 1 }, { 1, 1 } }, { 20, 1, 0, { 2 }, { 0 } },
+        { 20, 2, 1, { 1, 0 }, { 0 } }, { 20, 1, 2, { 65535 }, { 3, 0 } }, { 20, 0, 1, { 0 }, { 65535 } },
+        { 20, 1, 2, { 0 }, { 3, 0 } }, { 20, 2, 1, { 0, 1 }, { 3 } }, { 20, 3, 1, { 0, 0, 9 }, { 9 } },
+        { 21, 1, 1, { 2 }, { 0 } }, { 21, 1, 1, { 3 }, { 0 } }, { 21, 1, 1, { 31 }, { 0 } },
+        { 21, 1, 1, { 32 }, { 0 } }, { 21, 1, 1, { 256 }, { 0 } }, { 21, 1, 1, { 257 }, { 0 } },
+        { 21, 1, 1, { 65535 }, { 0 } }, { 21, 2, 2, { 0, 2 }, { 0, 0 } }, { 21, 2, 2, { 0, 0 }, { 0, 0 } },
+        { 21, 2, 2, { 1, 1 }, { 1, 1 } }, { 21, 2, 2, { 1, 0 }, { 1, 1 } }, { 21, 2, 2, { 2, 0 }, { 0, 0 } },
+        { 21, 2, 2, { 0, 65535 }, { 0, 0 } }, { 21, 2, 2, { 0, 257 }, { 0, 1 } },
+        { 21, 3, 3, { 0, 1, 2 }, { 0, 1, 0 } }, { 21, 3, 3, { 0, 1, 1 }, { 0, 1, 1 } },
+        { 21, 3, 3, { 0, 1, 0 }, { 0, 1, 0 } }, { 21, 3, 3, { 0, 0, 1 }, { 0, 0, 1 } },
+        { 21, 2, 2, { 0, 2 }, { 3, 0 } }, { 21, 2, 2, { 0, 0 }, { 3, 3 } }, { 21, 2, 2, { 1, 0 }, { 3, 0 } },
+        { 21, 1, 1, { 2 }, { 65535 } }, { 21, 3, 3, { 0, 1, 2 }, { 3, 3, 0 } },
+        { 21, 3, 3, { 0, 1, 1 }, { 65535, 0, 0 } }, { 21, 2, 2, { 1, 1 }, { 0, 3 } },
+        { 22, 1, 1, { 0 }, { 3 } }, { 22, 1, 1, { 1 }, { 3 } }, { 22, 1, 1, { 0 }, { 4 } },
+        { 22, 1, 1, { 0 }, { 256 } }, { 22, 1, 1, { 1 }, { 257 } }, { 22, 1, 1, { 0 }, { 4096 } },
+        { 22, 1, 1, { 0 }, { 65535 } }, { 22, 2, 2, { 0, 1 }, { 3, 0 } }, { 22, 2, 2, { 0, 1 }, { 0, 3 } },
+        { 22, 2, 2, { 0, 1 }, { 3, 3 } }, { 22, 2, 2, { 0, 1 }, { 2, 3 } }, { 22, 2, 2, { 0, 1 }, { 3, 2 } },
+    };
+    static const size_t rooms[] = { 0, 3, 4, 64 };
+    struct question q = about(STAND_TOGETHER, a_bytes, A_SIZE);
+    char what[32];
+    size_t i, k;
+    for (i = 0; i < sizeof cases / sizeof cases[0]; i++)
+        for (k = 0; k < sizeof rooms / sizeof rooms[0]; k++) {
+            q.list = cases[i].processes;
+            q.list_length = cases[i].of_processes;
+            q.states = cases[i].states;
+            q.states_length = cases[i].of_states;
+            q.room = rooms[k];
+            snprintf(what, sizeof what, "A, bad names %lu", (unsigned long)i);
+            refuses(what, &q, cases[i].refusal);
+        }
+}
+
+/* Long lists of names. Where a length were cut to 16 or to 8 bits they would be right: checkpoint 1 of 0, of both, or
+   none. */
+static void example_a_many_names(void)
+{
+    static const size_t lengths[][2] = { { 65536, 0 }, { 0, 65536 }, { 65537, 1 }, { 1, 65537 }, { 65538, 2 }, { 2, 65538 },
+                                         { 256, 0 }, { 0, 256 }, { 257, 1 }, { 2, 258 }, { 65537, 65538 }, { 65538, 65536 } };
+    static const size_t equal[] = { 3, 32, 33, 255, 256, 257, 258, 65535, 65536, 65537, 65538 };
+    struct question q = about(STAND_TOGETHER, a_bytes, A_SIZE);
+    size_t i, k, l;
+    q.list = many;
+    q.states = many_states;
+    for (l = 0; l < sizeof many / sizeof many[0]; l++)
+        many_states[l] = 1;
+    for (q.room = 0; q.room <= 4; q.room += 4) {
+        /* After 0 and 1: rising as far as 16 bits go, the highest number, and 1 again. */
+        for (k = 0; k < 3; k++) {
+            for (l = 0; l < sizeof many / sizeof many[0]; l++)
+                many[l] = (uint16_t)(l < 2 || k == 0 ? l : k == 1 ? 65535 : 1);
+            for (i = 0; i < sizeof lengths / sizeof lengths[0]; i++) {
+                q.list_length = lengths[i][0];
+                q.states_length = lengths[i][1];
+                refuses("A, long lists of other lengths", &q, KEEPER_UNEQUAL_LISTS);
+            }
+            for (i = 0; i < sizeof equal / sizeof equal[0]; i++) {
+                q.list_length = q.states_length = equal[i];
+                refuses("A, many names", &q, KEEPER_BAD_NAMED_PROCESS);
+            }
+        }
+    }
 }
 
 static void example_a_steps(void)
@@ -603,6 +764,7 @@ static void two_unsaved(void)
         for (list[1] = 0; list[1] < 2; list[1]++) {
             of_numbers("two unsaved, ceilings", q, list[0] == 1 && list[1] == 1 ? counts : zeros, 2);
             of_marks("two unsaved, ceilings", q, list[0] == 1 && list[1] == 1 ? counts : zeros, 2, 1);
+            stand("two unsaved, names", q, list[0] == 1 && list[1] == 1 ? counts : zeros);
         }
     sheet_and_listing("two unsaved", table, sizeof table, sheet, 6, lines, 4,
                       "line 0 0\nhold 0 0 0\nhold 1 0 0\ncheckpoint 0 0\ncheckpoint 1 0\nshare 100\n");
@@ -663,6 +825,7 @@ static void four_unsaved(void)
             for (list[2] = 0; list[2] < 2; list[2]++) {
                 of_numbers("four unsaved, ceilings", q, under[list[0]][list[1]][list[2]], 3);
                 of_marks("four unsaved, ceilings", q, under[list[0]][list[1]][list[2]], 3, 2);
+                of_names("four unsaved, names", q, under[list[0]][list[1]][list[2]]);
             }
     /* A save changes one count and nothing else; what waits is received beside what is unsaved, by the same number. */
     for (q.from = 0; q.from < 3; q.from++) {
@@ -783,6 +946,11 @@ static void refused_in_every_call(void)
             q.marks = 0;
             q.room = 0;
             refuses(r->what, &q, r->refusal);
+            if (c != STAND_TOGETHER)
+                continue;
+            q.states = bad_list;
+            q.states_length = 2;
+            refuses(r->what, &q, r->refusal);
         }
         snprintf(text, sizeof text, "refused %u\n", (unsigned)r->refusal);
         t.number = KEEPER_OK;
@@ -854,6 +1022,68 @@ static void ceilings_of_32(void)
     }
 }
 
+/* Names of 32 processes there: all of them, each alone, and one too many. */
+static void names_of_32(void)
+{
+    uint16_t list[33], processes[33], states[33];
+    struct question q = about(STAND_TOGETHER, large, KEEPER_LARGEST_TABLE);
+    size_t p, i;
+    for (p = 0; p < 33; p++) {
+        processes[p] = (uint16_t)p;
+        states[p] = list[p] = 0;
+    }
+    q.list = list;
+    stand("32 names", q, list);
+    for (p = 0; p < 32; p++) {
+        for (i = 0; i < 32; i++)
+            list[i] = i != p;
+        stand("one name of 32", q, list);
+    }
+    q.list = processes;
+    q.states = states;
+    for (q.room = 0; q.room <= 64; q.room += 64) {
+        q.list_length = q.states_length = 32;
+        for (p = 0; p < 32; p++) {
+            states[p] = 1;
+            refuses("32 names, one of them 1", &q, KEEPER_NAMED_STATE_TOO_HIGH);
+            states[p] = 0;
+            processes[p] = (uint16_t)(p == 0 ? 32 : p - 1);
+            refuses("32 names, one of them twice", &q, KEEPER_BAD_NAMED_PROCESS);
+            processes[p] = (uint16_t)p;
+        }
+        processes[31] = 32;
+        refuses("32 names, the last of 32", &q, KEEPER_BAD_NAMED_PROCESS);
+        processes[31] = 31;
+        q.list_length = q.states_length = 33;
+        refuses("33 names for 32", &q, KEEPER_BAD_NAMED_PROCESS);
+        q.list_length = 32;
+        refuses("33 states for 32 names", &q, KEEPER_UNEQUAL_LISTS);
+        q.list_length = 33, q.states_length = 32;
+        refuses("32 states for 33 names", &q, KEEPER_UNEQUAL_LISTS);
+    }
+}
+
+/* Names where all 4,096 messages (0,0) to (1,1) are saved by 1, which has two checkpoints. */
+static void names_of_most(void)
+{
+    static const struct {
+        uint16_t names[2], line[2]; /* of 0 and 1; the others are not named, and are at 1 */
+        int yes;
+    } cases[] = { { { 0, 0 }, { 0, 0 }, 1 }, { { 0, 1 }, { 0, 0 }, 0 }, { { 0, 2 }, { 0, 0 }, 1 },
+                  { { 1, 0 }, { 1, 0 }, 1 }, { { 1, 1 }, { 1, 1 }, 1 }, { { 1, 2 }, { 1, 2 }, 1 } };
+    uint16_t list[32], line[32];
+    struct question q = about(STAND_TOGETHER, other, put_large(other, 4096, 2, 1));
+    size_t i, p;
+    q.list = list;
+    for (i = 0; i < sizeof cases / sizeof cases[0]; i++) {
+        for (p = 0; p < 32; p++) {
+            list[p] = p < 2 ? cases[i].names[p] : 1;
+            line[p] = p < 2 ? cases[i].line[p] : 1;
+        }
+        stand("4,096 saved", q, cases[i].yes ? line : NULL);
+    }
+}
+
 /* The lines of `unsaved`, the largest table with every message received by process 1 and unsaved. Where 0 holds, 1 has
    received what 0 has not sent yet, and is put back. */
 static void lines_of_unsaved(void)
@@ -878,6 +1108,7 @@ static void lines_of_unsaved(void)
         q.call = LINE_UNDER;
         of_numbers("4,096 unsaved", q, line, 32);
         of_marks("4,096 unsaved", q, line, 32, 8);
+        of_names("4,096 unsaved", q, line);
     }
     memset(line, 0, sizeof line);
     of_numbers("4,096 unsaved", about(RECOVERY_LINE, unsaved, KEEPER_LARGEST_TABLE), line, 32);
@@ -979,7 +1210,9 @@ static void largest(void)
     of_numbers("31 holds", q, line, 32);
     same("largest line", KEEPER_LINE_SIZE(32), KEEPER_LARGEST_LINE);
     ceilings_of_32();
+    names_of_32();
     most_unsaved();
+    names_of_most();
     /* A fall back drops every message: an answer much shorter than the table. */
     a.size = put_large(other, 0, 1, 0);
     answers("all wait", about(FALL_BACK, large, KEEPER_LARGEST_TABLE), a);
@@ -1104,6 +1337,7 @@ static void full_unsaved(void)
         q.list = lists[i];
         of_numbers("count 4,096 and unsaved, ceilings", q, lines[i], 2);
         of_marks("count 4,096 and unsaved, ceilings", q, lines[i], 2, 513);
+        of_names("count 4,096 and unsaved, names", q, lines[i]);
     }
     put_numbers(table, above, 8);
     q = about(CHECK_TABLE, table, sizeof table);
@@ -1125,6 +1359,7 @@ static void full_ceilings(void)
         q.list = lists[i];
         of_numbers("count 4,096, ceilings", q, lines[i], 2);
         of_marks("count 4,096, ceilings", q, lines[i], 2, 513);
+        of_names("count 4,096, names", q, lines[i]);
     }
     for (i = 0; i < sizeof above / sizeof above[0]; i++) {
         q.list = above[i];
@@ -1207,6 +1442,7 @@ static void domino(void)
         for (i = 0; i < sizeof lists / sizeof lists[0]; i++) {
             q.list = lists[i];
             of_marks("a domino", q, lines[i], 2, 11);
+            of_names("a domino", q, lines[i]);
         }
     }
 }
@@ -1227,6 +1463,32 @@ static void waiting_and_new(void)
     for (i = 0; i < sizeof lists / sizeof lists[0]; i++) {
         q.list = lists[i];
         of_marks("waiting messages and virtual checkpoints", q, lines[i], 3, 2);
+        of_names("waiting messages and virtual checkpoints", q, lines[i]);
+    }
+}
+
+/* A second name in such a chain, behind the first or before it: the path goes on from process to process, down to
+   checkpoint 1 of any that comes later. */
+static void names_of_chain(struct question q, size_t p)
+{
+    static const size_t seconds[] = { 0, 1, 15, 16, 30, 31 };
+    uint16_t names[32], line[32];
+    size_t i, k, s;
+    q.list = names;
+    for (k = 0; k < sizeof seconds / sizeof seconds[0]; k++) {
+        s = seconds[k];
+        if (s == p)
+            continue;
+        for (i = 0; i < 32; i++)
+            names[i] = i == p || i == s ? 1 : 2;
+        stand("a chain of 32, both at 1", q, NULL);
+        names[s > p ? p : s] = 0;
+        stand("a chain of 32, the first at 0", q, NULL);
+        names[s > p ? p : s] = 1;
+        names[s > p ? s : p] = 0;
+        for (i = 0; i < 32; i++)
+            line[i] = i < p && i < s ? 2 : i == (s > p ? p : s) ? 1 : 0;
+        stand("a chain of 32, the second at 0", q, line);
     }
 }
 
@@ -1259,6 +1521,8 @@ static void chain_of_32(void)
                 line[i] = i < p ? 2 : i == p ? 1 : 0;
             }
             of_marks("a chain of 32", q, line, 32, 12);
+            of_names("a chain of 32", q, line);
+            names_of_chain(q, p);
         }
     }
 }
@@ -1310,6 +1574,219 @@ static void both_methods(void)
         ask("by chance", &q, &a);
     }
     same("lines by chance are lowered", lowered > 500, 1);
+}
+
+/* ---- zigzag paths: a table, a number for each process, which names a checkpoint where it is below the count, and the line
+   of a yes, or NULL */
+static void zigzag(const char *what, const uint16_t *numbers, const uint16_t *names, const uint16_t *line)
+{
+    uint8_t table[128];
+    struct question q = about(STAND_TOGETHER, table, KEEPER_TABLE_SIZE(numbers[0], numbers[1]));
+    put_numbers(table, numbers, q.length / 2);
+    q.list = names;
+    stand(what, q, line);
+}
+
+/* The paths that the source tells of at its Figure 1, by messages m1 (0,0) to (1,1), m2 (1,0) to (2,1), m3 (2,1) to (0,1),
+   m4 (2,0) to (1,1) and m5 (1,1) to (2,1): m1 m2 is one from checkpoint 0 of process 0 to checkpoint 1 of process 2, m5 m4
+   one from checkpoint 1 of process 1 to itself, m3 m1 m2 one from checkpoint 1 of process 2 to itself. */
+static void zigzags_of_the_source(void)
+{
+    static const uint16_t numbers[] = { 3, 5, 2, 2, 2, 0, 0, 1, 0, 2, 1, 2, 0, 1, 1, 1, 1, 2, 1, 0, 1, 1, 1, 2, 1 };
+    static const uint16_t no[][3] = { { 0, 2, 1 }, { 2, 1, 2 }, { 2, 2, 1 }, { 0, 1, 2 }, { 1, 1, 2 }, { 1, 2, 1 },
+                                      { 2, 1, 1 }, { 1, 0, 2 }, { 1, 2, 0 }, { 2, 1, 0 }, { 2, 0, 1 }, { 0, 0, 1 },
+                                      { 1, 1, 1 }, { 1, 0, 0 } };
+    static const uint16_t yes[][3] = { { 2, 2, 2 }, { 0, 2, 2 }, { 1, 2, 2 }, { 2, 0, 2 }, { 2, 2, 0 }, { 0, 0, 2 },
+                                       { 0, 0, 0 } };
+    static const uint16_t lines[][3] = { { 2, 2, 2 }, { 0, 0, 0 }, { 1, 2, 2 }, { 0, 0, 0 }, { 0, 0, 0 }, { 0, 0, 0 },
+                                         { 0, 0, 0 } };
+    size_t i;
+    for (i = 0; i < sizeof no / sizeof no[0]; i++)
+        zigzag("paths of the source", numbers, no[i], NULL);
+    for (i = 0; i < sizeof yes / sizeof yes[0]; i++)
+        zigzag("no path of the source", numbers, yes[i], lines[i]);
+}
+
+/* Each condition of a path from both sides. */
+static void zigzag_bounds(void)
+{
+    /* (0,1) to (1,2), by the names: sent at the first or after it, received before the second. 9 9 is a no. */
+    static const uint16_t one[] = { 2, 1, 3, 4, 0, 1, 1, 2 };
+    static const uint16_t one_lines[4][5][2] = {
+        { { 0, 0 }, { 0, 1 }, { 9, 9 }, { 9, 9 }, { 0, 1 } },
+        { { 1, 0 }, { 1, 1 }, { 9, 9 }, { 9, 9 }, { 1, 1 } },
+        { { 2, 0 }, { 2, 1 }, { 2, 2 }, { 2, 3 }, { 2, 4 } },
+        { { 3, 0 }, { 3, 1 }, { 3, 2 }, { 3, 3 }, { 3, 4 } },
+    };
+    /* (0,1) to (1,2) and (1,y) to (2,1), by y: the second is sent before the interval of the receipt, in it, after it. */
+    uint16_t two[] = { 3, 2, 2, 3, 2, 0, 1, 1, 0, 1, 2, 2, 1 };
+    static const uint16_t first[] = { 1, 3, 2 }, last[] = { 2, 3, 1 }, both[] = { 1, 3, 1 };
+    static const uint16_t first_lines[3][3] = { { 1, 1, 2 }, { 1, 1, 0 }, { 1, 1, 0 } }, both_line[] = { 1, 1, 1 };
+    static const uint16_t last_line[] = { 2, 3, 1 };
+    /* (0,0) to (1,r), r being 0, the count, or the count of two checkpoints, and (1,0) to (2,1): a waiting message is on no
+       path, and one that is unsaved is received in the last interval. */
+    uint16_t through[] = { 3, 2, 1, 1, 2, 0, 0, 1, 0, 1, 0, 2, 1 };
+    static const uint16_t ends[] = { 0, 9, 1 }, waiting_line[] = { 0, 1, 1 };
+    uint16_t names[2], y;
+    for (names[0] = 0; names[0] < 4; names[0]++)
+        for (names[1] = 0; names[1] < 5; names[1]++) {
+            const uint16_t *line = one_lines[names[0]][names[1]];
+            zigzag("a path of one message", one, names, line[0] == 9 ? NULL : line);
+        }
+    for (y = 0; y < 3; y++) {
+        two[8] = y;
+        zigzag("a path of two messages, its first end", two, first, first_lines[y]);
+        zigzag("a path of two messages, its last end", two, last, last_line);
+        zigzag("a path of two messages", two, both, y == 0 ? both_line : NULL);
+    }
+    zigzag("through a waiting message", through, ends, waiting_line);
+    through[10] = 1;
+    zigzag("through an unsaved message", through, ends, NULL);
+    through[3] = 2;
+    zigzag("through a saved message", through, ends, NULL);
+    through[10] = 2;
+    zigzag("through an unsaved message of a later interval", through, ends, waiting_line);
+}
+
+/* A path from a checkpoint to itself and to no other, by (0,1) to (1,2) and (1,1) to (0,1); beside it 2 is named, with
+   which no message has to do. One process, of one checkpoint and of the most, has no path. */
+static void zigzags_to_itself(void)
+{
+    static const uint16_t cycle[] = { 3, 2, 3, 3, 2, 0, 1, 1, 1, 1, 2, 0, 1 };
+    static const uint16_t no[][3] = { { 1, 3, 2 }, { 1, 3, 1 }, { 1, 3, 0 } };
+    static const uint16_t yes[][3] = { { 0, 3, 2 }, { 2, 3, 1 }, { 3, 1, 2 }, { 3, 2, 0 }, { 2, 2, 1 }, { 0, 1, 0 } };
+    static const uint16_t lines[][3] = { { 0, 1, 2 }, { 2, 3, 1 }, { 0, 1, 2 }, { 3, 2, 0 }, { 2, 2, 1 }, { 0, 1, 0 } };
+    static const uint16_t one[] = { 1, 0, 1 }, most[] = { 1, 0, 4096 }, names[] = { 0, 1, 2047, 2048, 4095, 4096 };
+    size_t i;
+    for (i = 0; i < sizeof no / sizeof no[0]; i++)
+        zigzag("a path to itself", cycle, no[i], NULL);
+    for (i = 0; i < sizeof yes / sizeof yes[0]; i++)
+        zigzag("beside a path to itself", cycle, yes[i], lines[i]);
+    for (i = 0; i < 2; i++)
+        zigzag("one process, one checkpoint", one, &names[i], &names[i]);
+    for (i = 0; i < sizeof names / sizeof names[0]; i++)
+        zigzag("one process, 4,096 checkpoints", most, &names[i], &names[i]);
+}
+
+/* By both definitions, on small tables by chance and for all names of each: the latest of all lines that are consistent and
+   have the names, by trying every line; and a path, by messages that follow one another. */
+static int is_consistent(const uint8_t *table, const uint16_t *line)
+{
+    size_t n = of_table(table, 0), m = of_table(table, 1), k;
+    for (k = 0; k < m; k++) {
+        size_t send = 2 + n + 2 * k, receipt = send + 2 * m, received = of_table(table, receipt + 1);
+        int after = of_table(table, send + 1) >= line[of_table(table, send)];
+        if (received != 0 && after && received <= line[of_table(table, receipt)])
+            return 0;
+    }
+    return 1;
+}
+
+static int has_path(const uint8_t *table, const uint16_t *names)
+{
+    size_t n = of_table(table, 0), m = of_table(table, 1), k, l;
+    int on_path[12] = { 0 }, more = 1;
+    while (more)
+        for (more = 0, k = 0; k < m; k++) {
+            size_t send = 2 + n + 2 * k, sender = of_table(table, send), sent = of_table(table, send + 1);
+            int follows = sent >= names[sender];
+            for (l = 0; l < m; l++) {
+                size_t receipt = 2 + n + 2 * m + 2 * l;
+                follows |= on_path[l] && of_table(table, receipt) == sender && sent + 1 >= of_table(table, receipt + 1);
+            }
+            if (follows && !on_path[k] && of_table(table, send + 2 * m + 1) != 0)
+                on_path[k] = more = 1;
+        }
+    for (k = 0; k < m; k++) {
+        size_t receipt = 2 + n + 2 * m + 2 * k, receiver = of_table(table, receipt);
+        int named = names[receiver] < of_table(table, 2 + receiver);
+        if (on_path[k] && named && of_table(table, receipt + 1) <= names[receiver])
+            return 1;
+    }
+    return 0;
+}
+
+/* The next list of numbers up to the counts; from the counts on the first again, and then 0. */
+static int next_list(const uint8_t *table, uint16_t *list)
+{
+    size_t n = of_table(table, 0), p;
+    for (p = 0; p < n; p++) {
+        if (list[p] < of_table(table, 2 + p)) {
+            list[p]++;
+            return 1;
+        }
+        list[p] = 0;
+    }
+    return 0;
+}
+
+static int latest_with(const uint8_t *table, const uint16_t *names, uint16_t *latest)
+{
+    size_t n = of_table(table, 0), p;
+    uint16_t line[4] = { 0, 0, 0, 0 };
+    int some = 0, has;
+    do {
+        for (has = 1, p = 0; p < n; p++)
+            has &= line[p] == names[p] || names[p] == of_table(table, 2 + p);
+        if (!has || !is_consistent(table, line))
+            continue;
+        for (p = 0; p < n; p++)
+            if (!some || line[p] > latest[p])
+                latest[p] = line[p];
+        some = 1;
+    } while (next_list(table, line));
+    return some;
+}
+
+static void by_both_definitions(void)
+{
+    uint8_t table[KEEPER_TABLE_SIZE(4, 12)];
+    uint16_t names[4], line[4];
+    size_t counts[4], round, n, m, p, yes = 0, no = 0, k, i, j;
+    for (round = 0; round < 150; round++) {
+        n = 1 + chance(4);
+        m = n == 1 ? 0 : chance(13);
+        put_number(table, 0, (uint16_t)n);
+        put_number(table, 1, (uint16_t)m);
+        for (p = 0; p < n; p++) {
+            counts[p] = 1 + chance(3);
+            put_number(table, 2 + p, (uint16_t)counts[p]);
+            names[p] = 0;
+        }
+        for (k = 0; k < m; k++) {
+            j = chance(n);
+            i = (j + 1 + chance(n - 1)) % n;
+            put_number(table, 2 + n + 2 * k, (uint16_t)j);
+            put_number(table, 3 + n + 2 * k, (uint16_t)chance(counts[j]));
+            put_number(table, 2 + n + 2 * m + 2 * k, (uint16_t)i);
+            put_number(table, 3 + n + 2 * m + 2 * k, (uint16_t)chance(counts[i] + 1));
+        }
+        do {
+            struct question q = about(STAND_TOGETHER, table, KEEPER_TABLE_SIZE(n, m));
+            struct answer a = { KEEPER_OK, NULL, 0, NULL, 0, 0 };
+            uint16_t processes[4], states[4];
+            uint8_t bytes[8];
+            int stands = latest_with(table, names, line);
+            same("a path, where no line has the names", has_path(table, names), !stands);
+            for (p = 0; p < n; p++)
+                if (names[p] < counts[p]) {
+                    processes[q.list_length] = (uint16_t)p;
+                    states[q.list_length++] = names[p];
+                }
+            q.list = processes;
+            q.states = states;
+            q.states_length = q.list_length;
+            q.room = stands ? 2 * n : chance(2) * 2 * n;
+            if (stands) {
+                a.bytes = bytes;
+                a.size = put_numbers(bytes, line, n);
+                yes++;
+            } else
+                no++;
+            ask("by both definitions", &q, &a);
+        } while (next_list(table, names));
+    }
+    same("names by chance: some stand together and some do not", yes > 1000 && no > 1000, 1);
 }
 
 /* ---- sizes */
@@ -1441,6 +1918,9 @@ int main(void)
     version();
     example_a_lines();
     example_a_ceilings();
+    example_a_names();
+    example_a_bad_names();
+    example_a_many_names();
     example_a_steps();
     example_a_lists();
     example_a_sheet();
@@ -1459,6 +1939,10 @@ int main(void)
     waiting_and_new();
     chain_of_32();
     both_methods();
+    zigzags_of_the_source();
+    zigzag_bounds();
+    zigzags_to_itself();
+    by_both_definitions();
     if (failures != 0) {
         printf("calls: %d failures\n", failures);
         return 1;

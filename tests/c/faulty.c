@@ -12,6 +12,7 @@ __typeof__(keeper_recovery_line) faulty_recovery_line;
 __typeof__(keeper_line_of_set) faulty_line_of_set;
 __typeof__(keeper_line_under) faulty_line_under;
 __typeof__(keeper_marked_line) faulty_marked_line;
+__typeof__(keeper_stand_together) faulty_stand_together;
 __typeof__(keeper_send) faulty_send;
 __typeof__(keeper_save) faulty_save;
 __typeof__(keeper_receive) faulty_receive;
@@ -305,6 +306,276 @@ uint32_t faulty_marked_line(const uint8_t *table, size_t length, const uint16_t 
     if (fault(163) && r == KEEPER_ANSWER_TOO_SHORT && room > 0) answer[room - 1] = 0;
     if (fault(107) && r == KEEPER_MARKS_TOO_SHORT && marks == NULL) return KEEPER_OK;
     if (fault(109) && r == KEEPER_CEILING_TOO_HIGH && is_short) return KEEPER_OK;
+    return r;
+}
+
+/* Whether a zigzag path leads from one named checkpoint to another or to itself; right where no fault of it is asked for.
+   `named` has the count of a process that is not named. */
+static int faulty_path_from(const uint8_t *table, const uint16_t *named, size_t from)
+{
+    size_t n = keeper_u16_at(table, 0), m = keeper_u16_at(table, 2), k, l;
+    uint8_t on_path[30] = { 0 };
+    int more = 1;
+    while (more)
+        for (more = 0, k = 0; k < m; k++) {
+            size_t send = 4 + 2 * n + 4 * k, sender = keeper_u16_at(table, send), sent = keeper_u16_at(table, send + 2);
+            int follows = sender == from && sent >= named[from];
+            if (fault(253) && sender == from) follows = sent > named[from];
+            if (fault(254) && sender == from) follows = sent + 1u >= named[from];
+            for (l = 0; l < m && !fault(255); l++) {
+                size_t received = keeper_u16_at(table, receipt_place(table, l));
+                if (!on_path[l] || receiver_of(table, l) != sender) continue;
+                if (fault(256) && sent < received) continue;
+                if (fault(257) && sent + 1 != received) continue;
+                if (fault(258) && on_path[l] > 1) continue;
+                if (sent + 1 < received && !(fault(259) && sent + 2 >= received)) continue;
+                follows = 1 + on_path[l];
+            }
+            if (!follows || on_path[k]) continue;
+            if (keeper_u16_at(table, receipt_place(table, k)) == 0 && !fault(260)) continue;
+            if (fault(261) && is_unsaved(table, k)) continue;
+            on_path[k] = (uint8_t)follows;
+            more = 1;
+        }
+    for (k = 0; k < m; k++) {
+        size_t to = receiver_of(table, k), received = keeper_u16_at(table, receipt_place(table, k));
+        if (!on_path[k] || named[to] >= count_of(table, k)) continue;
+        if (fault(262) && to == from) continue;
+        if (fault(263) && to != from) continue;
+        if (fault(264) && to < from) continue;
+        if (fault(265) && to > from) continue;
+        if (fault(266) && received == named[to]) continue;
+        if (received <= named[to] || (fault(267) && received == named[to] + 1u)) return 1;
+    }
+    return 0;
+}
+
+/* Whether there is one. Long tables have the answer that is handed in. */
+static int faulty_path(const uint8_t *table, const uint16_t *named, int path)
+{
+    size_t n = keeper_u16_at(table, 0), p;
+    if (keeper_u16_at(table, 2) > 30) return path;
+    for (p = 0; p < n; p++) {
+        int is_named = named[p] < keeper_u16_at(table, 4 + 2 * p);
+        if (is_named && faulty_path_from(table, named, p)) return 1;
+        if (fault(268) && is_named) return 0;
+    }
+    return 0;
+}
+
+/* The latest line with the named checkpoints, where they stand together; right where no fault of it is asked for. Answers
+   whether a named one was lowered. */
+static int faulty_line_with(const uint8_t *table, const uint16_t *named, uint16_t *line)
+{
+    size_t n = keeper_u16_at(table, 0), m = keeper_u16_at(table, 2), p, k;
+    int more, passes = 0, path = 0;
+    memcpy(line, named, 2 * n);
+    for (p = 0; p < n; p++)
+        if (fault(269) && named[p] == keeper_u16_at(table, 4 + 2 * p)) line[p]--;
+    do {
+        for (more = 0, k = 0; k < m; k++) {
+            size_t send = 4 + 2 * n + 4 * k, sender = keeper_u16_at(table, send), sent = keeper_u16_at(table, send + 2);
+            size_t receiver = receiver_of(table, k), received = keeper_u16_at(table, receipt_place(table, k));
+            if (received == 0) continue;
+            if (fault(270) && is_unsaved(table, k)) continue;
+            if (fault(271) && line[sender] < keeper_u16_at(table, 4 + 2 * sender)) sent++;
+            if (sent < line[sender]) continue;
+            if (fault(272) && sent == line[sender]) continue;
+            if (received > line[receiver]) continue;
+            if (fault(273) && received == line[receiver]) continue;
+            line[receiver] = (uint16_t)(received - 1);
+            if (fault(274)) line[receiver] = 0;
+            if (fault(275) && received > 1) line[receiver]--;
+            path |= named[receiver] < count_of(table, k);
+            more = 1;
+        }
+        passes++;
+    } while (more && !fault(276) && !(fault(277) && passes == 2));
+    return path;
+}
+
+/* The earliest line with them, of those that the source has for its proof: for each process the first checkpoint from which
+   no path leads to a named one. */
+static void faulty_earliest(const uint8_t *table, const uint16_t *named, uint16_t *line)
+{
+    size_t n = keeper_u16_at(table, 0), m = keeper_u16_at(table, 2), p, k;
+    int more = 1;
+    for (p = 0; p < n; p++)
+        line[p] = named[p] < keeper_u16_at(table, 4 + 2 * p) ? named[p] : 0;
+    while (more)
+        for (more = 0, k = 0; k < m; k++) {
+            size_t send = 4 + 2 * n + 4 * k, sender = keeper_u16_at(table, send), sent = keeper_u16_at(table, send + 2);
+            size_t received = keeper_u16_at(table, receipt_place(table, k));
+            if (received == 0 || received > line[receiver_of(table, k)] || sent < line[sender]) continue;
+            line[sender] = (uint16_t)(sent + 1);
+            more = 1;
+        }
+}
+
+/* Writes what is answered to names that are not refused. */
+static uint32_t faulty_standing(const uint8_t *table, size_t length, const uint16_t *processes, const uint16_t *states,
+                                size_t names, uint8_t *answer, size_t room, size_t *written)
+{
+    uint16_t named[KEEPER_MOST_PROCESSES], line[KEEPER_MOST_PROCESSES];
+    size_t n = keeper_u16_at(table, 0), p, k, left = names;
+    int path, lowered = 0;
+    if (fault(278) && left > 0) left--;
+    if (fault(279) && left > 2) left = 2;
+    for (p = 0; p < n; p++)
+        named[p] = keeper_u16_at(table, 4 + 2 * p);
+    for (k = fault(280) && left > 1 ? 1 : 0; k < left; k++)
+        if (!(fault(281) && processes[k] == 31)) named[fault(282) ? k : processes[k]] = states[k];
+    path = faulty_path(table, named, faulty_line_with(table, named, line));
+    for (p = 0; p < n; p++)
+        lowered |= line[p] != named[p];
+    if (fault(283)) path = 0;
+    if (fault(284)) path = names > 0;
+    if (fault(285)) path = lowered;
+    if (fault(286) && names == n) path = 1;
+    if (fault(287) && names == n) path = 0;
+    if (fault(288) && names == 1) path = 0;
+    if (fault(289) && names == 0) path = 1;
+    if (fault(291) && names == 32) path = 1;
+    if (path) {
+        if (fault(294) && room < 2 * n) return KEEPER_ANSWER_TOO_SHORT;
+        if (fault(295) && room == 0) return KEEPER_ANSWER_TOO_SHORT;
+        if (fault(296) && answer == NULL) return KEEPER_ANSWER_TOO_SHORT;
+        if (fault(297)) return KEEPER_NAMED_STATE_TOO_HIGH;
+        if (fault(298)) return KEEPER_OK;
+        *written = fault(299) ? 2 * n : fault(300) ? SIZE_MAX : 0;
+        if (fault(301) && room > 0) answer[0] = 0;
+        if (fault(302) && room > 0) answer[room - 1] = 0;
+        if (fault(303) && room >= 2 * n) memcpy(answer, line, 2 * n);
+        if (fault(304) && room > 2 * n) answer[2 * n] = 0;
+        return KEEPER_OK;
+    }
+    if (fault(308)) faulty_earliest(table, named, line);
+    if (fault(309) && names == 0) keeper_recovery_line(table, length, (uint8_t *)line, sizeof line, written);
+    if (fault(310)) memset(line, 0, sizeof line);
+    if (fault(311)) memcpy(line, named, sizeof line);
+    if (fault(312)) for (p = 0; p < n; p++) line[p] = keeper_u16_at(table, 4 + 2 * p);
+    if (fault(313)) for (p = 0; p < n; p++) if (line[p] == keeper_u16_at(table, 4 + 2 * p)) line[p]--;
+    if (fault(314) && line[n - 1] > 0) line[n - 1]--;
+    if (room < 2 * n) {
+        if (fault(315)) return *written = 0, KEEPER_OK;
+        if (fault(316)) *written = 2 * n;
+        if (fault(317) && room > 0) memcpy(answer, line, room);
+        if (!(fault(318) && room + 1 == 2 * n)) return KEEPER_ANSWER_TOO_SHORT;
+        return *written = room, KEEPER_OK;
+    }
+    if (fault(319) && room == 2 * n) return KEEPER_ANSWER_TOO_SHORT;
+    if (fault(320) && room > 4096) return KEEPER_ANSWER_TOO_SHORT;
+    for (p = 0; p < n; p++)
+        keeper_put_u16(answer, 2 * p, line[p]);
+    *written = fault(321) ? n : fault(322) ? room : fault(323) ? 2 * names : 2 * n;
+    if (fault(324)) answer[2 * n] = 0;
+    if (fault(325)) answer[-1] = 0;
+    if (fault(326) && room > 2 * n) memset(answer + 2 * n, 0, room - 2 * n);
+    return KEEPER_OK;
+}
+
+/* The checks of names, each over the whole lists, on an accepted table; right where no fault of them is asked for. A fault
+   that lets a name through makes it one that can be read. */
+static int is_state_of(const uint8_t *table, uint16_t process, uint16_t state)
+{
+    return process < keeper_u16_at(table, 0) && state < keeper_u16_at(table, 4 + 2 * (size_t)process);
+}
+
+static uint32_t faulty_name_checks(const uint8_t *table, uint16_t *processes, size_t of_processes, uint16_t *states,
+                                   size_t of_states)
+{
+    size_t n = keeper_u16_at(table, 0), k, names = of_processes < of_states ? of_processes : of_states;
+    if (fault(331) && names > 0 && processes[0] >= n) return KEEPER_BAD_NAMED_PROCESS;
+    if (fault(332) && names > 0 && !is_state_of(table, processes[0], states[0])) return KEEPER_NAMED_STATE_TOO_HIGH;
+    if (of_processes != of_states && fault(336)) return KEEPER_WRONG_CEILING_COUNT;
+    if (of_processes < of_states && !fault(333) && !fault(334)) return KEEPER_UNEQUAL_LISTS;
+    if (of_processes > of_states && !fault(333) && !fault(335)) return KEEPER_UNEQUAL_LISTS;
+    for (k = 0; k < names; k++) {
+        int unknown, falling;
+        if (fault(337) && processes[k] < n && !is_state_of(table, processes[k], states[k])) return KEEPER_NAMED_STATE_TOO_HIGH;
+        if (fault(338)) processes[k] &= 0xFF;
+        if (fault(339)) processes[k] &= 0x1F;
+        unknown = processes[k] >= n;
+        falling = k > 0 && processes[k] <= processes[k - 1];
+        if (unknown && fault(340)) return KEEPER_UNKNOWN_PROCESS;
+        if (fault(341) || (fault(342) && processes[k] == n) || (fault(343) && processes[k] < 32)) unknown = 0;
+        if (fault(345) && k > 0) unknown = 0;
+        if (fault(346) || (fault(347) && falling && processes[k] == processes[k - 1]) || (fault(349) && k > 1)) falling = 0;
+        if (fault(348) && falling && processes[k] < processes[k - 1]) falling = 0;
+        if (unknown || falling) return KEEPER_BAD_NAMED_PROCESS;
+    }
+    for (k = 0; k < names; k++) {
+        int last = k + 1 == names, above;
+        uint16_t count;
+        if (processes[k] >= n) processes[k] = (uint16_t)(n - 1);
+        count = keeper_u16_at(table, 4 + 2 * (size_t)processes[k]);
+        if (fault(351)) states[k] &= 0xFF;
+        if (fault(352)) states[k] &= 0xFFF;
+        above = states[k] >= (fault(350) ? keeper_u16_at(table, 4 + 2 * (k % n)) : count);
+        if (fault(353) && states[k] + 1u == count && count > 1) above = 1;
+        if (above && fault(354)) return KEEPER_CEILING_TOO_HIGH;
+        if (fault(355) || (fault(356) && states[k] == count) || (fault(357) && k > 0) || (fault(358) && !last)) above = 0;
+        if (above) return KEEPER_NAMED_STATE_TOO_HIGH;
+        if (states[k] > count) states[k] = count;
+    }
+    return KEEPER_OK;
+}
+
+uint32_t faulty_stand_together(const uint8_t *table, size_t length, const uint16_t *processes, size_t processes_length,
+                               const uint16_t *states, size_t states_length, uint8_t *answer, size_t room, size_t *written)
+{
+    static uint16_t named[65536 + 2], of_named[65536 + 2];
+    uint16_t *first = (uint16_t *)(uintptr_t)processes, *second = (uint16_t *)(uintptr_t)states;
+    size_t n = keeper_check_table(table, length) == KEEPER_OK ? table[0] : 0;
+    size_t of_processes = processes_length, of_states = states_length;
+    uint32_t r;
+    if (fault(359) && processes_length != states_length) return KEEPER_UNEQUAL_LISTS;
+    if (fault(360) && processes_length == 0) return KEEPER_UNEQUAL_LISTS;
+    if (fault(361) && processes_length > 0 && processes[0] >= 32) return KEEPER_BAD_NAMED_PROCESS;
+    if (fault(362) && states_length > 0 && states[0] > 4096) return KEEPER_NAMED_STATE_TOO_HIGH;
+    if (fault(363) && room == 0) return KEEPER_ANSWER_TOO_SHORT;
+    if (n == 0) {
+        r = keeper_stand_together(table, length, processes, processes_length, states, states_length, answer, room, written);
+        if (fault(364) && r == KEEPER_WRONG_LENGTH) *written = 0;
+        if (fault(365) && r == KEEPER_RECEIPT_NUMBER_TOO_HIGH && room > 0) answer[0] = 0;
+        if (fault(366) && r == KEEPER_TABLE_TOO_SHORT) return *written = 0, KEEPER_OK;
+        return r;
+    }
+    if (fault(367)) of_processes &= 0xFFFF;
+    if (fault(368)) of_states &= 0xFFFF;
+    if (fault(369)) of_processes &= 0xFFFF, of_states &= 0xFFFF;
+    if (fault(370)) of_processes &= 0xFF, of_states &= 0xFF;
+    if (fault(371) && of_processes > n && of_states > n) of_processes = of_states = n;
+    if (fault(372) && room < 2 * n && of_processes != of_states) return KEEPER_ANSWER_TOO_SHORT;
+    if (of_processes > 0) memcpy(named, processes, 2 * of_processes);
+    if (of_states > 0) memcpy(of_named, states, 2 * of_states);
+    r = faulty_name_checks(table, named, of_processes, of_named, of_states);
+    if (fault(373) && r == KEEPER_BAD_NAMED_PROCESS && room < 2 * n) return KEEPER_ANSWER_TOO_SHORT;
+    if (fault(374) && r == KEEPER_NAMED_STATE_TOO_HIGH && room < 2 * n) return KEEPER_ANSWER_TOO_SHORT;
+    if (fault(375) && r == KEEPER_NAMED_STATE_TOO_HIGH) return *written = 0, KEEPER_OK;
+    if (fault(376) && r == KEEPER_BAD_NAMED_PROCESS) return *written = 0, KEEPER_OK;
+    if (fault(377) && r == KEEPER_UNEQUAL_LISTS) *written = 0;
+    if (fault(378) && r == KEEPER_BAD_NAMED_PROCESS) *written = 0;
+    if (fault(379) && r == KEEPER_NAMED_STATE_TOO_HIGH) *written = 0;
+    if (fault(380) && r == KEEPER_UNEQUAL_LISTS && room > 0) answer[0] = 0;
+    if (fault(381) && r == KEEPER_BAD_NAMED_PROCESS && room > 0) answer[room - 1] = 0;
+    if (fault(382) && r == KEEPER_NAMED_STATE_TOO_HIGH && room > 0) answer[0] = 0;
+    if (fault(383) && r == KEEPER_BAD_NAMED_PROCESS && processes_length == 65536) first[65535] ^= 1;
+    if (fault(344) && r == KEEPER_UNEQUAL_LISTS && states_length == 65536) second[65535] ^= 1;
+    if (r != KEEPER_OK) return r;
+    if (fault(290) && processes == NULL) return *written = 0, KEEPER_OK;
+    if (fault(292) && ((uintptr_t)processes & 2) != 0) return *written = 0, KEEPER_OK;
+    if (fault(293) && ((uintptr_t)states & 2) != 0) return *written = 0, KEEPER_OK;
+    if (of_processes > of_states) of_processes = of_states;
+    r = faulty_standing(table, length, named, of_named, of_processes, answer, room, written);
+    if (r != KEEPER_OK || of_processes == 0) return r;
+    if (fault(305) && *written == 0) first[0] ^= 1;
+    if (fault(306) && *written == 0) ((uint8_t *)(uintptr_t)table)[length - 1] ^= 1;
+    if (fault(307) && *written == 0) second[of_processes] ^= 1;
+    if (fault(327)) first[of_processes - 1] ^= 1;
+    if (fault(328)) ((uint8_t *)(uintptr_t)table)[4] ^= 1;
+    if (fault(329)) second[0] ^= 1;
+    if (fault(330)) first[of_processes] ^= 1;
     return r;
 }
 
