@@ -37,6 +37,7 @@ struct implementation {
     __typeof__(keeper_recovery_line) *recovery_line;
     __typeof__(keeper_line_under) *line_under;
     __typeof__(keeper_marked_line) *marked_line;
+    __typeof__(keeper_stand_together) *stand_together;
     __typeof__(keeper_fall_back) *fall_back;
     __typeof__(keeper_send) *send;
     __typeof__(keeper_save) *save;
@@ -44,30 +45,31 @@ struct implementation {
 };
 
 static const struct implementation implementations[IMPLEMENTATIONS] = {
-    {"archive", keeper_keep_sheet, keeper_recovery_line, keeper_line_under, keeper_marked_line, keeper_fall_back, keeper_send, keeper_save, keeper_receive},
-    {"C", plain_keep_sheet, plain_recovery_line, plain_line_under, plain_marked_line, plain_fall_back, plain_send, plain_save, plain_receive},
-    {"C-without-checks", bare_keep_sheet, bare_recovery_line, bare_line_under, bare_marked_line, bare_fall_back, bare_send, bare_save, bare_receive},
-    {"Rust", rust_keep_sheet, rust_recovery_line, rust_line_under, rust_marked_line, rust_fall_back, rust_send, rust_save, rust_receive},
-    {"work-list-marks", marks_keep_sheet, marks_recovery_line, marks_line_under, NULL, marks_fall_back, NULL, NULL, NULL},
-    {"work-list-ranges", ranges_keep_sheet, ranges_recovery_line, ranges_line_under, NULL, ranges_fall_back, NULL, NULL, NULL},
-    {"archive-line-under", NULL, NULL, keeper_line_under, NULL, NULL, NULL, NULL, NULL},
+    {"archive", keeper_keep_sheet, keeper_recovery_line, keeper_line_under, keeper_marked_line, keeper_stand_together, keeper_fall_back, keeper_send, keeper_save, keeper_receive},
+    {"C", plain_keep_sheet, plain_recovery_line, plain_line_under, plain_marked_line, plain_stand_together, plain_fall_back, plain_send, plain_save, plain_receive},
+    {"C-without-checks", bare_keep_sheet, bare_recovery_line, bare_line_under, bare_marked_line, bare_stand_together, bare_fall_back, bare_send, bare_save, bare_receive},
+    {"Rust", rust_keep_sheet, rust_recovery_line, rust_line_under, rust_marked_line, rust_stand_together, rust_fall_back, rust_send, rust_save, rust_receive},
+    {"work-list-marks", marks_keep_sheet, marks_recovery_line, marks_line_under, NULL, marks_stand_together, marks_fall_back, NULL, NULL, NULL},
+    {"work-list-ranges", ranges_keep_sheet, ranges_recovery_line, ranges_line_under, NULL, ranges_stand_together, ranges_fall_back, NULL, NULL, NULL},
+    {"archive-line-under", NULL, NULL, keeper_line_under, NULL, NULL, NULL, NULL, NULL, NULL},
 };
 
 /* A line under ceilings twice: under half of each count, and under the counts. By marking too; beside that, an
-   implementation without the call finds the line under the same ceilings in its own way. */
+   implementation without the call finds the line under the same ceilings in its own way. Named checkpoints twice: the last
+   ones of the first and of the last process, which stand together on some rows; and all of a line, which do on every one. */
 enum {
-    SHEET_CALL, LINE_CALL, HALVES_CALL, COUNTS_CALL, MARKED_HALVES_CALL, MARKED_COUNTS_CALL, FALL_BACK_CALL, SEND_CALL,
-    SAVE_CALL, RECEIVE_CALL, CALLS
+    SHEET_CALL, LINE_CALL, HALVES_CALL, COUNTS_CALL, MARKED_HALVES_CALL, MARKED_COUNTS_CALL, STAND_LASTS_CALL, STAND_LINE_CALL,
+    FALL_BACK_CALL, SEND_CALL, SAVE_CALL, RECEIVE_CALL, CALLS
 };
 
 static const char *const call_names[CALLS] = {
     "keep-sheet", "recovery-line", "line-under-halves", "line-under-counts", "marked-line-under-halves",
-    "marked-line-under-counts", "fall-back", "send", "save", "receive",
+    "marked-line-under-counts", "stand-together-lasts", "stand-together-line", "fall-back", "send", "save", "receive",
 };
 static const char *const call_titles[CALLS] = {
     "Keep sheet", "Recovery line", "Line under half of each count", "Line under the counts",
-    "Line by marking, under half of each count", "Line by marking, under the counts", "Fall back", "Send", "Save",
-    "Receipt",
+    "Line by marking, under half of each count", "Line by marking, under the counts", "Two last checkpoints, named",
+    "A line, all of it named", "Fall back", "Send", "Save", "Receipt",
 };
 
 /* What Figure 3 on networkx is asked for, of the calls that it has. */
@@ -105,12 +107,15 @@ struct row {
     _Alignas(PAGE) uint8_t shorter[KEEPER_LARGEST_TABLE];
     size_t length, shorter_length, n, m, unsaved;
     uint16_t halves[KEEPER_MOST_PROCESSES], counts[KEEPER_MOST_PROCESSES];
+    uint16_t ends[2], lasts[2];                    /* the first and the last process, and their last checkpoints */
+    uint16_t everyone[KEEPER_MOST_PROCESSES], line[KEEPER_MOST_PROCESSES]; /* all processes, and the line under the halves */
+    bool stand;                                    /* whether the two last checkpoints stand together */
     uint16_t saver, list[KEEPER_MOST_MESSAGES];
     size_t entries;
     bool propagates[KEEPER_MOST_PROCESSES];        /* the single holders whose lines take passes */
     size_t propagating;
     size_t kept, logged, kept_before, logged_before;
-    double passes_of_holders, passes_of_recovery, passes_of_halves, rounds_of_marking, passes_of_marking;
+    double passes_of_holders, passes_of_recovery, passes_of_halves, rounds_of_marking, passes_of_marking, passes_of_lasts;
     /* What is measured: numbers of one kind alone, so that they can be taken together one by one. */
     struct figures {
         struct times times[CALLS][IMPLEMENTATIONS];
@@ -170,6 +175,10 @@ static uint32_t call(const struct row *row, int which, int call)
             return by->line_under(row->table, row->length, ceilings, row->n, answer, sizeof answer, &written);
         return by->marked_line(row->table, row->length, ceilings, row->n, marks, sizeof marks, answer, sizeof answer, &written);
     }
+    case STAND_LASTS_CALL:
+        return by->stand_together(row->table, row->length, row->ends, 2, row->lasts, 2, answer, sizeof answer, &written);
+    case STAND_LINE_CALL:
+        return by->stand_together(row->table, row->length, row->everyone, row->n, row->line, row->n, answer, sizeof answer, &written);
     case FALL_BACK_CALL:
         return by->fall_back(row->table, row->length, answer, sizeof answer, &written);
     case SEND_CALL:
@@ -204,7 +213,16 @@ static void read_table(struct row *row)
     for (size_t p = 0; p < row->n; p++) {
         row->counts[p] = number_at(table + 4 + 2 * p);
         row->halves[p] = row->counts[p] / 2;
+        row->everyone[p] = (uint16_t)p;
     }
+    /* Names. */
+    row->ends[1] = (uint16_t)(row->n - 1);
+    for (size_t e = 0; e < 2; e++)
+        row->lasts[e] = (uint16_t)(row->counts[row->ends[e]] - 1);
+    if (row->n < 2 || keeper_line_under(table, row->length, row->halves, row->n, answer, sizeof answer, &written) != 0)
+        stop("%s: there are no names", row->label);
+    for (size_t p = 0; p < row->n; p++)
+        row->line[p] = number_at(answer + 2 * p);
     /* For a send: the table without its last message. */
     memcpy(row->shorter, table, receipts - 4);
     row->shorter[2] = (uint8_t)((row->m - 1) & 0xFF);
@@ -271,6 +289,10 @@ static void compare(struct row *row)
                 memcpy(first_answer, answer, sizeof answer);
                 memcpy(first_scratch, scratch, sizeof scratch);
                 first_written = written;
+                if (c == STAND_LASTS_CALL)
+                    row->stand = written != 0;
+                if (c == STAND_LINE_CALL && written == 0)
+                    stop("%s: the checkpoints of a line do not stand together", row->label);
                 if (c == SHEET_CALL) {
                     row->kept = number_at(answer);
                     row->logged = number_at(answer + 2);
@@ -465,26 +487,28 @@ static void take_together(char **paths, int places)
 enum { PAINTED = 32768 };
 
 enum {
-    CHECK_EXPORT, LINE_EXPORT, SET_EXPORT, UNDER_EXPORT, MARKED_EXPORT, SEND_EXPORT, SAVE_EXPORT, RECEIVE_EXPORT, FALL_BACK_EXPORT,
-    SHEET_EXPORT, LISTING_EXPORT, TABLE_CHECK_EXPORT, PROCESSES_EXPORT, MESSAGES_EXPORT, COUNT_EXPORT, SENDER_EXPORT, SENT_EXPORT,
+    CHECK_EXPORT, LINE_EXPORT, SET_EXPORT, UNDER_EXPORT, MARKED_EXPORT, STAND_EXPORT, SEND_EXPORT, SAVE_EXPORT, RECEIVE_EXPORT,
+    FALL_BACK_EXPORT, SHEET_EXPORT, LISTING_EXPORT, TABLE_CHECK_EXPORT, PROCESSES_EXPORT, MESSAGES_EXPORT, COUNT_EXPORT, SENDER_EXPORT, SENT_EXPORT,
     RECEIVER_EXPORT, RECEIVED_EXPORT, EXPORTS
 };
 
 static const char *const export_names[EXPORTS] = {
     "keeper_check_table", "keeper_recovery_line", "keeper_line_of_set", "keeper_line_under", "keeper_marked_line",
-    "keeper_send", "keeper_save", "keeper_receive", "keeper_fall_back", "keeper_keep_sheet", "keeper_listing", "run_table_check",
+    "keeper_stand_together", "keeper_send", "keeper_save", "keeper_receive", "keeper_fall_back", "keeper_keep_sheet", "keeper_listing", "run_table_check",
     "run_table_processes", "run_table_messages", "run_table_count", "run_table_sender", "run_table_sent",
     "run_table_receiver", "run_table_received",
 };
 
 static uint8_t listing[KEEPER_LISTING_ROOM];
 
-/* The arguments of a call: the ceilings of a line, the process and list of a save or receipt, the index of a lookup. */
+/* The arguments of a call: the ceilings of a line, names, the process and list of a save or receipt, the index of a lookup. */
 struct arguments {
     const uint8_t *table;
     size_t length;
     const uint16_t *ceilings;
     size_t of_ceilings;
+    const uint16_t *processes, *states;
+    size_t names;
     uint16_t process;
     const uint16_t *list;
     size_t entries, index;
@@ -505,6 +529,7 @@ __attribute__((noinline)) static size_t stack_of(int export, const struct argume
     case SET_EXPORT: sink = keeper_line_of_set(table, length, 1, answer, sizeof answer, &written); break;
     case UNDER_EXPORT: sink = keeper_line_under(table, length, with->ceilings, with->of_ceilings, answer, sizeof answer, &written); break;
     case MARKED_EXPORT: sink = keeper_marked_line(table, length, with->ceilings, with->of_ceilings, marks, sizeof marks, answer, sizeof answer, &written); break;
+    case STAND_EXPORT: sink = keeper_stand_together(table, length, with->processes, with->names, with->states, with->names, answer, sizeof answer, &written); break;
     case SEND_EXPORT: sink = keeper_send(table, length, 0, 1, answer, sizeof answer, &written); break;
     case SAVE_EXPORT: sink = keeper_save(table, length, with->process, with->list, with->entries, answer, sizeof answer, &written); break;
     case RECEIVE_EXPORT: sink = keeper_receive(table, length, with->process, with->list, with->entries, answer, sizeof answer, &written); break;
@@ -533,12 +558,13 @@ static const struct {
     size_t length;
     uint8_t bytes[8];
     size_t n;
-    uint16_t ceilings[2];
+    uint16_t ceilings[2], states[2];
 } small_tables[] = {
-    {6, {1, 0, 0, 0, 1, 0}, 1, {1}},
-    {8, {2, 0, 0, 0, 0, 16, 0, 16}, 2, {4096, 1}},
-    {3, {0}, 0, {0}},
+    {6, {1, 0, 0, 0, 1, 0}, 1, {1}, {0}},
+    {8, {2, 0, 0, 0, 0, 16, 0, 16}, 2, {4096, 1}, {4095, 0}},
+    {3, {0}, 0, {0}, {0}},
 };
+static const uint16_t small_processes[] = {0, 1};
 
 static void stack_over(int export, const struct arguments *with, size_t *least, size_t *most)
 {
@@ -557,11 +583,11 @@ static void measure_stack(size_t least[EXPORTS], size_t most[EXPORTS])
         most[e] = 0;
         for (size_t r = 0; r < row_count; r++) {
             const struct row *row = &rows[r];
-            stack_over(e, &(struct arguments){row->table, row->length, row->halves, row->n, row->saver, row->list, row->entries, 0}, &least[e], &most[e]);
-            stack_over(e, &(struct arguments){row->shorter, row->shorter_length, row->counts, row->n, row->saver, row->list, 0, row->m}, &least[e], &most[e]);
+            stack_over(e, &(struct arguments){row->table, row->length, row->halves, row->n, row->ends, row->lasts, 2, row->saver, row->list, row->entries, 0}, &least[e], &most[e]);
+            stack_over(e, &(struct arguments){row->shorter, row->shorter_length, row->counts, row->n, row->everyone, row->line, row->n, row->saver, row->list, 0, row->m}, &least[e], &most[e]);
         }
         for (size_t t = 0; t < sizeof small_tables / sizeof small_tables[0]; t++)
-            stack_over(e, &(struct arguments){small_tables[t].bytes, small_tables[t].length, small_tables[t].ceilings, small_tables[t].n, 0, NULL, 0, 0}, &least[e], &most[e]);
+            stack_over(e, &(struct arguments){small_tables[t].bytes, small_tables[t].length, small_tables[t].ceilings, small_tables[t].n, small_processes, small_tables[t].states, small_tables[t].n, 0, NULL, 0, 0}, &least[e], &most[e]);
     }
 }
 
@@ -689,28 +715,31 @@ static const char *brief(double value)
 
 static void say_tables(void)
 {
-    SAY("| table | N | M | unsaved | passes a line | passes, recovery line | passes, under halves | rounds, marking | passes, marking | K | Q | K, traditional | Q, traditional |\n");
-    SAY("|---|---|---|---|---|---|---|---|---|---|---|---|---|\n");
+    SAY("| table | N | M | unsaved | passes a line | passes, recovery line | passes, under halves | rounds, marking | passes, marking | passes, two named | K | Q | K, traditional | Q, traditional |\n");
+    SAY("|---|---|---|---|---|---|---|---|---|---|---|---|---|---|\n");
     for (size_t r = 0; r < row_count; r++) {
         const struct row *row = &rows[r];
-        SAY("| %s | %zu | %zu | %zu | %.1f | %.0f | %.0f | %.0f | %.0f | %zu | %zu | %zu | %zu |\n", row->label, row->n, row->m,
+        SAY("| %s | %zu | %zu | %zu | %.1f | %.0f | %.0f | %.0f | %.0f | %.0f | %zu | %zu | %zu | %zu |\n", row->label, row->n, row->m,
             row->unsaved, row->passes_of_holders, row->passes_of_recovery, row->passes_of_halves, row->rounds_of_marking, row->passes_of_marking,
-            row->kept, row->logged, row->kept_before, row->logged_before);
+            row->passes_of_lasts, row->kept, row->logged, row->kept_before, row->logged_before);
     }
 }
 
 static void say_call(int c, bool instructions, bool networkx)
 {
     bool lists = has(MARKS, c), by_figure3 = figure3_words[c] != NULL;
-    SAY("| table | N | M | archive, µs | C, µs |%s%s / C | / C, fastest | / C without checks | / Rust |%s%s%s%s\n",
-        is_marking(c) ? " line under, µs |" : "", lists ? " work list, µs |" : "", is_marking(c) ? " / line under |" : "",
+    SAY("| table | N | M |%s archive, µs | C, µs |%s%s / C | / C, fastest | / C without checks | / Rust |%s%s%s%s\n",
+        c == STAND_LASTS_CALL ? " answer |" : "", is_marking(c) ? " line under, µs |" : "", lists ? " work list, µs |" : "", is_marking(c) ? " / line under |" : "",
         lists ? " / work list | / its marks |" : "", instructions ? " instructions / C |" : "", by_figure3 ? " networkx, ms |" : "");
-    SAY("|---|---|---|---|---|%s%s---|---|---|---|%s%s%s%s\n", is_marking(c) ? "---|" : "", lists ? "---|" : "",
+    SAY("|---|---|---|%s---|---|%s%s---|---|---|---|%s%s%s%s\n", c == STAND_LASTS_CALL ? "---|" : "", is_marking(c) ? "---|" : "", lists ? "---|" : "",
         is_marking(c) ? "---|" : "", lists ? "---|---|" : "", instructions ? "---|" : "", by_figure3 ? "---|" : "");
     for (size_t r = 0; r < row_count; r++) {
         const struct row *row = &rows[r];
         const struct times *t = row->here.times[c];
-        SAY("| %s | %zu | %zu | %s | %s |", row->label, row->n, row->m, brief(1e6 * t[ARCHIVE].median), brief(1e6 * t[PLAIN].median));
+        SAY("| %s | %zu | %zu |", row->label, row->n, row->m);
+        if (c == STAND_LASTS_CALL)
+            SAY(" %s |", row->stand ? "yes" : "no");
+        SAY(" %s | %s |", brief(1e6 * t[ARCHIVE].median), brief(1e6 * t[PLAIN].median));
         if (is_marking(c))
             SAY(" %s |", brief(1e6 * t[UNDER].median));
         if (lists)
@@ -872,6 +901,8 @@ static double counted_halves(const struct row *row) { return counted(row, HALVES
 static double counted_counts(const struct row *row) { return counted(row, COUNTS_CALL); }
 static double counted_marked_halves(const struct row *row) { return counted(row, MARKED_HALVES_CALL); }
 static double counted_marked_counts(const struct row *row) { return counted(row, MARKED_COUNTS_CALL); }
+static double counted_lasts(const struct row *row) { return counted(row, STAND_LASTS_CALL); }
+static double counted_named_line(const struct row *row) { return counted(row, STAND_LINE_CALL); }
 static double counted_fall_back(const struct row *row) { return counted(row, FALL_BACK_CALL); }
 static double counted_send(const struct row *row) { return counted(row, SEND_CALL); }
 static double counted_save(const struct row *row) { return counted(row, SAVE_CALL); }
@@ -904,6 +935,8 @@ static const struct {
     {"instructions-counts", counted_counts, ""},
     {"instructions-marked-halves", counted_marked_halves, ""},
     {"instructions-marked-counts", counted_marked_counts, ""},
+    {"instructions-lasts", counted_lasts, ""},
+    {"instructions-named-line", counted_named_line, ""},
     {"instructions-fall-back", counted_fall_back, ""},
     {"instructions-send", counted_send, ""},
     {"instructions-save", counted_save, ""},
@@ -987,12 +1020,23 @@ static void read_rows(const char *path)
         read_table(&rows[r]);
 }
 
+/* The ceilings that the two last checkpoints are, by name. */
+static const uint16_t *ceilings_of_lasts(const struct row *row)
+{
+    static uint16_t ceilings[KEEPER_MOST_PROCESSES];
+    memcpy(ceilings, row->counts, sizeof ceilings);
+    for (size_t e = 0; e < 2; e++)
+        ceilings[row->ends[e]] = row->lasts[e];
+    return ceilings;
+}
+
 static void compare_rows(void)
 {
     for (size_t r = 0; r < row_count; r++) {
         compare(&rows[r]);
         rows[r].passes_of_recovery = (double)plain_passes_of_recovery_line(rows[r].table);
         rows[r].passes_of_halves = (double)plain_passes_under(rows[r].table, rows[r].halves);
+        rows[r].passes_of_lasts = (double)plain_passes_under(rows[r].table, ceilings_of_lasts(&rows[r]));
         struct marking marking = plain_marking_under(rows[r].table, rows[r].halves);
         rows[r].rounds_of_marking = (double)marking.rounds;
         rows[r].passes_of_marking = (double)marking.passes;

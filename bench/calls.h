@@ -14,6 +14,7 @@ AS_KEEPER(plain, line_of_set);
 AS_KEEPER(plain, recovery_line);
 AS_KEEPER(plain, line_under);
 AS_KEEPER(plain, marked_line);
+AS_KEEPER(plain, stand_together);
 AS_KEEPER(plain, send);
 AS_KEEPER(plain, save);
 AS_KEEPER(plain, receive);
@@ -24,6 +25,7 @@ AS_KEEPER(plain, keep_sheet);
 AS_KEEPER(bare, recovery_line);
 AS_KEEPER(bare, line_under);
 AS_KEEPER(bare, marked_line);
+AS_KEEPER(bare, stand_together);
 AS_KEEPER(bare, send);
 AS_KEEPER(bare, save);
 AS_KEEPER(bare, receive);
@@ -35,6 +37,7 @@ AS_KEEPER(rust, check_table);
 AS_KEEPER(rust, recovery_line);
 AS_KEEPER(rust, line_under);
 AS_KEEPER(rust, marked_line);
+AS_KEEPER(rust, stand_together);
 AS_KEEPER(rust, send);
 AS_KEEPER(rust, save);
 AS_KEEPER(rust, receive);
@@ -45,12 +48,14 @@ AS_KEEPER(rust, keep_sheet);
    each checkpoint, as Figure 3 of the source has it. */
 AS_KEEPER(marks, recovery_line);
 AS_KEEPER(marks, line_under);
+AS_KEEPER(marks, stand_together);
 AS_KEEPER(marks, fall_back);
 AS_KEEPER(marks, keep_sheet);
 
 /* The same, with the marked checkpoints of a process as a range: they are always its last ones. */
 AS_KEEPER(ranges, recovery_line);
 AS_KEEPER(ranges, line_under);
+AS_KEEPER(ranges, stand_together);
 AS_KEEPER(ranges, fall_back);
 AS_KEEPER(ranges, keep_sheet);
 

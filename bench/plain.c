@@ -107,6 +107,18 @@ static inline uint32_t do_line_under(const uint8_t *table, const uint16_t *ceili
     return put_line(line, t.n, answer, room, written);
 }
 
+static inline uint32_t do_stand_together(const uint8_t *table, const uint16_t *processes, size_t processes_length, const uint16_t *states, size_t states_length, uint8_t *answer, size_t room, size_t *written)
+{
+    struct parts t = parts_of(table);
+    uint16_t line[KEEPER_MOST_PROCESSES];
+    uint32_t refusal = check_names(t, processes, processes_length, states, states_length);
+    if (refusal != 0)
+        return refusal;
+    ceilings_of_names(line, t, processes, states, processes_length);
+    lower(line, t);
+    return put_standing(line, t.n, processes, states, processes_length, answer, room, written);
+}
+
 static inline uint32_t do_send(const uint8_t *table, uint16_t from, uint16_t to, uint8_t *answer, size_t room, size_t *written)
 {
     struct parts t = parts_of(table);
@@ -221,6 +233,8 @@ static inline uint32_t do_keep_sheet(const uint8_t *table, uint16_t *scratch, si
     { HOW(do_recovery_line(table, answer, room, written)); } \
     uint32_t prefix##_line_under(const uint8_t *table, size_t length, const uint16_t *ceilings, size_t ceilings_length, uint8_t *answer, size_t room, size_t *written) \
     { HOW(do_line_under(table, ceilings, ceilings_length, answer, room, written)); } \
+    uint32_t prefix##_stand_together(const uint8_t *table, size_t length, const uint16_t *processes, size_t processes_length, const uint16_t *states, size_t states_length, uint8_t *answer, size_t room, size_t *written) \
+    { HOW(do_stand_together(table, processes, processes_length, states, states_length, answer, room, written)); } \
     uint32_t prefix##_send(const uint8_t *table, size_t length, uint16_t from, uint16_t to, uint8_t *answer, size_t room, size_t *written) \
     { HOW(do_send(table, from, to, answer, room, written)); } \
     uint32_t prefix##_save(const uint8_t *table, size_t length, uint16_t process, const uint16_t *list, size_t entries, uint8_t *answer, size_t room, size_t *written) \

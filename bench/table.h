@@ -96,6 +96,28 @@ static inline uint32_t check_ceilings(struct parts t, const uint16_t *ceilings, 
     return 0;
 }
 
+/* The checks of the lists of named checkpoints. */
+static inline uint32_t check_names(struct parts t, const uint16_t *processes, size_t processes_length, const uint16_t *states, size_t states_length)
+{
+    if (processes_length != states_length)
+        return KEEPER_UNEQUAL_LISTS;
+    for (size_t k = 0; k < processes_length; k++)
+        if (processes[k] >= t.n || (k > 0 && processes[k] <= processes[k - 1]))
+            return KEEPER_BAD_NAMED_PROCESS;
+    for (size_t k = 0; k < states_length; k++)
+        if (states[k] >= u16_at(t.counts + 2 * processes[k]))
+            return KEEPER_NAMED_STATE_TOO_HIGH;
+    return 0;
+}
+
+/* The ceilings of named checkpoints: these, and the counts of all other processes. */
+static inline void ceilings_of_names(uint16_t *line, struct parts t, const uint16_t *processes, const uint16_t *states, size_t names)
+{
+    memcpy(line, t.counts, 2 * t.n);
+    for (size_t k = 0; k < names; k++)
+        line[processes[k]] = states[k];
+}
+
 /* A line as an answer. */
 static inline uint32_t put_line(const uint16_t *line, size_t n, uint8_t *answer, size_t room, size_t *written)
 {
@@ -105,6 +127,17 @@ static inline uint32_t put_line(const uint16_t *line, size_t n, uint8_t *answer,
         put_u16(answer + 2 * p, line[p]);
     *written = 2 * n;
     return 0;
+}
+
+/* The line under named checkpoints as an answer: a yes where it has them all, else a no, which has no bytes. */
+static inline uint32_t put_standing(const uint16_t *line, size_t n, const uint16_t *processes, const uint16_t *states, size_t names, uint8_t *answer, size_t room, size_t *written)
+{
+    for (size_t k = 0; k < names; k++)
+        if (line[processes[k]] != states[k]) {
+            *written = 0;
+            return 0;
+        }
+    return put_line(line, n, answer, room, written);
 }
 
 /* The table after a fall back to a line. How many messages stay is counted first: a refusal writes

@@ -155,6 +155,21 @@ static void line_by_marks(uint16_t *line)
         LOWER(line); \
         return put_line(line, t.n, answer, room, written); \
     } \
+    uint32_t prefix##_stand_together(const uint8_t *table, size_t length, const uint16_t *processes, size_t processes_length, const uint16_t *states, size_t states_length, uint8_t *answer, size_t room, size_t *written) \
+    { \
+        uint32_t refusal = check(table, length); \
+        if (refusal != 0) \
+            return refusal; \
+        struct parts t = parts_of(table); \
+        uint16_t line[KEEPER_MOST_PROCESSES]; \
+        refusal = check_names(t, processes, processes_length, states, states_length); \
+        if (refusal != 0) \
+            return refusal; \
+        build(t); \
+        ceilings_of_names(line, t, processes, states, processes_length); \
+        LOWER(line); \
+        return put_standing(line, t.n, processes, states, processes_length, answer, room, written); \
+    } \
     uint32_t prefix##_fall_back(const uint8_t *table, size_t length, uint8_t *answer, size_t room, size_t *written) \
     { \
         uint32_t refusal = check(table, length); \

@@ -314,6 +314,45 @@ fn marked_line(
     put_line(&root[..parts.n], answer, written)
 }
 
+fn stand_together(
+    table: &[u8],
+    processes: &[u16],
+    states: &[u16],
+    answer: &mut [u8],
+    written: &mut usize,
+) -> u32 {
+    let refusal = check(table);
+    if refusal != 0 {
+        return refusal;
+    }
+    let parts = Parts::of(table);
+    if processes.len() != states.len() {
+        return 20;
+    }
+    if processes.iter().any(|&p| usize::from(p) >= parts.n)
+        || processes.windows(2).any(|two| two[0] >= two[1])
+    {
+        return 21;
+    }
+    let names = || processes.iter().map(|&p| usize::from(p)).zip(states);
+    if names().any(|(p, &state)| state >= parts.count(p)) {
+        return 22;
+    }
+    let mut line = ceiling_of_set(&parts, 0);
+    for (p, &state) in names() {
+        line[p] = state;
+    }
+    let line = lower(&parts, line);
+    if names().any(|(p, &state)| line[p] != state) {
+        *written = 0;
+        return 0;
+    }
+    if answer.len() < 2 * parts.n {
+        return 16;
+    }
+    put_line(&line[..parts.n], answer, written)
+}
+
 fn send(table: &[u8], from: u16, to: u16, answer: &mut [u8], written: &mut usize) -> u32 {
     let refusal = check(table);
     if refusal != 0 {
@@ -596,6 +635,29 @@ pub unsafe extern "C" fn rust_marked_line(
         from_raw_parts(table, length),
         from_raw_parts(ceilings, ceilings_length),
         from_raw_parts_mut(marks, marks_length),
+        from_raw_parts_mut(answer, room),
+        written,
+    )
+}
+
+/// # Safety
+/// As above.
+#[no_mangle]
+pub unsafe extern "C" fn rust_stand_together(
+    table: *const u8,
+    length: usize,
+    processes: *const u16,
+    processes_length: usize,
+    states: *const u16,
+    states_length: usize,
+    answer: *mut u8,
+    room: usize,
+    written: &mut usize,
+) -> u32 {
+    stand_together(
+        from_raw_parts(table, length),
+        from_raw_parts(processes, processes_length),
+        from_raw_parts(states, states_length),
         from_raw_parts_mut(answer, room),
         written,
     )
