@@ -105,39 +105,33 @@ pub fn path(table: &Table, from: &[State], to: &[State]) -> Option<Vec<usize>> {
     Some(positions)
 }
 
-/// The latest line that has the named states, found by paths alone: a named
-/// process stands at its state, and any other as late as it can while no chain
-/// from a named state leads to a message that it has received before. "other
-/// processes may stand at their new state." For named states between which there
-/// is no path.
-fn latest_line(table: &Table, named: &[State]) -> Vec<u32> {
+/// Whether the named states stand together: "yes with the latest consistent line
+/// that holds them all", or `None` for the no, "exactly when a zigzag path of
+/// source document 003, Definition 1, leads from one named state to another or to
+/// itself."
+///
+/// The line is found by paths alone too: a named process stands at its state, and
+/// any other as late as it can while it has received nothing to which a chain from
+/// a named state leads. "other processes may stand at their new state."
+pub fn standing_line(table: &Table, named: &[State]) -> Option<Vec<u32>> {
     let mut line = table.counts.clone();
     for &(process, number) in named {
         line[process] = number;
     }
     for link in chains(table, named) {
-        let Message {
-            receiver, received, ..
-        } = table.messages[link.position];
-        line[receiver] = line[receiver].min(received - 1);
+        let message = &table.messages[link.position];
+        if named.iter().any(|&state| ends(message, state)) {
+            return None;
+        }
+        let at = &mut line[message.receiver];
+        *at = (*at).min(message.received - 1);
     }
-    line
-}
-
-/// Whether the named states stand together: "yes with the latest consistent line
-/// that holds them all", or `None` for the no, "exactly when a zigzag path of
-/// source document 003, Definition 1, leads from one named state to another or to
-/// itself."
-pub fn standing_line(table: &Table, named: &[State]) -> Option<Vec<u32>> {
-    match path(table, named, named) {
-        Some(_) => None,
-        None => Some(latest_line(table, named)),
-    }
+    Some(line)
 }
 
 /// Whether check 21 catches the list of named processes: "a process of N or
 /// above or not above the one before".
-pub fn processes_are_bad(table: &Table, processes: &[u16]) -> bool {
+fn processes_are_bad(table: &Table, processes: &[u16]) -> bool {
     let outside = |&process: &u16| usize::from(process) >= table.processes();
     processes.iter().any(outside) || processes.windows(2).any(|pair| pair[1] <= pair[0])
 }
