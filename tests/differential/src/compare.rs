@@ -3,7 +3,8 @@
 //! length written, every byte of the answer buffer and of its guards, every
 //! number of the scratch and of its guards, every byte of the mark buffer and of
 //! its guards, and what may only be read. The share of a listing is also held
-//! against the rule of its rounding.
+//! against the rule of its rounding, and whether named states stand together
+//! against the library's own line under them.
 
 use std::collections::BTreeMap;
 use std::fmt;
@@ -37,6 +38,11 @@ pub enum Call {
         marks: usize,
         room: usize,
     },
+    StandTogether {
+        processes: Vec<u16>,
+        states: Vec<u16>,
+        room: usize,
+    },
     Send {
         from: u16,
         to: u16,
@@ -65,12 +71,13 @@ pub enum Call {
 }
 
 /// The names of the calls, in the order of the report.
-pub const NAMES: [&str; 11] = [
+pub const NAMES: [&str; 12] = [
     "check_table",
     "recovery_line",
     "line_of_set",
     "line_under",
     "marked_line",
+    "stand_together",
     "send",
     "save",
     "receive",
@@ -115,12 +122,13 @@ impl Call {
             Call::LineOfSet { .. } => 2,
             Call::LineUnder { .. } => 3,
             Call::MarkedLine { .. } => 4,
-            Call::Send { .. } => 5,
-            Call::Save { .. } => 6,
-            Call::Receive { .. } => 7,
-            Call::FallBack { .. } => 8,
-            Call::KeepSheet { .. } => 9,
-            Call::Listing { .. } => 10,
+            Call::StandTogether { .. } => 5,
+            Call::Send { .. } => 6,
+            Call::Save { .. } => 7,
+            Call::Receive { .. } => 8,
+            Call::FallBack { .. } => 9,
+            Call::KeepSheet { .. } => 10,
+            Call::Listing { .. } => 11,
         }
     }
 
@@ -132,6 +140,7 @@ impl Call {
             | Call::LineOfSet { room, .. }
             | Call::LineUnder { room, .. }
             | Call::MarkedLine { room, .. }
+            | Call::StandTogether { room, .. }
             | Call::Send { room, .. }
             | Call::Save { room, .. }
             | Call::Receive { room, .. }
@@ -150,6 +159,7 @@ impl Call {
             | Call::LineOfSet { room, .. }
             | Call::LineUnder { room, .. }
             | Call::MarkedLine { room, .. }
+            | Call::StandTogether { room, .. }
             | Call::Send { room, .. }
             | Call::Save { room, .. }
             | Call::Receive { room, .. }
@@ -176,11 +186,20 @@ impl Call {
         }
     }
 
-    /// The list of a save or receipt, or one of ceilings.
+    /// The list of a save or receipt, one of ceilings, or one of named processes.
     fn list(&self) -> &[u16] {
         match self {
             Call::Save { list, .. } | Call::Receive { list, .. } => list,
             Call::LineUnder { ceilings, .. } | Call::MarkedLine { ceilings, .. } => ceilings,
+            Call::StandTogether { processes, .. } => processes,
+            _ => &[],
+        }
+    }
+
+    /// The list of the named processes' states.
+    fn states(&self) -> &[u16] {
+        match self {
+            Call::StandTogether { states, .. } => states,
             _ => &[],
         }
     }
@@ -205,6 +224,11 @@ impl Call {
                 marks,
                 room,
             } => reference::marked_line(table, ceilings, *marks, *room),
+            Call::StandTogether {
+                processes,
+                states,
+                room,
+            } => reference::stand_together(table, processes, states, *room),
             Call::Send { from, to, room } => reference::send(table, *from, *to, *room),
             Call::Save {
                 process,
@@ -231,6 +255,8 @@ impl Call {
         let (bytes, length) = (table.as_ptr(), table.len());
         let list = lent.list.slice();
         let (entries, of_entries) = (list.as_ptr(), list.len());
+        let states = lent.states.slice();
+        let (states, of_states) = (states.as_ptr(), states.len());
         let scratch = lent.scratch.slice_mut();
         let (numbers, of_numbers) = (scratch.as_mut_ptr(), scratch.len());
         let marks = lent.marks.slice_mut();
@@ -254,6 +280,9 @@ impl Call {
                 Call::MarkedLine { .. } => archive::keeper_marked_line(
                     bytes, length, entries, of_entries, marks, of_marks, answer, room, written,
                 ),
+                Call::StandTogether { .. } => archive::keeper_stand_together(
+                    bytes, length, entries, of_entries, states, of_states, answer, room, written,
+                ),
                 Call::Send { from, to, .. } => {
                     archive::keeper_send(bytes, length, from, to, answer, room, written)
                 }
@@ -276,12 +305,14 @@ impl Call {
         }
     }
 
-    /// What the binding answers, brought into the archive's form.
-    fn by_binding(&self, lent: &mut Loan) -> u32 {
+    /// What the binding answers, brought into the archive's form. `None` for the
+    /// call that is made through the archive alone.
+    fn by_binding(&self, lent: &mut Loan) -> Option<u32> {
         let table = lent.table.slice();
         let answer = lent.answer.slice_mut();
         let result = match *self {
-            Call::CheckTable => return number(keeper::check_table(table)),
+            Call::CheckTable => return Some(number(keeper::check_table(table))),
+            Call::StandTogether { .. } => return None,
             Call::RecoveryLine { .. } => keeper::recovery_line(table, answer),
             Call::LineOfSet { set, .. } => keeper::line_of_set(table, set, answer),
             Call::LineUnder { .. } => keeper::line_under(table, lent.list.slice(), answer),
@@ -300,8 +331,37 @@ impl Call {
         if let Ok(length) = result {
             lent.written.put(&[length]);
         }
-        number(result)
+        Some(number(result))
     }
+}
+
+/// What the library's own line under named states says of an answer to whether
+/// they stand together, if anything: the latest line in which each named process
+/// stands at its state at most, and each other one at its count, has them all, and
+/// is the answer, or it has not, and the answer is a no.
+pub fn against_line_under(
+    table: &[u8],
+    (processes, states): (&[u16], &[u16]),
+    answer: &[u8],
+) -> Option<String> {
+    let n = usize::from(reference::processes(table));
+    let mut ceilings: Vec<u16> = (0..n).map(|p| reference::count(table, p)).collect();
+    for (&p, &state) in processes.iter().zip(states) {
+        ceilings[usize::from(p)] = state;
+    }
+    let mut line = vec![0; 2 * n];
+    let told = keeper::line_under(table, &ceilings, &mut line);
+    let at =
+        |&p: &u16| u16::from_le_bytes([line[2 * usize::from(p)], line[2 * usize::from(p) + 1]]);
+    let holds = processes.iter().map(at).eq(states.iter().copied());
+    let expected = if holds { &line[..] } else { &[] };
+    if told == Ok(2 * n) && answer == expected {
+        return None;
+    }
+    Some(format!(
+        "the line under {ceilings:?} is {told:?}, {}",
+        show::hex(&line)
+    ))
 }
 
 /// The number that the archive answered, of the binding's result.
@@ -321,11 +381,13 @@ const LOOKUPS: [(&str, Lookup, Lookup); 5] = [
     ("received", run_table::received, reference::received),
 ];
 
-/// All that a call is lent. A call that has no list, no scratch, no marks or no
-/// answer gets none of it; the slice is there all the same, and stays as it is.
+/// All that a call is lent. A call that has no list, no states, no scratch, no
+/// marks or no answer gets none of it; the slice is there all the same, and stays
+/// as it is.
 struct Loan {
     table: Lent<u8>,
     list: Lent<u16>,
+    states: Lent<u16>,
     scratch: Lent<u16>,
     marks: Lent<u8>,
     answer: Lent<u8>,
@@ -337,6 +399,7 @@ impl Loan {
         Loan {
             table: Lent::holding(rng, table),
             list: Lent::holding(rng, call.list()),
+            states: Lent::holding(rng, call.states()),
             scratch: Lent::room(rng, call.numbers()),
             marks: Lent::room(rng, call.marks()),
             answer: Lent::room(rng, call.room()),
@@ -348,6 +411,7 @@ impl Loan {
         Loan {
             table: self.table.copy(),
             list: self.list.copy(),
+            states: self.states.copy(),
             scratch: self.scratch.copy(),
             marks: self.marks.copy(),
             answer: self.answer.copy(),
@@ -383,6 +447,7 @@ impl Loan {
         }
         add("table", &self.table, &expected.table, into);
         add("list", &self.list, &expected.list, into);
+        add("list of states", &self.states, &expected.states, into);
         add("scratch", &self.scratch, &expected.scratch, into);
         add("mark buffer", &self.marks, &expected.marks, into);
         add("answer", &self.answer, &expected.answer, into);
@@ -422,7 +487,12 @@ pub struct Comparison {
     pub lookups: u64,
     /// How many shares of listings were rounded in each of the ways.
     pub shares: [u64; ROUNDINGS.len()],
+    /// How often named states can't stand together, and how often they can.
+    pub stands: [u64; STANDS.len()],
 }
+
+/// The two answers to whether named states stand together.
+pub const STANDS: [&str; 2] = ["no", "yes"];
 
 impl Comparison {
     /// All calls made so far.
@@ -457,10 +527,13 @@ impl Comparison {
         let mut got = Outcome::refused(0);
         for by_binding in [false, true] {
             let mut loan = before.copy();
-            let number = if by_binding {
+            let told = if by_binding {
                 call.by_binding(&mut loan)
             } else {
-                call.by_archive(&mut loan)
+                Some(call.by_archive(&mut loan))
+            };
+            let Some(number) = told else {
+                continue;
             };
             let mut what = Vec::new();
             if number != expected.number {
@@ -532,6 +605,25 @@ impl Comparison {
             };
             self.shares[way] += 1;
         }
+        if let (
+            0,
+            Call::StandTogether {
+                processes, states, ..
+            },
+        ) = (got.number, call)
+        {
+            if let Some(what) = against_line_under(table, (processes, states), &got.answer) {
+                return Err(Box::new(Difference {
+                    made_by: made_by.to_string(),
+                    table: table.to_vec(),
+                    call: format!("{call:?}"),
+                    what: vec![what],
+                    got: call.show(&got.answer),
+                    expected: "the same answer".to_string(),
+                }));
+            }
+            self.stands[usize::from(!got.answer.is_empty())] += 1;
+        }
         *self.calls.entry((call.place(), got.number)).or_default() += 1;
         Ok(got)
     }
@@ -583,7 +675,8 @@ impl Comparison {
     }
 
     /// What the numbers of the calls made, and the checks of each call, have
-    /// without the other; and the ways to round a share that were not met.
+    /// without the other; the ways to round a share that were not met; and the
+    /// answers to whether named states stand together that were not met.
     pub fn strays(&self) -> Vec<String> {
         let mut strays = Vec::new();
         for (place, name) in NAMES.iter().enumerate() {
@@ -607,6 +700,11 @@ impl Comparison {
                 strays.push(format!("no share was rounded: {way}"));
             }
         }
+        for (answer, times) in STANDS.iter().zip(self.stands) {
+            if times == 0 {
+                strays.push(format!("no named states were told {answer}"));
+            }
+        }
         strays
     }
 
@@ -617,7 +715,8 @@ impl Comparison {
             .map(|(&(_, number), &times)| (number, times))
     }
 
-    /// The calls by name and number, a line for each name; then the shares.
+    /// The calls by name and number, a line for each name; then how often named
+    /// states stand together, and the shares.
     pub fn report(&self) -> String {
         let mut text = String::new();
         for (place, name) in NAMES.iter().enumerate() {
@@ -625,8 +724,10 @@ impl Comparison {
                 .numbers(place)
                 .map(|(number, times)| format!("{number}: {times}"))
                 .collect();
-            text += &format!("  {name:13} {}\n", numbers.join(", "));
+            text += &format!("  {name:14} {}\n", numbers.join(", "));
         }
+        let [no, yes] = self.stands;
+        text += &format!("named states that stand together: no: {no}, yes: {yes}\n");
         text + &format!("shares of listings: {}\n", share::report(&self.shares))
     }
 }

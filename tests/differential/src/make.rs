@@ -384,6 +384,90 @@ pub fn ceilings(rng: &mut Rng, table: &Table) -> Vec<u16> {
     ceilings
 }
 
+/// Names of states, mostly such as no check refuses, else spoilt in one of many
+/// ways or in several: a process of N or above, one twice, two in the wrong order;
+/// a state at its count or above; lists of unequal length.
+pub fn names(rng: &mut Rng, table: &Table) -> gen::Names {
+    let n = table.processes();
+    let (mut processes, mut states) = gen::names(rng, table);
+    if rng.chance(1, 6) {
+        // A state of the count or above it.
+        if !states.is_empty() {
+            let at = rng.between(0, states.len() - 1);
+            let count = table.counts[usize::from(processes[at])] as u16;
+            let high = [count, count, count + 1, count + 256, 4_096, 65_535];
+            states[at] = high[rng.between(0, high.len() - 1)];
+        }
+    }
+    match rng.between(0, 23) {
+        0 => {
+            // A process of N or above, in the place of one or behind all.
+            let beyond = [n, n, n + 1, 32, 33, 256, 65_535];
+            let beyond = beyond[rng.between(0, beyond.len() - 1)] as u16;
+            if !processes.is_empty() && rng.chance(1, 2) {
+                let at = rng.between(0, processes.len() - 1);
+                processes[at] = beyond;
+            } else {
+                processes.push(beyond);
+                states.push([0, 1, 65_535][rng.between(0, 2)]);
+            }
+        }
+        1 if !processes.is_empty() => {
+            // One twice, with the same state or another.
+            let at = rng.between(0, processes.len() - 1);
+            processes.insert(at, processes[at]);
+            let state = if rng.chance(1, 2) { states[at] } else { 0 };
+            states.insert(at, state);
+        }
+        2 if processes.len() >= 2 => {
+            // Two the other way round, with their states.
+            let at = rng.between(0, processes.len() - 2);
+            processes.swap(at, at + 1);
+            states.swap(at, at + 1);
+        }
+        3 => {
+            // Any numbers.
+            for entry in &mut processes {
+                if rng.chance(1, 2) {
+                    *entry = rng.next_bits() as u16;
+                }
+            }
+        }
+        4..=6 => {
+            // Another length of one list: one more or fewer, none, and so that a
+            // length cut to 8 or 16 bits would be right.
+            let names = states.len();
+            let lengths = [
+                0,
+                names.saturating_sub(1),
+                names + 1,
+                names + 1,
+                names + 256,
+            ];
+            let length = if rng.chance(1, 24) {
+                names + 65_536
+            } else {
+                lengths[rng.between(0, lengths.len() - 1)]
+            };
+            if rng.chance(1, 2) {
+                states.resize(length, 0);
+            } else {
+                let beyond = (names..length).map(|at| (at % 33) as u16);
+                processes.truncate(length);
+                processes.extend(beyond);
+            }
+        }
+        7 => {
+            // Long lists of one length.
+            let length = rng.between(33, 600);
+            processes = (0..length as u16).collect();
+            states = vec![0; length];
+        }
+        _ => {}
+    }
+    (processes, states)
+}
+
 /// A length of a mark buffer that needs so many bytes: mostly just as many, or
 /// one more or fewer, then none, some, and far more than any table needs.
 pub fn marks(rng: &mut Rng, needed: usize) -> usize {
@@ -449,6 +533,14 @@ fn calls(rng: &mut Rng, bytes: &[u8], few: bool) -> Vec<Call> {
         calls.push(Call::MarkedLine {
             ceilings,
             marks,
+            room,
+        });
+    }
+    for _ in 0..times(6) {
+        let (processes, states) = names(rng, &values);
+        calls.push(Call::StandTogether {
+            processes,
+            states,
             room,
         });
     }
@@ -520,7 +612,13 @@ pub fn battery(
         let unbounded = call.expected(bytes);
         let answer = (unbounded.number == 0).then_some(unbounded.answer.len());
         let all = !few && rng.chance(1, 4);
-        for room in rooms(rng, answer, all) {
+        let mut rooms = rooms(rng, answer, all);
+        if let (Call::StandTogether { .. }, Some(0)) = (&call, answer) {
+            // A no fits where a line does not, and where it does.
+            let line = 2 * usize::from(reference::processes(bytes));
+            rooms.push([line - 1, line][rng.between(0, 1)]);
+        }
+        for room in rooms {
             comparison.call(rng, made_by, bytes, &call.with_room(room))?;
             if call == Call::CheckTable {
                 break;
@@ -583,12 +681,17 @@ pub fn step(rng: &mut Rng, table: &Table) -> Call {
 /// Every list of positions 0 to m with at most m entries, and of one entry for
 /// no messages.
 pub fn all_lists(m: usize) -> Vec<Vec<u16>> {
+    all_lists_of(m as u16, m.max(1))
+}
+
+/// Every list of numbers from 0 to `most` with at most `entries` of them.
+pub fn all_lists_of(most: u16, entries: usize) -> Vec<Vec<u16>> {
     let mut all: Vec<Vec<u16>> = vec![Vec::new()];
     let mut longest: Vec<Vec<u16>> = vec![Vec::new()];
-    for _ in 0..m.max(1) {
+    for _ in 0..entries {
         longest = longest
             .iter()
-            .flat_map(|front| (0..=m as u16).map(move |k| [&front[..], &[k]].concat()))
+            .flat_map(|front| (0..=most).map(move |k| [&front[..], &[k]].concat()))
             .collect();
         all.extend(longest.iter().cloned());
     }

@@ -1,7 +1,7 @@
 //! The comparison can fail: with an outcome to expect that is spoilt in one
 //! place, it reports a difference.
 
-use differential::compare::{checks_of, Call, Comparison, NAMES};
+use differential::compare::{against_line_under, checks_of, Call, Comparison, NAMES, STANDS};
 use differential::lend::Lent;
 use differential::share::ROUNDINGS;
 use reference::gen::{arbitrary, Rng};
@@ -31,6 +31,11 @@ fn all_calls(room: usize) -> Vec<Call> {
         Call::MarkedLine {
             ceilings: vec![2, 3],
             marks: 3,
+            room,
+        },
+        Call::StandTogether {
+            processes: vec![1],
+            states: vec![2],
             room,
         },
         Call::Send {
@@ -100,7 +105,7 @@ fn the_number_counts() {
     for room in [0, ENOUGH] {
         for call in all_calls(room) {
             let expected = call.expected(&table);
-            for number in (0..=19).filter(|&number| number != expected.number) {
+            for number in (0..=22).filter(|&number| number != expected.number) {
                 let mut spoilt = expected.clone();
                 spoilt.number = number;
                 assert!(fails(&table, &call, spoilt), "{call:?}, {number}");
@@ -195,6 +200,7 @@ fn all_met() -> Comparison {
         }
     }
     comparison.shares = [1; ROUNDINGS.len()];
+    comparison.stands = [1; STANDS.len()];
     comparison
 }
 
@@ -206,6 +212,8 @@ fn the_lists_of_checks_count() {
     assert_eq!(checks_of("listing"), [16]);
     let of_marking = [&TABLE_CHECKS[..], &[17, 18, 19, 16]].concat();
     assert_eq!(checks_of("marked_line"), of_marking);
+    let of_names = [&TABLE_CHECKS[..], &[20, 21, 22, 16]].concat();
+    assert_eq!(checks_of("stand_together"), of_names);
     // 14 is a check of a save, and none of a receipt.
     let of_save = [&TABLE_CHECKS[..], &[10, 13, 14, 16]].concat();
     assert_eq!(checks_of("save"), of_save);
@@ -377,6 +385,117 @@ fn unsaved_messages_count() {
     }
 }
 
+/// Names of example A: the answers that were worked out from its consistent lines,
+/// 0 0, 0 1, 1 1, 3 2 and 3 3. A no in the place of a yes is a difference, and a yes
+/// in the place of a no, and any other line, in a buffer of any length; and so is
+/// each refusal.
+#[test]
+fn both_answers_to_names_count() {
+    /// Processes, states, and the line of a yes.
+    type Answered<'a> = (&'a [u16], &'a [u16], Option<[u8; 2]>);
+    let table = example_a().to_bytes();
+    let answer = |line: Option<[u8; 2]>| line.map_or(vec![], |[a, b]| vec![a, 0, b, 0]);
+    let cases: [Answered; 7] = [
+        (&[], &[], Some([3, 3])),
+        (&[0], &[0], Some([0, 1])),
+        (&[0], &[2], None),
+        (&[1], &[2], Some([3, 2])),
+        (&[0, 1], &[1, 1], Some([1, 1])),
+        (&[0, 1], &[1, 2], None),
+        (&[0, 1], &[0, 2], None),
+    ];
+    for (processes, states, line) in cases {
+        for room in [0, 3, 4, ENOUGH] {
+            let call = Call::StandTogether {
+                processes: processes.to_vec(),
+                states: states.to_vec(),
+                room,
+            };
+            let fits = line.is_none() || room >= 4;
+            let lines = (0..=3).flat_map(|a| (0..=3).map(move |b| Some([a, b])));
+            for other in lines.chain([None]) {
+                // The library's line under the names finds the same.
+                let against = against_line_under(&table, (processes, states), &answer(other));
+                assert_eq!(against.is_some(), other != line, "{call:?} {other:?}");
+                let outcome = Outcome::answered(answer(other), ENOUGH);
+                if outcome.answer.len() <= room {
+                    let difference = fails(&table, &call, outcome);
+                    assert_eq!(difference, !fits || other != line, "{call:?} {other:?}");
+                }
+            }
+            for number in [16, 20, 21, 22] {
+                let difference = fails(&table, &call, Outcome::refused(number));
+                assert_eq!(difference, fits || number != 16, "{call:?} {number}");
+            }
+        }
+    }
+}
+
+/// Both sides of 20, 21 and 22, and their order: every other number is a
+/// difference.
+#[test]
+fn the_refusals_of_names_count() {
+    let table = example_a().to_bytes();
+    let cases: [(&[u16], &[u16], u32); 12] = [
+        (&[0, 1], &[0], 20),
+        (&[0], &[0, 0], 20),
+        (&[2], &[], 20),
+        (&[0, 1], &[3], 20),
+        (&[2], &[0], 21),
+        (&[0, 2], &[0, 0], 21),
+        (&[1, 1], &[1, 1], 21),
+        (&[1, 0], &[1, 1], 21),
+        (&[0, 2], &[3, 0], 21),
+        (&[0], &[3], 22),
+        (&[1], &[65_535], 22),
+        (&[0, 1], &[2, 3], 22),
+    ];
+    for (processes, states, refusal) in cases {
+        for room in [0, ENOUGH] {
+            let call = Call::StandTogether {
+                processes: processes.to_vec(),
+                states: states.to_vec(),
+                room,
+            };
+            for number in [0, 16, 20, 21, 22] {
+                let outcome = Outcome::refused(number);
+                assert_eq!(fails(&table, &call, outcome), number != refusal, "{call:?}");
+            }
+        }
+    }
+}
+
+/// An answer to names that was never met counts, and they are counted by what the
+/// archive answers.
+#[test]
+fn the_answers_to_names_are_counted() {
+    for (place, answer) in STANDS.iter().enumerate() {
+        let mut comparison = all_met();
+        comparison.stands[place] = 0;
+        let stray = format!("no named states were told {answer}");
+        assert_eq!(comparison.strays(), [stray]);
+    }
+    let mut comparison = Comparison::default();
+    let table = example_a().to_bytes();
+    let rng = &mut Rng::new(13);
+    // Two noes and a yes; none of a refused table, and none under 16.
+    for (bytes, state, room) in [
+        (&table[..], 2, ENOUGH),
+        (&table[..], 2, 0),
+        (&table[..], 1, ENOUGH),
+        (&table[1..], 1, ENOUGH),
+        (&table[..], 1, 0),
+    ] {
+        let call = Call::StandTogether {
+            processes: vec![0],
+            states: vec![state],
+            room,
+        };
+        assert!(comparison.call(rng, "example A", bytes, &call).is_ok());
+    }
+    assert_eq!(comparison.stands, [2, 1]);
+}
+
 /// An outcome of another table is seen.
 #[test]
 fn another_table_counts() {
@@ -396,6 +515,11 @@ fn another_table_counts() {
         calls.push(Call::MarkedLine {
             ceilings: table.counts.iter().map(|&count| count as u16 / 2).collect(),
             marks: 2,
+            room: ENOUGH,
+        });
+        calls.push(Call::StandTogether {
+            processes: vec![0, 2],
+            states: [0, 2].map(|p| table.counts[p] as u16 / 2).to_vec(),
             room: ENOUGH,
         });
         for call in calls {

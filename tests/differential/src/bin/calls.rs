@@ -114,6 +114,26 @@ fn limits(comparison: &mut Comparison, seed: u64) -> Result<(), Box<Difference>>
             }
             calls.push(Call::LineUnder { ceilings, room });
         }
+        // Names by chance; all first states, and all last ones; the last process
+        // at its last state and at its count; one of N.
+        let all: Vec<u16> = (0..n as u16).collect();
+        let last: Vec<u16> = table.counts.iter().map(|&count| count as u16 - 1).collect();
+        let (end, end_state) = (all[n - 1], last[n - 1]);
+        let mut names = vec![
+            (all.clone(), vec![0; n]),
+            (all, last),
+            (vec![end], vec![end_state]),
+            (vec![end], vec![end_state + 1]),
+            (vec![end + 1], vec![0]),
+        ];
+        names.extend((0..4).map(|_| make::names(rng, table)));
+        for (processes, states) in names {
+            calls.push(Call::StandTogether {
+                processes,
+                states,
+                room,
+            });
+        }
         for call in &calls {
             exact_and_short(comparison, rng, &made_by, &bytes, call)?;
         }
@@ -132,10 +152,16 @@ fn limits(comparison: &mut Comparison, seed: u64) -> Result<(), Box<Difference>>
             message.received = table.counts[message.receiver];
         }
         let ceilings = make::ceilings(rng, &unsaved);
+        let (processes, states) = make::names(rng, &unsaved);
         for call in [
             Call::CheckTable,
             Call::RecoveryLine { room },
             Call::LineOfSet { set: 1, room },
+            Call::StandTogether {
+                processes,
+                states,
+                room,
+            },
             Call::LineUnder {
                 ceilings: ceilings.clone(),
                 room,
@@ -311,6 +337,18 @@ fn orders(comparison: &mut Comparison, seed: u64) -> Result<(), Box<Difference>>
     for length in [256, 258, 65_536, 65_538] {
         ceilings.extend([vec![0; length], vec![65_535; length]]);
     }
+    // Names on both sides of every boundary, and as many too many of them in one
+    // list or in both.
+    let mut names: Vec<gen::Names> = Vec::new();
+    for table in [&small, &full_count, &full_counts] {
+        names.extend(gen::boundary_names(table));
+    }
+    for length in [256, 258, 65_536, 65_538] {
+        let rising: Vec<u16> = (0..length).map(|at| at as u16).collect();
+        names.push((vec![0, 1], vec![0; length]));
+        names.push((rising.clone(), vec![0, 0]));
+        names.push((rising, vec![65_535; length]));
+    }
     let named = [0, 1, 2, 3, 65_535];
     for (number, table) in tables.iter().enumerate() {
         let made_by = format!("orders, table {number}");
@@ -356,6 +394,13 @@ fn orders(comparison: &mut Comparison, seed: u64) -> Result<(), Box<Difference>>
                 });
             }
             calls.push(Call::LineUnder { ceilings, room });
+        }
+        for (processes, states) in &names {
+            calls.push(Call::StandTogether {
+                processes: processes.clone(),
+                states: states.clone(),
+                room,
+            });
         }
         for numbers in 0..=5 {
             calls.push(Call::KeepSheet { numbers, room });
@@ -409,6 +454,44 @@ fn lists(comparison: &mut Comparison, seed: u64) -> Result<(), Box<Difference>> 
                     for room in [0, bytes.len() + 5] {
                         comparison.call(rng, &made_by, &bytes, &receive.with_room(room))?;
                     }
+                }
+            }
+        }
+    }
+    Ok(())
+}
+
+/// Every two lists of at most two numbers each, processes up to N and states up to
+/// one above the highest count, on tables of two processes with every mixture of
+/// messages that wait, are received by a state, or are not saved yet; and of at
+/// most three numbers each on few of them.
+fn names(comparison: &mut Comparison, seed: u64) -> Result<(), Box<Difference>> {
+    let rng = &mut Rng::new(seed);
+    for (longest, tables) in [(2, 40), (3, 3)] {
+        for number in 0..tables {
+            let made_by = format!("names, seed {seed}, lists up to {longest}, table {number}");
+            let m = number % 5;
+            let mut table = gen::arbitrary(rng, 2, m, 3);
+            for (k, message) in table.messages.iter_mut().enumerate() {
+                // Of four the first waits, and the second is unsaved.
+                match (k + number) % 4 {
+                    0 => message.received = 0,
+                    1 => message.received = table.counts[message.receiver],
+                    _ => {}
+                }
+            }
+            let bytes = table.to_bytes();
+            let highest = table.counts[0].max(table.counts[1]) as u16;
+            let lists = |most: u16| make::all_lists_of(most, longest);
+            for processes in lists(2) {
+                for states in lists(highest + 1) {
+                    let call = Call::StandTogether {
+                        processes: processes.clone(),
+                        states,
+                        room: usize::MAX,
+                    };
+                    exact_and_short(comparison, rng, &made_by, &bytes, &call)?;
+                    comparison.call(rng, &made_by, &bytes, &call.with_room(5))?;
                 }
             }
         }
@@ -532,8 +615,14 @@ fn chain(comparison: &mut Comparison, seed: u64, steps: usize) -> Result<(), Box
             let ceilings = make::ceilings(rng, &now);
             let numbers = n * n + rng.between(0, 3);
             let marks = make::marks(rng, mark_bytes(&now));
+            let (processes, states) = make::names(rng, &now);
             for call in [
                 Call::RecoveryLine { room },
+                Call::StandTogether {
+                    processes,
+                    states,
+                    room,
+                },
                 Call::LineOfSet { set, room },
                 Call::MarkedLine {
                     ceilings: ceilings.clone(),
@@ -595,6 +684,8 @@ fn run(comparison: &mut Comparison, calls: u64, seed: u64) -> Result<(), Box<Dif
     // Behind the others, so that they take nothing from the tables by chance.
     lists(comparison, seed + 7)?;
     part(comparison, "all lists of saves and receipts");
+    names(comparison, seed + 8)?;
+    part(comparison, "all lists of named states");
     Ok(())
 }
 
@@ -623,7 +714,7 @@ fn main() -> ExitCode {
         return ExitCode::FAILURE;
     }
     println!(
-        "{} calls and {} lookups agree; every call met each of its refusals and no other, and shares each rounding",
+        "{} calls and {} lookups agree; every call met each of its refusals and no other, shares each rounding, and named states both answers",
         comparison.total(),
         comparison.lookups
     );

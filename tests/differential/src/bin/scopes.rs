@@ -10,6 +10,10 @@
 //! * `scopes marked N C M`: the line by marking under the same lists of ceilings,
 //!   beside the second implementation's and beside the library's line under
 //!   them; what it leaves in the mark buffer; and mark buffers that are too short.
+//! * `scopes stand N C M`: whether named states stand together, for every choice
+//!   of states, at most one of each process, up to its count, beside what is found
+//!   by trying every line, the second implementation's search of zigzag paths, and
+//!   the library's line under the named states; and lists that are refused.
 //! * `scopes listing T M`: the listings of all tables with at most T states in
 //!   all and at most M messages, so with up to T processes. From T = 8 on these
 //!   have each exact half of a percent that a total of 8 can have.
@@ -36,11 +40,13 @@ use differential::scope::{least_renaming, next_order, renamed_message, Scope};
 use differential::{share, show};
 use keeper::archive;
 use reference::lines::{
-    all_hold, ceiling, line_by_enumeration, line_to_bytes, single_holder, Line,
+    all_hold, ceiling, is_consistent, larger, line_by_enumeration, line_to_bytes, single_holder,
+    Line,
 };
 use reference::marking::{mark_bytes, Marking};
 use reference::sheet::kept_under;
-use reference::{needed_by_futures, Message, Table};
+use reference::table::State;
+use reference::{needed_by_futures, zigzag, Message, Table};
 
 /// What a buffer holds before a call.
 const FILL: u8 = 0xA5;
@@ -182,6 +188,12 @@ impl Lined {
         lined
     }
 
+    /// The no of named states, which has no bytes.
+    const NO: Lined = Lined {
+        written: 0,
+        ..Lined::NOTHING
+    };
+
     /// The archive's line of a set.
     fn of_set(table: &[u8], set: u32, room: usize) -> Lined {
         let mut lined = Lined::NOTHING;
@@ -222,6 +234,36 @@ impl Lined {
             )
         };
         (lined, list == before)
+    }
+
+    /// The archive's answer to whether named states stand together, and whether
+    /// both lists and what stands round them were left alone.
+    fn stand(table: &[u8], processes: &[u16], states: &[u16], room: usize) -> (Lined, bool) {
+        let mut lined = Lined::NOTHING;
+        let mut lists = [[LIST_GUARD; 16]; 2];
+        for (list, named) in lists.iter_mut().zip([processes, states]) {
+            list[4..4 + named.len()].copy_from_slice(named);
+        }
+        let before = lists;
+        let [of_processes, of_states] = &mut lists;
+        let of_processes = &mut of_processes[4..4 + processes.len()];
+        let of_states = &mut of_states[4..4 + states.len()];
+        let answer = &mut lined.buffer[4..4 + room];
+        // SAFETY: each pointer and length is a slice of a buffer of its own.
+        lined.number = unsafe {
+            archive::keeper_stand_together(
+                table.as_ptr(),
+                table.len(),
+                of_processes.as_mut_ptr(),
+                of_processes.len(),
+                of_states.as_mut_ptr(),
+                of_states.len(),
+                answer.as_mut_ptr(),
+                answer.len(),
+                &mut lined.written,
+            )
+        };
+        (lined, lists == before)
     }
 }
 
@@ -481,6 +523,236 @@ fn marked(scope: Scope) -> Result<String, Failure> {
     ))
 }
 
+/// Every choice of states, at most one of each process, with a number from 0 to
+/// the count.
+fn all_names(counts: &[u32]) -> Vec<Vec<State>> {
+    let mut all: Vec<Vec<State>> = vec![Vec::new()];
+    for (p, &count) in counts.iter().enumerate() {
+        let named = |front: &Vec<State>| -> Vec<Vec<State>> {
+            (0..=count)
+                .map(|c| [&front[..], &[(p, c)]].concat())
+                .collect()
+        };
+        let longer: Vec<Vec<State>> = all.iter().flat_map(named).collect();
+        all.extend(longer);
+    }
+    all
+}
+
+/// Names of states: as they are lent, and the ceilings that they are; for names
+/// that are refused, the number.
+struct Named {
+    named: Vec<State>,
+    processes: Vec<u16>,
+    states: Vec<u16>,
+    ceilings: Vec<u16>,
+    refusal: u32,
+}
+
+impl Named {
+    /// These states under these counts, of which 22 refuses the counts themselves.
+    fn new(counts: &[u32], named: Vec<State>) -> Named {
+        let mut ceilings: Vec<u16> = counts.iter().map(|&count| count as u16).collect();
+        for &(p, c) in &named {
+            ceilings[p] = c as u16;
+        }
+        let at_count = named.iter().any(|&(p, c)| c == counts[p]);
+        Named {
+            processes: named.iter().map(|&(p, _)| p as u16).collect(),
+            states: named.iter().map(|&(_, c)| c as u16).collect(),
+            ceilings,
+            refusal: if at_count { 22 } else { 0 },
+            named,
+        }
+    }
+
+    /// Lists that are refused.
+    fn refused(processes: &[u16], states: &[u16], refusal: u32) -> Named {
+        Named {
+            named: Vec::new(),
+            processes: processes.to_vec(),
+            states: states.to_vec(),
+            ceilings: Vec::new(),
+            refusal,
+        }
+    }
+
+    /// The lists that 20 and 21 refuse, made of these.
+    fn spoilt(&self, n: usize, into: &mut Vec<Named>) {
+        let (processes, states) = (&self.processes[..], &self.states[..]);
+        let names = processes.len();
+        for state in [0, u16::MAX] {
+            let longer = [states, &[state]].concat();
+            into.push(Named::refused(processes, &longer, 20));
+            // N behind the others, with a state that 22 would refuse too.
+            let beyond = [processes, &[n as u16]].concat();
+            into.push(Named::refused(&beyond, &longer, 21));
+            into.push(Named::refused(&beyond, states, 20));
+        }
+        let Some((&last, front)) = processes.split_last() else {
+            return;
+        };
+        into.push(Named::refused(front, states, 20));
+        into.push(Named::refused(processes, &states[..names - 1], 20));
+        let twice = [processes, &[last]].concat();
+        let states_twice = [states, &states[names - 1..]].concat();
+        into.push(Named::refused(&twice, &states_twice, 21));
+        if names >= 2 {
+            let (mut falling, mut theirs) = (processes.to_vec(), states.to_vec());
+            falling.swap(names - 2, names - 1);
+            theirs.swap(names - 2, names - 1);
+            into.push(Named::refused(&falling, &theirs, 21));
+        }
+    }
+
+    /// Calls the archive with these names, and compares what it yields, where the
+    /// buffer is long enough, and what the archive's line under them says.
+    fn compare(&self, bytes: &[u8], n: usize, room: usize, lined: Lined) -> Result<(), Failure> {
+        let Named {
+            processes,
+            states,
+            ceilings,
+            ..
+        } = self;
+        let is_yes = lined.number == 0 && lined != Lined::NO;
+        let wanted = if room < 2 * n && is_yes {
+            Lined::refused(16)
+        } else {
+            lined
+        };
+        let (got, left) = Lined::stand(bytes, processes, states, room);
+        if got != wanted || !left {
+            return Err(format!(
+                "difference in stand_together {processes:?} {states:?}, room {room}\n{}library: {got:?}{}\nsecond implementation: {wanted:?}",
+                show::table(bytes),
+                if left { "" } else { "; a list or its guards were changed" }
+            ));
+        }
+        if self.refusal != 0 {
+            return Ok(());
+        }
+        // The library's other call, to the last byte of its buffer.
+        let (under, _) = Lined::under(bytes, ceilings, 2 * n);
+        let at = |&p: &u16| {
+            let front = 4 + 2 * usize::from(p);
+            u16::from_le_bytes([under.buffer[front], under.buffer[front + 1]])
+        };
+        let by_line = match processes.iter().map(at).eq(states.iter().copied()) {
+            true if room < 2 * n => Lined::refused(16),
+            true => under,
+            false => Lined::NO,
+        };
+        if got == by_line {
+            return Ok(());
+        }
+        Err(format!(
+            "difference between stand_together {processes:?} {states:?} and line_under {ceilings:?}, room {room}\n{}{got:?}\n{under:?}",
+            show::table(bytes)
+        ))
+    }
+}
+
+/// Whether named states stand together, on every table of a scope.
+fn stand(scope: Scope) -> Result<String, Failure> {
+    let mut tables = 0;
+    let mut calls: u64 = 0;
+    // Names by the messages of a shortest path between them; none is a yes.
+    let mut by_length = [0; 8];
+    // Under the counts of the table: every line, all names, and lists that are
+    // refused.
+    let mut counts: Vec<u32> = Vec::new();
+    let mut lines: Vec<Line> = Vec::new();
+    let mut asked: Vec<Named> = Vec::new();
+    let mut spoilt: Vec<Named> = Vec::new();
+    scope.each_sorted(|sorted| -> Result<(), Failure> {
+        let n = sorted.processes();
+        if counts != sorted.counts {
+            counts.clone_from(&sorted.counts);
+            lines = all_ceilings(&counts)
+                .into_iter()
+                .map(|list| list.into_iter().map(u32::from).collect())
+                .collect();
+            lines.retain(|line| line.iter().zip(&counts).all(|(at, count)| at <= count));
+            asked = all_names(&counts)
+                .into_iter()
+                .map(|named| Named::new(&counts, named))
+                .collect();
+            spoilt.clear();
+            asked.iter().for_each(|names| names.spoilt(n, &mut spoilt));
+        }
+        // What to expect, found by trying every line; nothing of it depends on
+        // the order of the messages.
+        let mut consistent: Vec<&Line> = lines.iter().collect();
+        consistent.retain(|line| is_consistent(sorted, line));
+        let mut expected: Vec<Lined> = Vec::new();
+        for Named { named, refusal, .. } in &asked {
+            if *refusal != 0 {
+                expected.push(Lined::refused(*refusal));
+                continue;
+            }
+            let latest = consistent
+                .iter()
+                .filter(|line| named.iter().all(|&(p, c)| line[p] == c))
+                .fold(None, |latest: Option<Line>, line| {
+                    Some(latest.map_or_else(|| line.to_vec(), |latest| larger(&latest, line)))
+                });
+            // A line has them exactly when no path leads from one to another or
+            // to itself.
+            let path = zigzag::path(sorted, named, named);
+            if path.is_none() != latest.is_some() {
+                return Err(format!(
+                    "{sorted:?}: {named:?}: the path is {path:?}, and the line {latest:?}"
+                ));
+            }
+            by_length[path.map_or(0, |path| path.len())] += 1;
+            expected.push(latest.map_or(Lined::NO, |line| Lined::answered(&line)));
+        }
+        // Other lists, and other lengths of the buffer than the first, for one
+        // order alone.
+        let mut rooms = &[2 * n + 3, 2 * n, 2 * n - 1, 0][..];
+        let mut table = sorted.clone();
+        loop {
+            tables += 1;
+            let bytes = table.to_bytes();
+            if rooms.len() > 1 {
+                for names in &spoilt {
+                    for room in [2 * n + 3, 0] {
+                        calls += 1;
+                        names.compare(&bytes, n, room, Lined::refused(names.refusal))?;
+                    }
+                }
+            }
+            for (names, lined) in asked.iter().zip(&expected) {
+                for &room in rooms {
+                    calls += 1;
+                    names.compare(&bytes, n, room, *lined)?;
+                }
+            }
+            rooms = &rooms[..1];
+            if !next_order(&mut table.messages) {
+                return Ok(());
+            }
+        }
+    })?;
+    assert_eq!(tables, scope.size(), "every table once");
+    let lengths: Vec<String> = (1..by_length.len())
+        .filter(|&length| by_length[length] > 0)
+        .map(|length| format!("{length}: {}", by_length[length]))
+        .collect();
+    // Two messages there and back are a cycle.
+    if scope.processes >= 2 && scope.states >= 2 && scope.messages >= 2 && lengths.len() < 2 {
+        return Err(format!(
+            "no path of two messages is met: {}",
+            lengths.join(", ")
+        ));
+    }
+    Ok(format!(
+        "{tables} tables, {calls} calls, names with a yes: {}, with a no by the messages of a path ({})",
+        by_length[0],
+        lengths.join(", ")
+    ))
+}
+
 /// What stands round a text, on either side.
 const ROUND: usize = 4;
 
@@ -715,6 +987,7 @@ fn task(words: &[&str]) -> Option<Result<String, Failure>> {
         ("lines", 4) => Some(lines(scope)),
         ("under", 4) => Some(under(scope)),
         ("marked", 4) => Some(marked(scope)),
+        ("stand", 4) => Some(stand(scope)),
         ("steps", 4) => Some(steps(scope)),
         ("needs", 5) => Some(needs(scope, number(4)?)),
         _ => None,
@@ -722,7 +995,7 @@ fn task(words: &[&str]) -> Option<Result<String, Failure>> {
 }
 
 /// The scopes of `make test`.
-const PART: [&str; 17] = [
+const PART: [&str; 21] = [
     "lines 3 3 3",
     "lines 2 4 4",
     "under 3 3 2",
@@ -733,6 +1006,10 @@ const PART: [&str; 17] = [
     "marked 3 2 3",
     "marked 2 4 3",
     "marked 4 2 2",
+    "stand 3 3 2",
+    "stand 3 2 3",
+    "stand 2 4 3",
+    "stand 4 2 2",
     "listing 8 2",
     "listing 5 3",
     "steps 2 3 3",
@@ -743,7 +1020,7 @@ const PART: [&str; 17] = [
 ];
 
 /// Larger ones: some ten minutes.
-const MORE: [&str; 13] = [
+const MORE: [&str; 16] = [
     "lines 3 3 4",
     "lines 4 2 3",
     "under 3 3 3",
@@ -751,6 +1028,9 @@ const MORE: [&str; 13] = [
     "under 4 2 3",
     "marked 3 3 3",
     "marked 2 4 4",
+    "stand 3 3 3",
+    "stand 2 4 4",
+    "stand 4 2 3",
     "listing 10 2",
     "listing 6 3",
     "steps 3 3 2",
@@ -780,7 +1060,7 @@ fn main() -> ExitCode {
                 return ExitCode::FAILURE;
             }
             None => {
-                eprintln!("usage: scopes [more | lines N C M | under N C M | marked N C M | listing T M | steps N C M | needs N C M DEPTH]");
+                eprintln!("usage: scopes [more | lines N C M | under N C M | marked N C M | stand N C M | listing T M | steps N C M | needs N C M DEPTH]");
                 return ExitCode::from(2);
             }
         }
