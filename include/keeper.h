@@ -241,7 +241,7 @@ uint32_t keeper_marked_line(const uint8_t *table, size_t length, const uint16_t 
    Under KEEPER_OK `*written` tells the two apart. Yes: 2N, and the answer is N numbers by process, the latest
    of all consistent lines that have the named checkpoints. No: 0, and the answer buffer is unchanged, however
    short it is: check 16 is of a yes alone. What is said at keeper_line_under of what may be discarded holds
-   here too. Checks: the table's, 20, 21, 22, 16. Stack: 192. */
+   here too. Checks: the table's, 20, 21, 22, 16. Stack: 272. */
 uint32_t keeper_stand_together(const uint8_t *table, size_t length, const uint16_t *processes,
                                size_t processes_length, const uint16_t *states, size_t states_length,
                                uint8_t *answer, size_t room, size_t *written);
