@@ -4,31 +4,33 @@
 
 #include <stdlib.h>
 
-#define FAULT(k)                                                \
-    __typeof__(keeper_check_table) fault##k##_check_table;      \
-    __typeof__(keeper_recovery_line) fault##k##_recovery_line;  \
-    __typeof__(keeper_line_of_set) fault##k##_line_of_set;      \
-    __typeof__(keeper_line_under) fault##k##_line_under;        \
-    __typeof__(keeper_marked_line) fault##k##_marked_line;      \
-    __typeof__(keeper_send) fault##k##_send;                    \
-    __typeof__(keeper_save) fault##k##_save;                    \
-    __typeof__(keeper_receive) fault##k##_receive;              \
-    __typeof__(keeper_fall_back) fault##k##_fall_back;          \
-    __typeof__(keeper_keep_sheet) fault##k##_keep_sheet;        \
+#define FAULT(k)                                                 \
+    __typeof__(keeper_check_table) fault##k##_check_table;       \
+    __typeof__(keeper_recovery_line) fault##k##_recovery_line;   \
+    __typeof__(keeper_line_of_set) fault##k##_line_of_set;       \
+    __typeof__(keeper_line_under) fault##k##_line_under;         \
+    __typeof__(keeper_marked_line) fault##k##_marked_line;       \
+    __typeof__(keeper_stand_together) fault##k##_stand_together; \
+    __typeof__(keeper_send) fault##k##_send;                     \
+    __typeof__(keeper_save) fault##k##_save;                     \
+    __typeof__(keeper_receive) fault##k##_receive;               \
+    __typeof__(keeper_fall_back) fault##k##_fall_back;           \
+    __typeof__(keeper_keep_sheet) fault##k##_keep_sheet;         \
     __typeof__(keeper_listing) fault##k##_listing;
 #include "faults.inc"
 #undef FAULT
 
 #define FAULT(k)                                                                                             \
-    {fault##k##_check_table, fault##k##_recovery_line, fault##k##_line_of_set, fault##k##_line_under,        \
-     fault##k##_marked_line, fault##k##_send,          fault##k##_save,        fault##k##_receive,           \
-     fault##k##_fall_back,   fault##k##_keep_sheet,    fault##k##_listing},
+    {fault##k##_check_table, fault##k##_recovery_line,  fault##k##_line_of_set, fault##k##_line_under,       \
+     fault##k##_marked_line, fault##k##_stand_together, fault##k##_send,        fault##k##_save,             \
+     fault##k##_receive,     fault##k##_fall_back,      fault##k##_keep_sheet,  fault##k##_listing},
 static const struct {
     __typeof__(keeper_check_table) *check_table;
     __typeof__(keeper_recovery_line) *recovery_line;
     __typeof__(keeper_line_of_set) *line_of_set;
     __typeof__(keeper_line_under) *line_under;
     __typeof__(keeper_marked_line) *marked_line;
+    __typeof__(keeper_stand_together) *stand_together;
     __typeof__(keeper_send) *send;
     __typeof__(keeper_save) *save;
     __typeof__(keeper_receive) *receive;
@@ -79,6 +81,13 @@ uint32_t keeper_marked_line(TABLE, const uint16_t *ceilings, size_t ceilings_len
 {
     return faults[chosen()].marked_line(table, length, ceilings, ceilings_length, marks, marks_length, answer, room,
                                         written);
+}
+
+uint32_t keeper_stand_together(TABLE, const uint16_t *processes, size_t processes_length, const uint16_t *states,
+                               size_t states_length, ANSWER)
+{
+    return faults[chosen()].stand_together(table, length, processes, processes_length, states, states_length, answer,
+                                           room, written);
 }
 
 uint32_t keeper_send(TABLE, uint16_t from, uint16_t to, ANSWER)

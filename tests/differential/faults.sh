@@ -1,12 +1,14 @@
 #!/bin/sh
-# sh tests/differential/faults.sh [CALLS]
+# sh tests/differential/faults.sh [CALLS [PATTERN]]
 #
 # Shows that the comparisons can fail. The model of the fuzzer (fuzz/model.c) stands in the library's place: as
-# it is, with which all must agree, and then with one fault of faults.txt at a time. The differential tests
-# (CALLS calls) must find each fault; what small scopes and the replay of the fuzzer's inputs say is printed
-# too. Needs gcc, cargo and the archives. All the model's calls stand in one archive, which has both names.
+# it is, with which all must agree, and then with one fault of faults.txt at a time; with a PATTERN, as grep takes
+# it, those alone in whose names it is. The differential tests (CALLS calls) must find each fault; what small
+# scopes and the replay of the fuzzer's inputs say is printed too. Needs gcc, cargo and the archives. All the
+# model's calls stand in one archive, which has both names.
 set -u
 calls=${1:-100000}
+pattern=${2:-.}
 cd "$(dirname "$0")/../.." || exit 1
 work=$(pwd)/target/faults
 list=tests/differential/faults.txt
@@ -23,7 +25,7 @@ add() {
 
 cp fuzz/model.c "$work/model.c"
 add 0
-grep -v '^#' "$list" >"$work/faults.txt"
+grep -v '^#' "$list" | grep -e "^[^|]*$pattern[^|]*|" >"$work/faults.txt" || { echo "no fault has '$pattern' in its name" >&2; exit 1; }
 number=0
 while IFS='|' read -r name edit; do
     number=$((number + 1))
@@ -46,7 +48,7 @@ verdict() {
 
 # The verdict of small scopes: found where one of them finds something.
 of_scopes() {
-    for scope in 'lines 3 2 2' 'under 3 2 2' 'marked 3 2 2' 'steps 3 2 2' 'listing 8 1'; do
+    for scope in 'lines 3 2 2' 'under 3 2 2' 'marked 3 2 2' 'stand 3 2 2' 'steps 3 2 2' 'listing 8 1'; do
         said=$(verdict "$work/cargo/release/scopes" $scope)
         test $said = agrees || break
     done
@@ -67,7 +69,7 @@ while IFS='|' read -r name edit; do
     by_replay=$(verdict "$work/replay" fuzz/corpus/*)
     by_calls=$(verdict "$work/cargo/release/calls" "$calls")
     after=$(sed -n 's/^FAILED after \([0-9]*\) calls.*/\1/p' "$work/log")
-    echo "$name: calls: $by_calls${after:+ after $after}; scopes lines, under, marked and steps 3 2 2, listing 8 1: $by_scopes; replay: $by_replay"
+    echo "$name: calls: $by_calls${after:+ after $after}; scopes lines, under, marked, stand and steps 3 2 2, listing 8 1: $by_scopes; replay: $by_replay"
     test "$by_calls" = found || missed=$((missed + 1))
 done <"$work/faults.txt"
 echo "$number faults, $missed not found by the differential tests"

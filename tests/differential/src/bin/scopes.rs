@@ -1019,7 +1019,7 @@ const PART: [&str; 21] = [
     "needs 3 2 2 3",
 ];
 
-/// Larger ones: some ten minutes.
+/// Larger ones: some thirteen minutes.
 const MORE: [&str; 16] = [
     "lines 3 3 4",
     "lines 4 2 3",
