@@ -152,11 +152,11 @@ pub fn stand_together(
         Err(number) => return Outcome::refused(number),
         Ok(table) => table,
     };
-    // 20. The lists are of unequal length.
+    // 20. The lists of named processes and of their states are of unequal length.
     if processes.len() != states.len() {
         return Outcome::refused(20);
     }
-    // 21. The processes.
+    // 21. A named process is N or above, or not above the one before it.
     if processes_are_bad(&table, processes) {
         return Outcome::refused(21);
     }
