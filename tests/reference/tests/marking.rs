@@ -6,37 +6,12 @@ mod common;
 
 use std::collections::BTreeSet;
 
-use common::{all_at_or_below, numbers, of_counts, small_tables};
+use common::{all_at_or_below, example_a, example_d, numbers, of_counts, small_tables, table};
 use reference::gen::*;
 use reference::lines::*;
 use reference::marking::{latest_unmarked, mark_bytes, marked_roots, Graph, Marking};
 use reference::table::State;
 use reference::*;
-
-fn table(counts: &[u32], messages: &[(State, State)]) -> Table {
-    Table {
-        counts: counts.to_vec(),
-        messages: messages
-            .iter()
-            .map(|&(send, receipt)| Message::new(send, receipt))
-            .collect(),
-    }
-}
-
-fn example_a() -> Table {
-    let messages = [
-        ((0, 0), (1, 2)),
-        ((1, 0), (0, 1)),
-        ((1, 1), (0, 2)),
-        ((0, 2), (1, 2)),
-        ((1, 2), (0, 0)),
-    ];
-    table(&[3, 3], &messages)
-}
-
-fn example_d() -> Table {
-    table(&[2, 2], &[((0, 1), (1, 1)), ((1, 0), (0, 1))])
-}
 
 // ---------------------------------------------------------------------------
 // The graph and the marks of example A, written out.

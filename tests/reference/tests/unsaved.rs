@@ -4,7 +4,7 @@
 
 mod common;
 
-use common::{all_at_or_below, small_tables};
+use common::{all_at_or_below, small_tables, table};
 use reference::gen::*;
 use reference::lines::{all_hold, line_to_bytes};
 use reference::sheet::Sheet;
@@ -356,19 +356,6 @@ fn by_call(table: &Table, act: &Act) -> Told {
 
 // ---------------------------------------------------------------------------
 // Cases.
-
-/// (process, state number)
-type Entry = (usize, u32);
-
-fn table(counts: &[u32], messages: &[(Entry, Entry)]) -> Table {
-    Table {
-        counts: counts.to_vec(),
-        messages: messages
-            .iter()
-            .map(|&(send, receipt)| Message::new(send, receipt))
-            .collect(),
-    }
-}
 
 fn sheet(states: &[(usize, u32)], messages: &[usize]) -> Told {
     Told::Sheet(Sheet {

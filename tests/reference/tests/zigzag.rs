@@ -5,7 +5,7 @@
 
 mod common;
 
-use common::{all_at_or_below, numbers, of_counts, small_tables};
+use common::{all_at_or_below, example_a, example_d, numbers, of_counts, small_tables, table};
 use reference::gen::*;
 use reference::lines::{is_consistent, larger, line_by_work_list, line_of_run, line_to_bytes};
 use reference::steps::{do_receive, do_save, do_send};
@@ -14,31 +14,6 @@ use reference::zigzag::*;
 use reference::*;
 
 const ROOM: usize = 40_000;
-
-fn table(counts: &[u32], messages: &[(State, State)]) -> Table {
-    Table {
-        counts: counts.to_vec(),
-        messages: messages
-            .iter()
-            .map(|&(send, receipt)| Message::new(send, receipt))
-            .collect(),
-    }
-}
-
-fn example_a() -> Table {
-    let messages = [
-        ((0, 0), (1, 2)),
-        ((1, 0), (0, 1)),
-        ((1, 1), (0, 2)),
-        ((0, 2), (1, 2)),
-        ((1, 2), (0, 0)),
-    ];
-    table(&[3, 3], &messages)
-}
-
-fn example_d() -> Table {
-    table(&[2, 2], &[((0, 1), (1, 1)), ((1, 0), (0, 1))])
-}
 
 /// Named states as the two lists of a call.
 fn lists(named: &[State]) -> Names {

@@ -1,15 +1,42 @@
-//! 16-bit numbers as bytes, tables without messages, the small tables, and all
-//! lists of ceilings.
+//! 16-bit numbers as bytes, tables written out and without messages, examples A
+//! and D, the small tables, and all lists of ceilings.
 #![allow(dead_code)]
 
 use reference::gen::all_tables;
-use reference::Table;
+use reference::table::State;
+use reference::{Message, Table};
 
 /// Numbers as a table has them: 16 bits, low byte first.
 pub fn numbers(list: &[u16]) -> Vec<u8> {
     list.iter()
         .flat_map(|number| number.to_le_bytes())
         .collect()
+}
+
+/// A table of these counts and messages, each from its send to its receipt.
+pub fn table(counts: &[u32], messages: &[(State, State)]) -> Table {
+    Table {
+        counts: counts.to_vec(),
+        messages: messages
+            .iter()
+            .map(|&(send, receipt)| Message::new(send, receipt))
+            .collect(),
+    }
+}
+
+pub fn example_a() -> Table {
+    let messages = [
+        ((0, 0), (1, 2)),
+        ((1, 0), (0, 1)),
+        ((1, 1), (0, 2)),
+        ((0, 2), (1, 2)),
+        ((1, 2), (0, 0)),
+    ];
+    table(&[3, 3], &messages)
+}
+
+pub fn example_d() -> Table {
+    table(&[2, 2], &[((0, 1), (1, 1)), ((1, 0), (0, 1))])
 }
 
 /// A table without messages: each process keeps its last state alone.
