@@ -305,14 +305,18 @@ impl Call {
         }
     }
 
-    /// What the binding answers, brought into the archive's form. `None` for the
-    /// call that is made through the archive alone.
-    fn by_binding(&self, lent: &mut Loan) -> Option<u32> {
+    /// What the binding answers, brought into the archive's form: its `None` for
+    /// states that can't stand together is a length of 0.
+    fn by_binding(&self, lent: &mut Loan) -> u32 {
         let table = lent.table.slice();
         let answer = lent.answer.slice_mut();
         let result = match *self {
-            Call::CheckTable => return Some(number(keeper::check_table(table))),
-            Call::StandTogether { .. } => return None,
+            Call::CheckTable => return number(keeper::check_table(table)),
+            Call::StandTogether { .. } => {
+                let (processes, states) = (lent.list.slice(), lent.states.slice());
+                keeper::stand_together(table, processes, states, answer)
+                    .map(|length| length.unwrap_or(0))
+            }
             Call::RecoveryLine { .. } => keeper::recovery_line(table, answer),
             Call::LineOfSet { set, .. } => keeper::line_of_set(table, set, answer),
             Call::LineUnder { .. } => keeper::line_under(table, lent.list.slice(), answer),
@@ -331,7 +335,7 @@ impl Call {
         if let Ok(length) = result {
             lent.written.put(&[length]);
         }
-        Some(number(result))
+        number(result)
     }
 }
 
@@ -527,13 +531,10 @@ impl Comparison {
         let mut got = Outcome::refused(0);
         for by_binding in [false, true] {
             let mut loan = before.copy();
-            let told = if by_binding {
+            let number = if by_binding {
                 call.by_binding(&mut loan)
             } else {
-                Some(call.by_archive(&mut loan))
-            };
-            let Some(number) = told else {
-                continue;
+                call.by_archive(&mut loan)
             };
             let mut what = Vec::new();
             if number != expected.number {
