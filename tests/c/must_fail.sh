@@ -28,11 +28,12 @@ gcc -std=c11 -Wall -Wextra -O1 -I"$root/include" -o "$work/calls_faulty" "$work/
     "$archives/libkeeper.a" "$archives/liblisting_text.a" || exit 1
 FAULT=0 "$work/calls_faulty" >"$work/must_fail.out" || { cat "$work/must_fail.out"; fail "calls.c fails without a fault"; }
 faults=$(grep -o 'fault([0-9]*)' "$here/faulty.c" | tr -dc '0-9\n' | sort -nu)
-for number in $faults; do
-    FAULT=$number "$work/calls_faulty" >"$work/must_fail.out" 2>&1
-    [ $? -eq 1 ] || fail "fault $number of faulty.c is not found"
-    found=$((found + 1))
-done
+# As many at a time as there are processors; each is a process of its own.
+echo "$faults" | xargs -n 1 -P "$(getconf _NPROCESSORS_ONLN)" sh -c \
+    'FAULT=$1 "$0" >/dev/null 2>&1; [ $? -eq 1 ] || echo "fault $1 of faulty.c is not found"' "$work/calls_faulty" >"$work/must_fail.out" ||
+    fail "the faults can't be run"
+[ ! -s "$work/must_fail.out" ] || fail "$(cat "$work/must_fail.out")"
+found=$(echo "$faults" | wc -l)
 echo "must_fail: $found faulty calls found by calls.c"
 
 # ---- headers whose helpers, words or version have a fault: found by a program that is compiled with them
