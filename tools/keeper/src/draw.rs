@@ -5,6 +5,8 @@ mod shapes;
 
 use std::fmt::{self, Write};
 
+use keeper::Checkpoint;
+
 use crate::layout::{self, Arrow, Layout, Place, Scale};
 use crate::run::{BadChoice, Choice, Message, Run, View};
 use legend::Legend;
@@ -166,20 +168,20 @@ fn checkpoint_title(run: &Run, p: usize, number: usize) -> String {
     }
 }
 
-/// What a message is, and why it is kept.
+/// What a message is, why it is kept, and its place on the zigzag path.
 fn message_title(run: &Run, k: usize) -> String {
     let message = &run.messages[k];
-    let title = title_off_the_path(run, k, message);
+    let words = message_words(run, k, message);
     match (message.on_path, run.path()) {
         (Some(place), Some(path)) => {
             let all = path.messages.len();
-            format!("{title}; number {} of {all} on the zigzag path", place + 1)
+            format!("{words}; number {} of {all} on the zigzag path", place + 1)
         }
-        _ => title,
+        _ => words,
     }
 }
 
-fn title_off_the_path(run: &Run, k: usize, message: &Message) -> String {
+fn message_words(run: &Run, k: usize, message: &Message) -> String {
     let sent = format!(
         "message {k}: from process {} after its checkpoint {}",
         message.from, message.sent
@@ -447,6 +449,13 @@ impl<'a> Picture<'a> {
         }
     }
 
+    /// Where a checkpoint stands, if it is drawn.
+    fn at(&self, one: Checkpoint) -> Option<Point> {
+        let row = self.view.row(one.process.into())?;
+        let column = self.layout.column(row, one.number.into())?;
+        Some(self.point((column, row as f64)))
+    }
+
     /// The row's number and process, from the top.
     fn rows(&self) -> impl Iterator<Item = (usize, usize)> + 'a {
         let view = self.view;
@@ -547,12 +556,7 @@ impl<'a> Picture<'a> {
         let Some(path) = self.run.path() else {
             return;
         };
-        let at = |one: keeper::Checkpoint| {
-            let row = self.view.row(one.process.into())?;
-            let column = self.layout.column(row, one.number.into())?;
-            Some(self.point((column, row as f64)))
-        };
-        let mut pieces = vec![Vec::from_iter(at(path.from))];
+        let mut pieces = vec![Vec::from_iter(self.at(path.from))];
         for position in &path.messages {
             let (corners, cut) = match self.arrow((*position).into()) {
                 Some(drawn) => drawn,
@@ -567,7 +571,7 @@ impl<'a> Picture<'a> {
                 pieces.push(vec![]);
             }
         }
-        pieces.last_mut().expect("one").extend(at(path.to));
+        pieces.last_mut().expect("one").extend(self.at(path.to));
         pieces.retain(|piece| piece.len() > 1);
         if pieces.is_empty() {
             return;
@@ -589,13 +593,7 @@ impl<'a> Picture<'a> {
             "<g class=\"names\" fill=\"none\" stroke=\"{ASKED_COLOUR}\" stroke-width=\"2\">"
         );
         for one in &stand.named {
-            let row = self.view.row(one.process.into());
-            let place = row.and_then(|row| {
-                let column = self.layout.column(row, one.number.into())?;
-                Some((column, row as f64))
-            });
-            if let Some(place) = place {
-                let at = self.point(place);
+            if let Some(at) = self.at(*one) {
                 let title = format!(
                     "named: checkpoint {} of process {}",
                     one.number, one.process
@@ -935,7 +933,7 @@ fn around(at: Point, text: &str, size: f64) -> [Point; 10] {
     .map(|(x, y)| at.moved(x, y))
 }
 
-/// Places so far beside an arrow, from its middle outwards, on either side.
+/// Places beside an arrow, so far from it, from its middle outwards, on either side.
 fn beside(corners: &[Point], text: &str, clear: f64) -> Vec<Point> {
     let half = width_of(text, 10.0) / 2.0;
     // Where an arrow bends, its first part is the one that tells.
