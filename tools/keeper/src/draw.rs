@@ -558,15 +558,12 @@ impl<'a> Picture<'a> {
         };
         let mut pieces = vec![Vec::from_iter(self.at(path.from))];
         for position in &path.messages {
-            let (corners, cut) = match self.arrow((*position).into()) {
-                Some(drawn) => drawn,
-                None => (vec![], Cut::AtTail),
+            let Some((corners, cut)) = self.arrow((*position).into()) else {
+                continue;
             };
-            // What comes before an end that is left out is not joined to it.
-            if cut == Cut::AtTail {
-                pieces.push(vec![]);
-            }
             pieces.last_mut().expect("one").extend(corners);
+            // Where a receipt is drawn, so is the next send: it is in no earlier
+            // interval.
             if cut == Cut::AtTip {
                 pieces.push(vec![]);
             }

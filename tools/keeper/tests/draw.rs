@@ -954,7 +954,7 @@ fn named_checkpoints_of_example_a() {
 #[test]
 fn named_checkpoints_have_their_line_or_their_path() {
     let mut random = Random(31);
-    let (mut lines, mut ways, mut cut, mut not_kept) = (0, 0, 0, 0);
+    let (mut lines, mut before, mut ways, mut cut, mut not_kept) = (0, 0, 0, 0, 0);
     let tables = corpus().into_iter().map(|case| (case.name, case.table));
     let histories = (0..30).map(|seed| {
         let mut random = Random(seed);
@@ -1003,6 +1003,17 @@ fn named_checkpoints_have_their_line_or_their_path() {
                         let number = usize::from(line[*p]);
                         let has = on_line.contains(&(*p, number));
                         assert_eq!(has, there(*p, number), "{name}: {p}");
+                        // Where it is left out its number stands at the beginning.
+                        let mut left_out = in_class(&picture.all, "before")
+                            .filter(|one| one.name == "title")
+                            .filter(|one| one.text.ends_with(&format!(" of process {p}")))
+                            .map(|one| numbers_in(&one.text));
+                        let told = left_out.any(|numbers| {
+                            let (_, numbers) = numbers.split_last().expect("the process");
+                            numbers.contains(&number)
+                        });
+                        assert_eq!(told, !has, "{name}: {p}");
+                        before += usize::from(told);
                     }
                     lines += 1;
                 }
@@ -1041,8 +1052,11 @@ fn named_checkpoints_have_their_line_or_their_path() {
             }
         }
     }
-    assert!(lines > 300 && ways > 300, "{lines} {ways}");
-    assert!(cut > 50 && not_kept > 50, "{cut} {not_kept}");
+    assert!(lines > 300 && before > 300, "{lines} {before}");
+    assert!(
+        ways > 300 && cut > 50 && not_kept > 50,
+        "{ways} {cut} {not_kept}"
+    );
 }
 
 /// The picture of a path of more messages than have positions beside them.
