@@ -79,7 +79,7 @@ standingBytes t processes states =
     let line = namedLine t processes states in
     cond (misses processes states line) [] (u16s line)
 
--- Whether the named checkpoints stand together: its checks, 16. A no is as long as no buffer is too short for.
+-- Whether the named checkpoints stand together: its checks, 16. No buffer is too short for a no.
 unfoldable pub standTogetherAnswer : List ℕ → List ℕ → List ℕ → ℕ → Answer
 standTogetherAnswer table processes states room =
     answer (standTogetherChecks table processes states) (standingBytes (decode table) processes states) room

@@ -10,7 +10,7 @@ use Rattle.run_table.specs.Lists.{anyBelow}
 use Rattle.run_table.specs.Table.{Table, countOf, processCount}
 use Rattle.zigzag.specs.Paths.{Zigzag}
 
--- Check 21, of one process: it is N or above.
+-- Check 21, in part: one of the processes is N or above.
 unfoldable pub unknownNamed : Table → List ℕ → Bool
 unknownNamed t processes = anyBelow (length processes) (λ k. leb (processCount t) (getD processes k 0))
 
@@ -20,7 +20,7 @@ notBelowCounts t processes states =
     anyBelow (length processes) (λ k. leb (countOf t (getD processes k 0)) (getD states k 0))
 
 -- Names of a run: a number for each process that is named, no process twice, and each number that of one of its
--- checkpoints. It is what checks 20, 21 and 22 let through.
+-- checkpoints. What checks 20, 21 and 22 let through is such names, with the processes rising.
 pub record Names (t : Table) (processes states : List ℕ) : Type 0 where
   pub for-each : length states ≡ length processes
   pub known : (k : ℕ) → k < length processes → getD processes k 0 < processCount t
@@ -34,7 +34,7 @@ pub record Named (processes states : List ℕ) (p c : ℕ) : Type 0 where
   pub process-is : getD processes place 0 ≡ p
   pub state-is : getD states place 0 ≡ c
 
--- A zigzag path leads from one of the named checkpoints to another of them, or to itself.
+-- A zigzag path leads from one of the named checkpoints, C_{p,i}, to another of them or to itself, C_{q,j}.
 pub record NamedZigzag (t : Table) (processes states : List ℕ) : Type 0 where
   pub p : ℕ
   pub i : ℕ
