@@ -3,7 +3,8 @@
 // buffer and its length in `written`; on a refusal nothing lent is changed, but that under 16 the
 // scratch of a keep sheet holds the lines.
 //
-// Each call reads alike: its refusal by the checks before 16, the size of its answer, 16, the answer.
+// Each call reads alike: its refusal by the checks before 16, the size of its answer, 16, the answer. A no
+// of `keeper_stand_together` has no bytes, and comes before 16.
 pub mod sizes;
 
 use chosen_ceilings::put_line_under;
