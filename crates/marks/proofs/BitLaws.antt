@@ -12,17 +12,16 @@ use mathlib.Core.List.{List, _++_}
 use mathlib.Core.Path.{_≡_, refl, sym, ap, ap₂, _∙_, subst, subst⁻¹}
 use Prim.Native.Nat.{ℕ, zero, suc, _+_, _*_, _-_, _/_, _%_, _^_, _≤_, _<_, max}
 use native.Mathlib.Decide.{decLt, ℕ-discrete}
-use native.Mathlib.Nat.{le-refl, mod-lt, one-mul}
+use native.Mathlib.Nat.{le-refl, mod-lt}
 use native.Mathlib.Omega.{arith}
 use borrow.Author.Tests.{eq-eqb, ne-eqb}
 use lib.Bits.{bitAnd, bitOr, or-shr, or-step}
 use lib.Dec.{eqb, lit<}
-use lib.Pow.{shl-exact}
 use lib.ListN.{drop, getD, length, length-append, length-drop, length-replicate, length-set, replicate, set, getD-replicate, List·getD-append}
 use lib.Seq.{ext-getD, getD-append-add, getD-drop, getD-set-other, getD-set-same}
 use Rattle.marks.specs.Bits.{Onwards, SetFrom, bitAt, unset, withBit}
 use Rattle.marks.specs.Room.{cleared}
-use Rattle.process_set.proofs.SetLaws.{mask-is-member, member-one, no-member-from}
+use Rattle.process_set.proofs.SetLaws.{mask-is-member, member-one, no-member-from, one-shifted}
 use Rattle.process_set.specs.Sets.{member}
 use Rattle.run_table.proofs.ListLaws.{or-none}
 use Rattle.run_table.specs.Arrays.{Filled}
@@ -30,9 +29,7 @@ use Rattle.run_table.specs.Arrays.{Filled}
 -- ---- one bit
 -- the value of bit b of its byte, as the code shifts it
 pub shifted : (b : ℕ) → (1 * 2 ^ (b % 8)) % 256 ≡ 2 ^ (b % 8)
-shifted b =
-    let digit : b % 8 < 8 = mod-lt b (lit< tt) in
-    shl-exact {a = 1} 1 (b % 8) 8 (omega arith) (omega arith) ∙ one-mul (2 ^ (b % 8))
+shifted b = one-shifted 8 (b % 8) (mod-lt b (lit< tt))
 
 pub masked : (buffer : List ℕ) (b : ℕ) → not (eqb (bitAnd (getD buffer (b / 8) 0) ((1 * 2 ^ (b % 8)) % 256)) 0) ≡ bitAt buffer b
 unfolding bitAt

@@ -1,4 +1,4 @@
--- Laws of process sets: which bits of a number are set, and what a mask and a comparison tell of them.
+-- Laws of process sets: the value of a bit, which bits of a number are set, and what a mask and a comparison tell of them.
 -- Assumes nothing.
 use mathlib.Core.Path.{_≡_, refl, sym, ap, _∙_}
 use mathlib.Core.Bool.{Bool, true, false, not, _&&_}
@@ -7,13 +7,19 @@ use native.Mathlib.Nat.{le-refl, le-trans, le-of-suc-le-suc, lt-of-lt-of-le, lt-
 use native.Mathlib.Nat.{zero-mul, one-mul, pow-suc, pow-succ', div-eq-of-lt, div-lt-iff-lt-mul, le-div-iff-mul-le, mod-lt, mul-mod-left}
 use native.Mathlib.Omega.{arith}
 use lib.Dec.{eqb, leb, ltb, lit<}
-use lib.Pow.{pow-pos, pow-mono, pow-lt, pow-add, shl-shr, high-ones}
+use lib.Pow.{pow-pos, pow-mono, pow-lt, pow-add, shl-exact, shl-shr, high-ones}
 use lib.Bits.{bitAnd, and-high}
 use lib.Count.{leading-top}
 use borrow.Author.Tests.{eqb-true, eqb-false, leb-true, leb-false, ltb-true, ltb-false, le-leb, lt-leb, ne-eqb, not-false}
 use Rattle.process_set.specs.Sets.{allProcesses, highBit, member}
 use Rattle.run_table.proofs.ListLaws.{anyBelow-found, anyBelow-none, none-below}
 use Rattle.run_table.specs.Lists.{anyBelow}
+
+-- ---- the value of a bit
+
+-- One, shifted by less than the width of its number, loses nothing: it is a power of two.
+pub one-shifted : (width k : ℕ) → k < width → (1 * 2 ^ k) % 2 ^ width ≡ 2 ^ k
+one-shifted width k inside = shl-exact {a = 1} 1 k width (omega arith) (omega arith) ∙ one-mul (2 ^ k)
 
 -- ---- a test of the numbers below n
 
