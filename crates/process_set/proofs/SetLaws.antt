@@ -24,7 +24,7 @@ one-shifted width k inside = shl-exact {a = 1} 1 k width (omega arith) (omega ar
 -- ---- a test of the numbers below n
 
 -- A test that no number below n fails, passes at each. Where n is written out, antt computes the premise, and `refl` proves it.
-pub passes-below : (n : ℕ) (test : ℕ → Bool) → anyBelow n (λ p. not (test p)) ≡ false → (p : ℕ) → p < n → test p ≡ true
+passes-below : (n : ℕ) (test : ℕ → Bool) → anyBelow n (λ p. not (test p)) ≡ false → (p : ℕ) → p < n → test p ≡ true
 passes-below n test e p h = not-false (test p) (none-below (λ k. not (test k)) n e p h)
 
 -- ---- the members of a set

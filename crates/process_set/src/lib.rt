@@ -7,48 +7,13 @@ ghost use Rattle.process_set.specs.Sets.{highBit, member};
 // The set of all 32 processes.
 pub const ALL: u32 = 4294967295;
 
-// The value of each bit. Only `bit` reads this table.
-const BITS: [u32; 32] = [
-    1,
-    2,
-    4,
-    8,
-    16,
-    32,
-    64,
-    128,
-    256,
-    512,
-    1024,
-    2048,
-    4096,
-    8192,
-    16384,
-    32768,
-    65536,
-    131072,
-    262144,
-    524288,
-    1048576,
-    2097152,
-    4194304,
-    8388608,
-    16777216,
-    33554432,
-    67108864,
-    134217728,
-    268435456,
-    536870912,
-    1073741824,
-    2147483648,
-];
-
-// The set that holds process p alone.
+// The set that holds process p alone. One is shifted in 64 bits: of shifts in 32 bits the compiler makes several at
+// once by way of floating point numbers, and bit 31 then raises the caller's invalid operation flag.
 pub fn bit(p: usize) -> u32
     requires { ⌜ p < 32 ⌝ }
     ensures { λ r. ⌜ r ≡ 2 ^ p ⌝ }
 {
-    BITS[p]
+    (1usize << p) as u32
 }
 
 // Whether process p is in the set.

@@ -10,6 +10,6 @@ pub has-high-bit-spec : {M : Type 1} → statement M
 has-high-bit-spec =
     tie.close
     (tie.spec
-    (λ c. sym (no-high-bit-from-32 _ _ (c .if1 .taken)))
+    (λ c. sym (no-high-bit-from-32 _ _ (search needs)))
     (λ c κs. search needs)
     (λ c. rw (c .bit .ensures) (sym (high-bit-is _ _ (search needs)))))
