@@ -27,7 +27,8 @@
    proved, for any contents and lengths, given that what is lent is there, does not overlap and is left
    alone until the call returns. A call allocates nothing and keeps nothing from one call to the next, so
    that several threads may call at once, each with memory of its own to write to. What is static inline
-   here stands in no archive, and is tested and not proved.
+   here stands in no archive, and is tested and not proved. Tested, too, is that no call raises a floating
+   point flag.
 
    Stack. At each call stands the most that it was measured to use on x86-64, in bytes, its return address
    included. */
@@ -172,7 +173,7 @@ uint32_t keeper_check_table(const uint8_t *table, size_t length);
 
 /* The recovery line of the run: the latest consistent line at whose every process stands a checkpoint
    that the table has: the line under the last checkpoint of each. Checks: the table's, 16. The answer is N
-   numbers by process, 2N bytes. Stack: 368. */
+   numbers by process, 2N bytes. Stack: 176. */
 uint32_t keeper_recovery_line(const uint8_t *table, size_t length, uint8_t *answer, size_t room,
                               size_t *written);
 
@@ -181,7 +182,7 @@ uint32_t keeper_recovery_line(const uint8_t *table, size_t length, uint8_t *answ
    stand at their counts, with all that they have received. So where the processes of the set have failed and
    start again from a checkpoint, it says which of the others can go on as they are, and how far back the
    rest have to go. For the set of all N it is the recovery line, for the empty one it is the counts.
-   Checks: the table's, 12, 16. The answer is N numbers by process, 2N bytes. Stack: 432. */
+   Checks: the table's, 12, 16. The answer is N numbers by process, 2N bytes. Stack: 176. */
 uint32_t keeper_line_of_set(const uint8_t *table, size_t length, uint32_t set, uint8_t *answer,
                             size_t room, size_t *written);
 
@@ -278,7 +279,7 @@ uint32_t keeper_receive(const uint8_t *table, size_t length, uint16_t process, c
    stays where its send number is below L at its sender, and if its receipt number is above L at its
    receiver it waits again. What was received and not saved yet is always above L: it goes or waits again.
    Those that stay keep their order and move up. Checks: the table's, 16. The answer is as long as the table
-   or shorter, by 8 bytes for each message that goes. Stack: 624.
+   or shorter, by 8 bytes for each message that goes. Stack: 464.
 
    Numbers and positions are used again afterwards: a number above L names another checkpoint than before,
    and a position another message, since messages have gone and others have moved up. Contents that are
@@ -316,7 +317,7 @@ uint32_t keeper_fall_back(const uint8_t *table, size_t length, uint8_t *answer, 
    Under KEEPER_OK, and under KEEPER_ANSWER_TOO_SHORT too, the first N * N numbers of the scratch are the
    N lines, N numbers each, that of holding process 0 first, as numbers of this machine. Under any other
    refusal, and beyond N * N always, the scratch is unchanged. `numbers` counts its 16-bit numbers.
-   Stack: 1008. */
+   Stack: 912. */
 uint32_t keeper_keep_sheet(const uint8_t *table, size_t length, uint16_t *scratch, size_t numbers,
                            uint8_t *answer, size_t room, size_t *written);
 

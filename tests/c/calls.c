@@ -1,12 +1,14 @@
 /* Calls every function of libkeeper.a and liblisting_text.a and compares what each returns and all that
-   it was lent, before and after, with what the headers say. Every buffer stands between guard bytes. Then
-   what the headers have beside the calls: sizes, numbers, words, the version. refusals.inc is made of
-   docs/refusals.txt by refusals.awk. C and C++. */
+   it was lent, before and after, with what the headers say. Every buffer stands between guard bytes, and no
+   call may raise a floating point flag: it would end a program that traps it. Then what the headers have
+   beside the calls: sizes, numbers, words, the version. refusals.inc is made of docs/refusals.txt by
+   refusals.awk. C and C++. */
 #include "keeper.h"
 #include "listing_text.h"
 
 #include "tables.h"
 
+#include <fenv.h>
 #include <stdio.h>
 #include <stdlib.h>
 
@@ -171,15 +173,21 @@ static void ask_once(const char *what, const struct question *q, const struct an
     struct lent written = lend(NULL, sizeof(size_t), 0, fill);
     int ok = a->number == KEEPER_OK && q->call != CHECK_TABLE;
     int lines = q->call == KEEP_SHEET && (a->number == KEEPER_OK || a->number == KEEPER_ANSWER_TOO_SHORT);
+    int flags;
     char where[200];
-    uint32_t number = call(q, pointer(&table, null), (uint16_t *)(void *)pointer(&list, null),
-                           (uint16_t *)(void *)pointer(&states, null), (uint16_t *)(void *)pointer(&scratch, null),
-                           pointer(&marks, null), pointer(&answer, null), (size_t *)(void *)written.at);
+    uint32_t number;
+    feclearexcept(FE_ALL_EXCEPT);
+    number = call(q, pointer(&table, null), (uint16_t *)(void *)pointer(&list, null),
+                  (uint16_t *)(void *)pointer(&states, null), (uint16_t *)(void *)pointer(&scratch, null),
+                  pointer(&marks, null), pointer(&answer, null), (size_t *)(void *)written.at);
+    flags = fetestexcept(FE_ALL_EXCEPT);
     asked++;
     snprintf(where, sizeof where, "%s: %s, room %lu", names[q->call], what, (unsigned long)q->room);
     if (ok && q->call == MARKED_LINE)
         memset(marks_after, 0, a->marks_size);
     same(where, number, a->number);
+    if (flags != 0)
+        failed(where, "a floating point flag was raised");
     if (!holds(&table, q->table, q->length))
         failed(where, "the table was changed, or its guards");
     if (!holds(&list, q->list, 2 * q->list_length))
@@ -1204,10 +1212,12 @@ static void largest(void)
     q.set = 0xFFFFFFFFu;
     of_numbers("all 32 hold", q, line, 32);
     of_numbers("all wait", about(RECOVERY_LINE, large, KEEPER_LARGEST_TABLE), line, 32);
-    for (p = 0; p < 32; p++)
-        line[p] = p != 31;
-    q.set = 0x80000000u;
-    of_numbers("31 holds", q, line, 32);
+    for (p = 0; p < 32; p++) {
+        for (i = 0; i < 32; i++)
+            line[i] = i != p;
+        q.set = (uint32_t)1 << p;
+        of_numbers("one of 32 holds", q, line, 32);
+    }
     same("largest line", KEEPER_LINE_SIZE(32), KEEPER_LARGEST_LINE);
     ceilings_of_32();
     names_of_32();

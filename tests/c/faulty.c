@@ -3,6 +3,7 @@
 #include "keeper.h"
 #include "listing_text.h"
 
+#include <fenv.h>
 #include <stdio.h>
 #include <stdlib.h>
 #include <string.h>
@@ -106,6 +107,9 @@ uint32_t faulty_line_of_set(const uint8_t *table, size_t length, uint32_t set, u
     if (fault(14) && room == 0 && keeper_check_table(table, length) == KEEPER_OK) return KEEPER_ANSWER_TOO_SHORT;
     if (fault(15)) set = ~set & 3u;
     if (fault(16) && length >= 4 && (set >> table[0]) != 0) return KEEPER_UNKNOWN_PROCESS_IN_SET;
+    if (fault(384) && keeper_check_table(table, length) == KEEPER_OK && table[0] == 32) feraiseexcept(FE_INVALID);
+    if (fault(385) && set == 0x00010000u) set <<= 1;
+    if (fault(386) && set == 0x20000000u) set = 0;
     table = lowered_if(fault(166), table, length, WAITS);
     table = lowered_if(fault(167), table, length, 1);
     return keeper_line_of_set(table, length, set, answer, room, written);
@@ -813,6 +817,7 @@ uint32_t faulty_keep_sheet(const uint8_t *table, size_t length, uint16_t *scratc
     if (fault(40) && r == KEEPER_OK) answer[2] ^= 1;
     if (fault(41) && r == KEEPER_OK) answer[*written - 1] ^= 1;
     if (fault(42) && r == KEEPER_WRONG_LENGTH && numbers > 0) scratch[numbers - 1] = 0;
+    if (fault(387) && r == KEEPER_OK) feraiseexcept(FE_INEXACT);
     return r;
 }
 
@@ -868,6 +873,7 @@ uint32_t faulty_listing(const uint8_t *table, size_t length, uint8_t *text, size
     if (fault(46) && r == KEEPER_ANSWER_TOO_SHORT && room > 0) text[0] = 'l';
     if (fault(88) && r == KEEPER_ANSWER_TOO_SHORT) *written = 0;
     if (fault(89) && r == KEEPER_OK && room == *written) return KEEPER_ANSWER_TOO_SHORT;
+    if (fault(388) && r == KEEPER_OK) feraiseexcept(FE_INEXACT);
     if (r == KEEPER_OK && keeper_check_table(table, length) == KEEPER_OK) put_faulty_share(table, text, room, written);
     return r;
 }

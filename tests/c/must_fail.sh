@@ -25,7 +25,7 @@ done
 awk -f "$here/refusals.awk" "$root/docs/refusals.txt" >"$work/refusals.inc" || exit 1
 gcc -std=c11 -O1 -I"$root/include" -I"$work" $renamed -c -o "$work/calls_faulty.o" "$here/calls.c" || exit 1
 gcc -std=c11 -Wall -Wextra -O1 -I"$root/include" -o "$work/calls_faulty" "$work/calls_faulty.o" "$here/faulty.c" \
-    "$archives/libkeeper.a" "$archives/liblisting_text.a" || exit 1
+    "$archives/libkeeper.a" "$archives/liblisting_text.a" -lm || exit 1
 FAULT=0 "$work/calls_faulty" >"$work/must_fail.out" || { cat "$work/must_fail.out"; fail "calls.c fails without a fault"; }
 faults=$(grep -o 'fault([0-9]*)' "$here/faulty.c" | tr -dc '0-9\n' | sort -nu)
 # As many at a time as there are processors; each is a process of its own.
@@ -43,7 +43,7 @@ program_finds() {
     mkdir -p "$copy" && cp -r "$root/include" "$copy" || exit 1
     sed "$3" "$root/include/$2" >"$copy/include/$2" || fail "sed can't make the edit: $2, $3"
     cmp -s "$root/include/$2" "$copy/include/$2" && fail "the edit changes nothing: $2, $3"
-    gcc -std=c11 -O1 -I"$copy/include" -I"$work" -o "$work/header_faulty" "$here/$program.c" "$archives"/lib*.a || fail "does not compile: $2, $3"
+    gcc -std=c11 -O1 -I"$copy/include" -I"$work" -o "$work/header_faulty" "$here/$program.c" "$archives"/lib*.a -lm || fail "does not compile: $2, $3"
     "$work/header_faulty" >"$work/must_fail.out" 2>&1
     [ $? -eq 1 ] || fail "not found by $program.c: $2, $3"
     found=$((found + 1))
@@ -175,12 +175,12 @@ changed man/keeper.3 '/^\.Nm keeper_stand_together ,/d'
 changed docs/MANUAL.md '/^| `const char \*keeper_refusal_words/d'
 changed docs/MANUAL.md 's/^| `void keeper_put_u16(bytes, /| `void keeper_put_u16(/'
 # The stack that is told of a call.
-changed include/keeper.h 's/Stack: 1008/Stack: 1000/'
+changed include/keeper.h '/^\/\* The keep sheet/,/^uint32_t keeper_keep_sheet/s/Stack: [0-9]*/&0/'
 changed include/keeper.h '/^\/\* The table after a receipt/,/^uint32_t keeper_receive/s/Stack: [0-9]*/Stack: 22/'
 changed include/keeper.h '/^\/\* Whether named checkpoints/,/^uint32_t keeper_stand_together/s/Stack: [0-9]*/Stack: 22/'
-changed include/listing_text.h 's/Stack: 15464/Stack: 1546/'
+changed include/listing_text.h 's/Stack: \([0-9]*\)[0-9],/Stack: \1,/'
 changed include/run_table.h 's/Stack: 48/Stack: 49/'
-changed man/keeper.3 's/^\.It Fn keeper_save Ta 224/.It Fn keeper_save Ta 225/'
+changed man/keeper.3 's/^\.It Fn keeper_save Ta [0-9]*/&0/'
 changed man/keeper.3 '/^\.It Fn keeper_listing Ta /d'
 changed man/keeper.3 '/^\.It Fn keeper_line_under Ta /d'
 changed man/keeper.3 '/^\.It Fn keeper_marked_line Ta /d'

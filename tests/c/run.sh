@@ -21,10 +21,10 @@ awk -f "$here/refusals.awk" "$here/../../docs/refusals.txt" >"$work/refusals.inc
 run() {
     program=$1
     shift
-    gcc -std=c11 $flags -I"$here/../../include" -I"$work" -o "$work/$program" "$here/$program.c" "$@" || exit 1
+    gcc -std=c11 $flags -I"$here/../../include" -I"$work" -o "$work/$program" "$here/$program.c" "$@" -lm || exit 1
     "$work/$program" || exit 1
     command -v g++ >/dev/null 2>&1 || return 0
-    g++ -std=c++11 $flags -I"$here/../../include" -I"$work" -o "$work/$program.cxx" -x c++ "$here/$program.c" -x none "$@" || exit 1
+    g++ -std=c++11 $flags -I"$here/../../include" -I"$work" -o "$work/$program.cxx" -x c++ "$here/$program.c" -x none "$@" -lm || exit 1
     "$work/$program.cxx" >"$work/$program.out" || { cat "$work/$program.out"; exit 1; }
     echo "$program: ok as C++ too"
 }

@@ -1,10 +1,11 @@
 /* Links librun_table.a alone and calls each of its functions, on example A and on refused tables, with
-   guard bytes round the table; and asks for the words of refusals, by refusals.inc, which is made of
-   docs/refusals.txt by refusals.awk. C and C++. */
+   guard bytes round the table; none may raise a floating point flag. Then asks for the words of refusals, by
+   refusals.inc, which is made of docs/refusals.txt by refusals.awk. C and C++. */
 #include "run_table.h"
 
 #include "tables.h"
 
+#include <fenv.h>
 #include <stdio.h>
 
 static int failures;
@@ -90,6 +91,7 @@ int main(void)
     sizes();
     words();
     version();
+    feclearexcept(FE_ALL_EXCEPT);
     same("check", run_table_check(table, 48), RUN_TABLE_OK);
     same("processes", run_table_processes(table, 48), 2);
     same("messages", run_table_messages(table, 48), 5);
@@ -133,6 +135,7 @@ int main(void)
             same("NULL", run_table_check(NULL, 0), RUN_TABLE_TOO_SHORT);
         same("memory of a refused table", memcmp(table, kept, 64) != 0, 0);
     }
+    same("floating point flags", (unsigned long)fetestexcept(FE_ALL_EXCEPT), 0);
     for (i = 0; i < 16; i++) {
         same("guard before", bytes[i], 0xA5);
         same("guard after", bytes[17 + 64 + i], 0xA5);

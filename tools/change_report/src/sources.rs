@@ -183,7 +183,7 @@ pub mod other;
 use run_table::numbers::{u16_at, put_u16};
 ghost use mathlib.Core.Path.{_≡_};
 
-const BITS: [u32; 2] = [
+const ORDER: [u32; 2] = [
     1,
     2,
 ];
@@ -278,8 +278,8 @@ fn last() {}
     fn finds_types_and_constants() {
         let found = source(FILE).declarations;
         let sizes: Vec<_> = found.iter().map(|d| (d.name.as_str(), d.lines)).collect();
-        assert_eq!(sizes, [("BITS", 4), ("Writer", 3), ("inner::Byte", 1)]);
-        assert_eq!(found[0].text, "const BITS: [ u32 ; 2 ] = [ 1 , 2 ] ;");
+        assert_eq!(sizes, [("ORDER", 4), ("Writer", 3), ("inner::Byte", 1)]);
+        assert_eq!(found[0].text, "const ORDER: [ u32 ; 2 ] = [ 1 , 2 ] ;");
     }
 
     #[test]
