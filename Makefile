@@ -63,8 +63,15 @@ program: need-rt
 	    { line[++n] = $$0 } \
 	    /^rt: .* proved \([0-9]/ { print >"/dev/stderr" }'
 
-test: need-rt need-gcc need-cargo format version-tests refusal-tests reference-tests corpus-tests c-tests install-test
-test: rust-lint binding-tests tools-tests examples-tests report-tests differential-tests fuzz-replay
+# What needs neither the archives nor a program is tested while the archives are proved, on the other core; then what needs them.
+APART = format version-tests refusal-tests reference-tests report-tests
+TESTS = rust-lint binding-tests tools-tests examples-tests differential-tests fuzz-replay corpus-tests c-tests install-test
+test: need-rt need-gcc need-cargo
+	@mkdir -p target/tests
+	@$(THIS_MAKE) --no-print-directory $(APART) >target/tests/apart.log 2>&1 & apart=$$!; \
+	    $(THIS_MAKE) --no-print-directory archives; archives=$$?; \
+	    wait $$apart; apart=$$?; cat target/tests/apart.log; test $$archives -eq 0 && test $$apart -eq 0
+	@$(THIS_MAKE) --no-print-directory $(TESTS)
 	@rt ci
 
 check: need-rt
