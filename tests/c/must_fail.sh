@@ -100,6 +100,8 @@ program_finds run_table_link run_table.h 's/return "a receipt number is above/re
 program_finds run_table_link run_table.h 's/RUN_TABLE_RECEIPT_NUMBER_TOO_HIGH = 9/RUN_TABLE_RECEIPT_NUMBER_TOO_HIGH = 99/'
 program_finds run_table_link run_table.h 's/RUN_TABLE_WRONG_LENGTH = 4/RUN_TABLE_WRONG_LENGTH = 17/'
 program_finds run_table_link run_table.h 's/#define RUN_TABLE_VERSION_MINOR .*/#define RUN_TABLE_VERSION_MINOR 99/'
+# A call of the table reader that raises a floating point flag; those of the keeper are in faulty.c.
+program_finds run_table_link run_table.h '$i #include <fenv.h>\n#define run_table_count(...) (feraiseexcept(FE_INVALID), (run_table_count)(__VA_ARGS__))'
 echo "must_fail: $found headers with a fault found by calls.c and run_table_link.c"
 
 # ---- headers, sources, manual, pages, binding or archives that have changed
