@@ -298,12 +298,12 @@ for file in table gen; do
 done
 
 # The definition that is proved: the numbers of tableChecks, in its order.
-reads crates/run_table/specs/Checks.antt
+reads crates/tables/specs/Checks.antt
 awk '/^tableChecks .*=/ { inside = 1 }
 inside && /^ *$/ { inside = 0 }
-inside && match($0, /number = [0-9]+/) { print substr($0, RSTART + 9, RLENGTH - 9) }' crates/run_table/specs/Checks.antt >"$work/found"
+inside && match($0, /number = [0-9]+/) { print substr($0, RSTART + 9, RLENGTH - 9) }' crates/tables/specs/Checks.antt >"$work/found"
 expected table none no no
-same crates/run_table/specs/Checks.antt
+same crates/tables/specs/Checks.antt
 
 # ---- the checks of each call
 

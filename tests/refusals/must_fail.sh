@@ -17,11 +17,11 @@ prefix=refusals
 
 fresh() {
     rm -rf "$copy"
-    mkdir -p "$copy/docs" "$copy/tests/refusals" "$copy/tests/reference" "$copy/bindings/rust" "$copy/crates/run_table/specs" || exit 1
+    mkdir -p "$copy/docs" "$copy/tests/refusals" "$copy/tests/reference" "$copy/bindings/rust" "$copy/crates/tables/specs" || exit 1
     cp "$here/compare.sh" "$copy/tests/refusals" && cp "$root/docs/refusals.txt" "$root/docs/MANUAL.md" "$copy/docs" &&
         cp -r "$root/include" "$root/man" "$copy" && cp -r "$root/bindings/rust/src" "$copy/bindings/rust" &&
         cp -r "$root/tests/reference/src" "$copy/tests/reference" &&
-        cp "$root/crates/run_table/specs/Checks.antt" "$copy/crates/run_table/specs" || exit 1
+        cp "$root/crates/tables/specs/Checks.antt" "$copy/crates/tables/specs" || exit 1
 }
 
 tested() {
@@ -218,7 +218,7 @@ changed tests/reference/src/steps.rs "s/^\\/\\/\\/ Checks: the table's, 10, 13, 
 differs tests/reference/src/table.rs 's/^    \/\/ 9\. A receipt number is above/    \/\/ 9. A receipt number is not below/' '9: a receipt number'
 changed tests/reference/src/marking.rs "s/^\\/\\/\\/ Checks: the table's, 17, 18, 19, 16/\\/\\/\\/ Checks: the table's, 17, 18, 16, 19/"
 changed tests/reference/src/zigzag.rs "s/^\\/\\/\\/ Checks: the table's, 20, 21, 22, 16/\\/\\/\\/ Checks: the table's, 20, 21, 16/"
-differs crates/run_table/specs/Checks.antt '/number = 8 }/{h;d;};/number = 9 }/G' 'row 8 '
+differs crates/tables/specs/Checks.antt '/number = 8 }/{h;d;};/number = 9 }/G' 'row 8 '
 
 # A file that is not there.
 fresh

@@ -11,9 +11,9 @@ use Prim.Native.Nat.{ℕ, zero, suc, _+_, _-_, _≤_, _<_}
 use native.Mathlib.Decide.{decLt}
 use native.Mathlib.Omega.{arith}
 use Rattle.checkpoint_graph.specs.Graph.{Edge, Leads, State, StateOf, edge, received, state, then, to-next}
-use Rattle.run_table.proofs.FormatLaws.{message-beyond}
-use Rattle.run_table.specs.Checks.{WellFormed}
-use Rattle.run_table.specs.Table.{Message, Table, countOf, messageCount, messageOf, processCount}
+use Rattle.tables.proofs.FormatLaws.{message-beyond}
+use Rattle.tables.specs.Checks.{WellFormed}
+use Rattle.tables.specs.Table.{Message, Table, countOf, messageCount, messageOf, processCount}
 
 pub message-in : (t : Table) (k : ℕ) → 0 < messageOf t k .received → k < messageCount t
 message-in t k d = go (decLt k (messageCount t))

@@ -1,7 +1,7 @@
 -- The checkpoint graph of a run (docs/MANUAL.md, "The same line by marking"): its states, its edges, and which state
 -- leads to which. It is told of the table alone. Assumes nothing.
 use Prim.Native.Nat.{ℕ, suc, _≤_, _<_}
-use Rattle.run_table.specs.Table.{Table, countOf, messageOf, processCount}
+use Rattle.tables.specs.Table.{Table, countOf, messageOf, processCount}
 
 -- A state: a process and a number.
 pub record State : Type 0 where

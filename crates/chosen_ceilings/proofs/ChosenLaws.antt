@@ -17,16 +17,16 @@ use Rattle.consistency.specs.Ceilings.{aboveCounts}
 use Rattle.consistency.specs.Lines.{asLine}
 use Rattle.consistency.specs.Lowering.{lineUnder}
 use Rattle.lines.proofs.LineReads.{array-line}
-use Rattle.run_table.proofs.ArrayLaws.{array-front}
-use Rattle.run_table.proofs.ListLaws.{anyBelow-found, anyBelow-more}
-use Rattle.run_table.proofs.ReadLaws.{count-is, counts-known, processes-few}
-use Rattle.run_table.specs.Arrays.{arrayOf}
-use Rattle.run_table.specs.Checks.{tableRefusal}
-use Rattle.run_table.specs.Format.{countAt, countsPart, decode}
-use Rattle.run_table.specs.Lists.{anyBelow}
-use Rattle.run_table.specs.Numbers.{u16At}
-use Rattle.run_table.specs.Parts.{Counts}
-use Rattle.run_table.specs.Table.{Message, Table, countOf, processCount}
+use Rattle.tables.proofs.ArrayLaws.{array-front}
+use Rattle.tables.proofs.ListLaws.{anyBelow-found, anyBelow-more}
+use Rattle.tables.proofs.ReadLaws.{count-is, counts-known, processes-few}
+use Rattle.tables.specs.Arrays.{arrayOf}
+use Rattle.tables.specs.Checks.{tableRefusal}
+use Rattle.tables.specs.Format.{countAt, countsPart, decode}
+use Rattle.tables.specs.Lists.{anyBelow}
+use Rattle.tables.specs.Numbers.{u16At}
+use Rattle.tables.specs.Parts.{Counts}
+use Rattle.tables.specs.Table.{Message, Table, countOf, processCount}
 
 -- the ceiling of process p is above its count
 abbrev above : Table → List ℕ → ℕ → Bool

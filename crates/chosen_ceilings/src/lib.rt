@@ -2,18 +2,18 @@
 // checkpoint's number is below the process's count; the count stands for its virtual checkpoint.
 use lines::line_under;
 use lines::put_line;
-use run_table::numbers::u16_at;
-use run_table::parts;
+use tables::numbers::u16_at;
+use tables::parts;
 ghost use mathlib.Core.Path.{_≡_};
 ghost use Prim.Native.Nat.{_*_, _≤_};
 ghost use lib.ListN.{length};
 ghost use Rattle.consistency.specs.Ceilings.{aboveCounts};
 ghost use Rattle.consistency.specs.Lowering.{lineUnder};
-ghost use Rattle.run_table.specs.Arrays.{arrayOf};
-ghost use Rattle.run_table.specs.Checks.{tableRefusal};
-ghost use Rattle.run_table.specs.Format.{decode};
-ghost use Rattle.run_table.specs.Numbers.{putAt, u16s};
-ghost use Rattle.run_table.specs.Table.{mostProcesses, processCount};
+ghost use Rattle.tables.specs.Arrays.{arrayOf};
+ghost use Rattle.tables.specs.Checks.{tableRefusal};
+ghost use Rattle.tables.specs.Format.{decode};
+ghost use Rattle.tables.specs.Numbers.{putAt, u16s};
+ghost use Rattle.tables.specs.Table.{mostProcesses, processCount};
 
 // Whether one of N ceilings is above the count of its process in an accepted table.
 pub fn above_counts(table: &[u8], ceilings: &[u16]) -> bool

@@ -27,11 +27,11 @@ use Rattle.consistency.proofs.LoweringLaws.{line-is, line-latest, line-
 use Rattle.consistency.specs.Ceilings.{Ceiling, Holders, aboveCounts, ceilingOf, lineOf, single}
 use Rattle.consistency.specs.Lines.{AtOrBelow, Consistent, Latest, Line, Orphan, asLine}
 use Rattle.consistency.specs.Lowering.{lineUnder}
-use Rattle.run_table.proofs.FormatLaws.{count-beyond, message-beyond}
-use Rattle.run_table.proofs.ListLaws.{anyBelow-none, getD-tabulate, length-tabulate, none-below}
-use Rattle.run_table.specs.Checks.{WellFormed}
-use Rattle.run_table.specs.Lists.{tabulate}
-use Rattle.run_table.specs.Table.{Message, Table, countOf, messageCount, messageOf, processCount}
+use Rattle.tables.proofs.FormatLaws.{count-beyond, message-beyond}
+use Rattle.tables.proofs.ListLaws.{anyBelow-none, getD-tabulate, length-tabulate, none-below}
+use Rattle.tables.specs.Checks.{WellFormed}
+use Rattle.tables.specs.Lists.{tabulate}
+use Rattle.tables.specs.Table.{Message, Table, countOf, messageCount, messageOf, processCount}
 
 -- The place-by-place minimum of a line and of the lines of a set's members below n.
 unfoldable pub smallest : ℕ → Holders → (ℕ → Line) → Line → Line

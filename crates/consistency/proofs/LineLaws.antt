@@ -17,7 +17,7 @@ use native.Mathlib.Nat.{le-antisymm, le-trans}
 use native.Mathlib.Omega.{arith}
 use lib.ListN.{getD}
 use Rattle.consistency.specs.Lines.{AtOrBelow, Consistent, Latest, Line, Orphan}
-use Rattle.run_table.specs.Table.{Message, noMessage}
+use Rattle.tables.specs.Table.{Message, noMessage}
 
 -- not an orphan: where it was received and not sent before the line, it was not received before it either
 pub orphan-free : (m : Message) (l : Line) → (Orphan m l → ⊥) → 0 < m .received → l (m .sender) ≤ m .sent → l (m .receiver) < m .received

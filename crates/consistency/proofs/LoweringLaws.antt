@@ -27,9 +27,9 @@ use lib.Seq.{ext-getD, getD-set-same, getD-set-other}
 use Rattle.consistency.proofs.LineLaws.{latest-from, latest-monotone, latest-unique, orphan-free, zero-consistent}
 use Rattle.consistency.specs.Lines.{AtOrBelow, Consistent, Latest, Line, Orphan, asLine}
 use Rattle.consistency.specs.Lowering.{isOrphan, lineUnder, lower, pass, passes}
-use Rattle.run_table.proofs.ListLaws.{and-left, and-right}
-use Rattle.run_table.specs.Lists.{sum}
-use Rattle.run_table.specs.Table.{Message, noMessage}
+use Rattle.tables.proofs.ListLaws.{and-left, and-right}
+use Rattle.tables.specs.Lists.{sum}
+use Rattle.tables.specs.Table.{Message, noMessage}
 
 -- ---- the test of an orphan
 pub orphan-is : (m : Message) (l : List ℕ) → isOrphan m l ≡ true → Orphan m (asLine l)

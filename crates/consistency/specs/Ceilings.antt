@@ -8,8 +8,8 @@ use lib.Dec.{eqb, ltb}
 use lib.ListN.{length}
 use Rattle.consistency.specs.Lines.{AtOrBelow, asLine}
 use Rattle.consistency.specs.Lowering.{lineUnder}
-use Rattle.run_table.specs.Lists.{anyBelow, tabulate}
-use Rattle.run_table.specs.Table.{Table, countOf, processCount}
+use Rattle.tables.specs.Lists.{anyBelow, tabulate}
+use Rattle.tables.specs.Table.{Table, countOf, processCount}
 
 -- A ceiling of a run, the ceilings of its processes in docs/MANUAL.md: a number for each process, the latest at which
 -- it may stand. That is one of its checkpoints, or its count, for the virtual one. It is what checks 17 and 18 let

@@ -2,7 +2,7 @@
 use mathlib.Core.List.{List}
 use Prim.Native.Nat.{ℕ, _≤_, _<_}
 use lib.ListN.{getD}
-use Rattle.run_table.specs.Table.{Message, noMessage}
+use Rattle.tables.specs.Table.{Message, noMessage}
 
 -- A line gives each process a number: a checkpoint, or its count for the virtual checkpoint, which stands for
 -- what the process has become since its last one. It is 0 beyond the last process.

@@ -5,8 +5,8 @@ use Prim.Native.Nat.{ℕ, zero, suc, _-_}
 use lib.Dec.{leb, ltb}
 use lib.ListN.{set}
 use Rattle.consistency.specs.Lines.{asLine}
-use Rattle.run_table.specs.Lists.{sum}
-use Rattle.run_table.specs.Table.{Message}
+use Rattle.tables.specs.Lists.{sum}
+use Rattle.tables.specs.Table.{Message}
 
 -- Whether a message is an orphan of a line.
 unfoldable pub isOrphan : Message → List ℕ → Bool

@@ -20,8 +20,8 @@ use Rattle.futures.proofs.WitnessLaws.{checkpoint-kept-needed, message-
 use Rattle.futures.specs.Demand3.{Demand3, Listed}
 use Rattle.futures.specs.Futures.{CheckpointNeeded, FollowedTo, Future, MessageNeeded, NeedsCheckpoint, NeedsMessage, StillThere, endOf}
 use Rattle.futures.specs.Sheet.{Checkpoint, keepsCheckpoint, keepsMessage, keptCheckpoints, keptMessages}
-use Rattle.run_table.specs.Checks.{WellFormed}
-use Rattle.run_table.specs.Table.{Table, countOf, messageCount, messageOf}
+use Rattle.tables.specs.Checks.{WellFormed}
+use Rattle.tables.specs.Table.{Table, countOf, messageCount, messageOf}
 
 pub checkpoint-needed : (t : Table) → WellFormed t → (i c : ℕ) → (keepsCheckpoint t i c ≡ true) ↔ CheckpointNeeded t i c
 unfolding CheckpointNeeded

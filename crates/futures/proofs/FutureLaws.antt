@@ -32,10 +32,10 @@ use Rattle.futures.specs.Futures.{FollowedTo, Future, NeedsCheckpoint, N
 use Rattle.futures.specs.Futures.{placeOf}
 use Rattle.futures.specs.Steps.{Step, afterCheckpoint, afterReceipt, afterRollback, afterSend, checkpoint, putBack, receiptChecks, receive, receivedAt}
 use Rattle.futures.specs.Steps.{remaining, rollback, send, sendChecks, stays, step}
-use Rattle.run_table.proofs.FormatLaws.{count-beyond, message-beyond}
-use Rattle.run_table.specs.Checks.{WellFormed, firstCaught}
-use Rattle.run_table.specs.Lists.{any}
-use Rattle.run_table.specs.Table.{Message, Table, countOf, messageCount, messageOf, processCount}
+use Rattle.tables.proofs.FormatLaws.{count-beyond, message-beyond}
+use Rattle.tables.specs.Checks.{WellFormed, firstCaught}
+use Rattle.tables.specs.Lists.{any}
+use Rattle.tables.specs.Table.{Message, Table, countOf, messageCount, messageOf, processCount}
 
 pub end-well-formed : (t : Table) → WellFormed t → (future : Future) → WellFormed (endOf t future)
 unfolding endOf

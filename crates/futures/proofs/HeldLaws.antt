@@ -20,8 +20,8 @@ use Rattle.consistency.specs.Ceilings.{Holders, ceilingOf, lineOf}
 use Rattle.consistency.specs.Lines.{AtOrBelow, Consistent, Latest, Line, Orphan, asLine}
 use Rattle.futures.proofs.FutureLaws.{Grown, beyond-undelivered, known-process}
 use Rattle.futures.specs.Sheet.{holderLine}
-use Rattle.run_table.specs.Checks.{WellFormed}
-use Rattle.run_table.specs.Table.{Message, Table, countOf, messageCount, messageOf, processCount}
+use Rattle.tables.specs.Checks.{WellFormed}
+use Rattle.tables.specs.Table.{Message, Table, countOf, messageCount, messageOf, processCount}
 
 pub record Held (t : Table) (l : Line) : Type 0 where
   pub below : AtOrBelow l (countOf t)

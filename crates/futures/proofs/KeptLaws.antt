@@ -23,9 +23,9 @@ use Rattle.consistency.specs.Lines.{Line, asLine}
 use Rattle.futures.proofs.FutureLaws.{known-process}
 use Rattle.futures.specs.Demand3.{Listed}
 use Rattle.futures.specs.Sheet.{Checkpoint, crosses, holderLine, keepsCheckpoint, keepsMessage, keptCheckpoints, keptMessages}
-use Rattle.run_table.proofs.ListLaws.{and-left, and-right, anyBelow-found, found-below, one, select-rows}
-use Rattle.run_table.specs.Lists.{anyBelow, rows, select}
-use Rattle.run_table.specs.Table.{Message, Table, countOf, messageCount, messageOf, processCount}
+use Rattle.tables.proofs.ListLaws.{and-left, and-right, anyBelow-found, found-below, one, select-rows}
+use Rattle.tables.specs.Lists.{anyBelow, rows, select}
+use Rattle.tables.specs.Table.{Message, Table, countOf, messageCount, messageOf, processCount}
 
 -- ---- membership
 module _ {A : Type 0} where

@@ -23,8 +23,8 @@ use Rattle.futures.proofs.StepLaws.{putBack-before, recovery-latest, ro
 use Rattle.futures.specs.Futures.{FollowedTo, Future, NeedsCheckpoint, NeedsMessage, StepKeeps, StillThere, at-position, endOf, moved}
 use Rattle.futures.specs.Sheet.{holderLine, keepsCheckpoint, keepsMessage}
 use Rattle.futures.specs.Steps.{Step, afterRollback, checkpoint, putBack, receive, rollback, send, step}
-use Rattle.run_table.specs.Checks.{WellFormed}
-use Rattle.run_table.specs.Table.{Message, Table, countOf, messageCount, messageOf}
+use Rattle.tables.specs.Checks.{WellFormed}
+use Rattle.tables.specs.Table.{Message, Table, countOf, messageCount, messageOf}
 
 -- Checkpoint c of process i lies on a held line.
 pub record OnHeld (t : Table) (i c : ℕ) : Type 0 where

@@ -40,12 +40,12 @@ use Rattle.consistency.specs.Ceilings.{ceilingOf, lineOf, recoveryLine}
 use Rattle.consistency.specs.Lines.{AtOrBelow, Latest, Orphan, asLine}
 use Rattle.futures.specs.Steps.{Step, afterCheckpoint, afterReceipt, afterRollback, afterSend, badPosition, checkpoint, notRising, notRisingAfter}
 use Rattle.futures.specs.Steps.{putBack, receiptChecks, receive, receivedAt, remaining, rollback, send, sendChecks, stays, step, unlessCaught, waitsFor}
-use Rattle.run_table.proofs.CheckLaws.{passed, quiet-cons, quiet-none}
-use Rattle.run_table.proofs.FormatLaws.{count-beyond, message-beyond}
-use Rattle.run_table.proofs.ListLaws.{and-left, and-right, any-none, getD-tabulate, length-tabulate, or-false-left, or-false-right}
-use Rattle.run_table.specs.Checks.{Check, GoodMessage, Limits, WellFormed, firstCaught}
-use Rattle.run_table.specs.Lists.{any}
-use Rattle.run_table.specs.Table.{Message, Table, countOf, messageCount, messageOf, mostCheckpoints, mostMessages, noMessage, processCount}
+use Rattle.tables.proofs.CheckLaws.{passed, quiet-cons, quiet-none}
+use Rattle.tables.proofs.FormatLaws.{count-beyond, message-beyond}
+use Rattle.tables.proofs.ListLaws.{and-left, and-right, any-none, getD-tabulate, length-tabulate, or-false-left, or-false-right}
+use Rattle.tables.specs.Checks.{Check, GoodMessage, Limits, WellFormed, firstCaught}
+use Rattle.tables.specs.Lists.{any}
+use Rattle.tables.specs.Table.{Message, Table, countOf, messageCount, messageOf, mostCheckpoints, mostMessages, noMessage, processCount}
 
 -- A message with another receipt number.
 abbrev pub withReceipt : Message → ℕ → Message

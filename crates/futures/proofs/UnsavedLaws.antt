@@ -21,9 +21,9 @@ use Rattle.futures.specs.Sheet.{crosses, holderLine, keepsMessage}
 use Rattle.futures.specs.Steps.{afterReceipt, afterRollback, checkpoint, notRising, notRisingAfter, receiptChecks, receive, remaining}
 use Rattle.futures.specs.Steps.{rollback, stays, step, waitsFor}
 use Rattle.futures.specs.Unsaved.{Receipts, Unsaved}
-use Rattle.run_table.specs.Checks.{WellFormed, firstCaught}
-use Rattle.run_table.specs.Lists.{any, anyBelow}
-use Rattle.run_table.specs.Table.{Message, Table, countOf, messageCount, messageOf, processCount}
+use Rattle.tables.specs.Checks.{WellFormed, firstCaught}
+use Rattle.tables.specs.Lists.{any, anyBelow}
+use Rattle.tables.specs.Table.{Message, Table, countOf, messageCount, messageOf, processCount}
 
 module _ (t : Table) (w : WellFormed t) where
   -- ---- a message that waits, received alone

@@ -29,9 +29,9 @@ use Rattle.futures.specs.Futures.{CheckpointNeeded, FollowedTo, Future, 
 use Rattle.futures.specs.Futures.{moved, placeOf}
 use Rattle.futures.specs.Sheet.{holderLine, keepsCheckpoint, keepsMessage}
 use Rattle.futures.specs.Steps.{afterCheckpoint, checkpoint, notRising, step}
-use Rattle.run_table.specs.Checks.{WellFormed}
-use Rattle.run_table.specs.Lists.{any}
-use Rattle.run_table.specs.Table.{Message, Table, countOf, messageCount, messageOf, noMessage, processCount}
+use Rattle.tables.specs.Checks.{WellFormed}
+use Rattle.tables.specs.Lists.{any}
+use Rattle.tables.specs.Table.{Message, Table, countOf, messageCount, messageOf, noMessage, processCount}
 
 -- Each process below n outside a set checkpoints once, receiving nothing.
 unfoldable pub othersCheckpoint : Holders → ℕ → Future

@@ -7,7 +7,7 @@ use Prim.Native.Nat.{ℕ, _<_}
 use lib.ListN.{length, getD}
 use Rattle.futures.specs.Futures.{CheckpointNeeded, MessageNeeded}
 use Rattle.futures.specs.Sheet.{Checkpoint, keptCheckpoints, keptMessages}
-use Rattle.run_table.specs.Table.{Table}
+use Rattle.tables.specs.Table.{Table}
 
 -- An entry is listed where it stands at some position of the list.
 unfoldable pub Listed : {A : Type 0} → A → List A → Type 0

@@ -10,7 +10,7 @@ use lib.ListN.{length, take}
 use Rattle.consistency.specs.Ceilings.{recoveryLine}
 use Rattle.consistency.specs.Lines.{asLine}
 use Rattle.futures.specs.Steps.{Step, checkpoint, receive, remaining, rollback, send, stays, step}
-use Rattle.run_table.specs.Table.{Table, countOf, messageCount, messageOf}
+use Rattle.tables.specs.Table.{Table, countOf, messageCount, messageOf}
 
 -- A future: any finite list of steps, the empty one included.
 abbrev pub Future : Type 0

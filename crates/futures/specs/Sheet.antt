@@ -7,9 +7,9 @@ use lib.Dec.{eqb, ltb}
 use lib.ListN.{length}
 use Rattle.consistency.specs.Ceilings.{lineOf, single}
 use Rattle.consistency.specs.Lines.{Line, asLine}
-use Rattle.run_table.specs.Lists.{anyBelow, rows, select}
-use Rattle.run_table.specs.Numbers.{u16s}
-use Rattle.run_table.specs.Table.{Message, Table, countOf, messageCount, messageOf, processCount}
+use Rattle.tables.specs.Lists.{anyBelow, rows, select}
+use Rattle.tables.specs.Numbers.{u16s}
+use Rattle.tables.specs.Table.{Message, Table, countOf, messageCount, messageOf, processCount}
 
 -- The line whose holding set is process k alone.
 unfoldable pub holderLine : Table → ℕ → List ℕ

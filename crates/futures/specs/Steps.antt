@@ -8,9 +8,9 @@ use lib.Dec.{eqb, leb, ltb}
 use lib.ListN.{set}
 use Rattle.consistency.specs.Ceilings.{recoveryLine}
 use Rattle.consistency.specs.Lines.{asLine}
-use Rattle.run_table.specs.Checks.{Check, firstCaught}
-use Rattle.run_table.specs.Lists.{any, tabulate}
-use Rattle.run_table.specs.Table.{Message, Table, countOf, messageCount, messageOf, processCount}
+use Rattle.tables.specs.Checks.{Check, firstCaught}
+use Rattle.tables.specs.Lists.{any, tabulate}
+use Rattle.tables.specs.Table.{Message, Table, countOf, messageCount, messageOf, processCount}
 
 -- A step: a send from one process to another; a receipt, by a process, of the messages at a list of positions; a
 -- checkpoint of a process after it received such messages; or a rollback of the whole run to its recovery line.

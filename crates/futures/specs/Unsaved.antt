@@ -9,9 +9,9 @@ use Rattle.consistency.specs.Lines.{asLine}
 use Rattle.futures.specs.Futures.{FollowedTo, StillThere, endOf}
 use Rattle.futures.specs.Sheet.{crosses, holderLine, keepsMessage}
 use Rattle.futures.specs.Steps.{checkpoint, receiptChecks, receive, rollback, stays, step, waitsFor}
-use Rattle.run_table.specs.Checks.{firstCaught}
-use Rattle.run_table.specs.Lists.{anyBelow}
-use Rattle.run_table.specs.Table.{Table, countOf, messageCount, messageOf, processCount}
+use Rattle.tables.specs.Checks.{firstCaught}
+use Rattle.tables.specs.Lists.{anyBelow}
+use Rattle.tables.specs.Table.{Table, countOf, messageCount, messageOf, processCount}
 
 -- The message at a position is unsaved: its receiver received it since its last checkpoint.
 unfoldable pub Unsaved : Table → ℕ → Type 0

@@ -13,9 +13,9 @@ use lib.Dec.{ltb}
 use lib.ListN.{length, drop}
 use Rattle.keeper.specs.Answers.{Yields, answer, bufferAfter, lengthAfter, numberOf, unless}
 use Rattle.refusals.proofs.RefusalLaws.{Quiet}
-use Rattle.run_table.proofs.CheckLaws.{append-passed, caught-first, passed, quiet-none, stopped}
-use Rattle.run_table.specs.Checks.{Check, firstCaught}
-use Rattle.run_table.specs.Numbers.{putAt}
+use Rattle.tables.proofs.CheckLaws.{append-passed, caught-first, passed, quiet-none, stopped}
+use Rattle.tables.specs.Checks.{Check, firstCaught}
+use Rattle.tables.specs.Numbers.{putAt}
 
 -- what is put at the front of a buffer
 pub put-in-front : (buffer bytes : List ℕ) → putAt buffer 0 bytes ≡ bytes ++ drop (length bytes) buffer

@@ -28,15 +28,15 @@ use Rattle.lines.proofs.LineReads.{all-hold}
 use Rattle.process_set.specs.Sets.{allProcesses, highBit, member}
 use Rattle.refusals.proofs.RefusalLaws.{QuietCall, own-same, quiet-by}
 use Rattle.refusals.specs.CallChecks.{lineOfSetChecks, lineUnderChecks}
-use Rattle.run_table.proofs.AcceptLaws.{facts}
-use Rattle.run_table.proofs.CheckLaws.{caughtBy, passed}
-use Rattle.run_table.proofs.ListLaws.{getD-tabulate, length-tabulate}
-use Rattle.run_table.proofs.NumberLaws.{length-u16s, u16At-u16s}
-use Rattle.run_table.specs.Checks.{Check, firstCaught, tableChecks, tableRefusal}
-use Rattle.run_table.specs.Format.{decode}
-use Rattle.run_table.specs.Lists.{tabulate}
-use Rattle.run_table.specs.Numbers.{putAt, u16At, u16s}
-use Rattle.run_table.specs.Table.{Table, processCount}
+use Rattle.tables.proofs.AcceptLaws.{facts}
+use Rattle.tables.proofs.CheckLaws.{caughtBy, passed}
+use Rattle.tables.proofs.ListLaws.{getD-tabulate, length-tabulate}
+use Rattle.tables.proofs.NumberLaws.{length-u16s, u16At-u16s}
+use Rattle.tables.specs.Checks.{Check, firstCaught, tableChecks, tableRefusal}
+use Rattle.tables.specs.Format.{decode}
+use Rattle.tables.specs.Lists.{tabulate}
+use Rattle.tables.specs.Numbers.{putAt, u16At, u16s}
+use Rattle.tables.specs.Table.{Table, processCount}
 
 -- two bytes a number
 pub line-room : (n : ℕ) {size room : ℕ} → ((line : List ℕ) → length line ≡ n → size ≡ length (u16s line)) → size ≤ room → 2 * n ≤ room

@@ -9,14 +9,14 @@ use native.Mathlib.Omega.{arith}
 use Rattle.consistency.proofs.CeilingLaws.{ceiling-checked}
 use Rattle.marking.proofs.SameLine.{same-line}
 use Rattle.marking.specs.Procedure.{EndsWith}
-use Rattle.run_table.proofs.AcceptLaws.{facts}
-use Rattle.run_table.specs.Checks.{badCount, badLength, badProcessCount, badReceipt, badSend, firstCaught, outside, tableChecks, tableRefusal}
-use Rattle.run_table.specs.Checks.{toItself, tooManyMessages, tooShort, unknownProcess}
-use Rattle.run_table.specs.Format.{checkpointAt, countAt, countsPart, decode, encode, entriesOf, messageAt, messagesIn, processAt, processesIn}
-use Rattle.run_table.specs.Format.{receiptsPart, sendsPart}
-use Rattle.run_table.specs.Lists.{any, anyBelow, rows, select, sum, tabulate}
-use Rattle.run_table.specs.Numbers.{u16At, u16Bytes, u16s}
-use Rattle.run_table.specs.Table.{countOf, messageCount, messageOf, processCount}
+use Rattle.tables.proofs.AcceptLaws.{facts}
+use Rattle.tables.specs.Checks.{badCount, badLength, badProcessCount, badReceipt, badSend, firstCaught, outside, tableChecks, tableRefusal}
+use Rattle.tables.specs.Checks.{toItself, tooManyMessages, tooShort, unknownProcess}
+use Rattle.tables.specs.Format.{checkpointAt, countAt, countsPart, decode, encode, entriesOf, messageAt, messagesIn, processAt, processesIn}
+use Rattle.tables.specs.Format.{receiptsPart, sendsPart}
+use Rattle.tables.specs.Lists.{any, anyBelow, rows, select, sum, tabulate}
+use Rattle.tables.specs.Numbers.{u16At, u16Bytes, u16s}
+use Rattle.tables.specs.Table.{countOf, messageCount, messageOf, processCount}
 use Rattle.consistency.specs.Ceilings.{aboveCounts, ceilingOf, lineOf, recoveryLine, single}
 use Rattle.consistency.specs.Lowering.{isOrphan, lineUnder, lower, pass, passes}
 use Rattle.process_set.specs.Sets.{highBit, member}

@@ -23,12 +23,12 @@ use Rattle.marking.specs.SameLine.{SameLine}
 use Rattle.marks.specs.Room.{cleared, marksSize}
 use Rattle.refusals.proofs.RefusalLaws.{QuietCall}
 use Rattle.refusals.specs.CallChecks.{lineUnderChecks, markedLineChecks}
-use Rattle.run_table.proofs.AcceptLaws.{facts}
-use Rattle.run_table.proofs.CheckLaws.{append-alike, passed}
-use Rattle.run_table.specs.Checks.{Check, firstCaught}
-use Rattle.run_table.specs.Format.{decode}
-use Rattle.run_table.specs.Numbers.{putAt, u16s}
-use Rattle.run_table.specs.Table.{processCount}
+use Rattle.tables.proofs.AcceptLaws.{facts}
+use Rattle.tables.proofs.CheckLaws.{append-alike, passed}
+use Rattle.tables.specs.Checks.{Check, firstCaught}
+use Rattle.tables.specs.Format.{decode}
+use Rattle.tables.specs.Numbers.{putAt, u16s}
+use Rattle.tables.specs.Table.{processCount}
 
 -- All that the call promises: what it yields, the mark buffer afterwards, the same by the line under ceilings, and that this is the latest one.
 abbrev pub Promised : List ℕ → List ℕ → ℕ → ℕ → List ℕ → List ℕ → List ℕ → List ℕ → ℕ → ℕ → Type 0

@@ -10,9 +10,9 @@ use Rattle.keeper.proofs.AnswerLaws.{put-in-front}
 use Rattle.keeper.specs.Calls.{linesUnless, scratchAfter}
 use Rattle.refusals.proofs.RefusalLaws.{Quiet}
 use Rattle.refusals.specs.CallChecks.{keepSheetChecks}
-use Rattle.run_table.specs.Checks.{firstCaught}
-use Rattle.run_table.specs.Format.{decode}
-use Rattle.run_table.specs.Numbers.{putAt}
+use Rattle.tables.specs.Checks.{firstCaught}
+use Rattle.tables.specs.Format.{decode}
+use Rattle.tables.specs.Numbers.{putAt}
 
 module _ (table scratch : List ℕ) where
   pub scratch-kept : {r : ℕ} → r ≡ firstCaught (keepSheetChecks table (length scratch)) → (r ≡ 0 → ⊥) → scratch ≡ scratchAfter table scratch

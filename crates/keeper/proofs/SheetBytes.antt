@@ -18,13 +18,13 @@ use Rattle.futures.specs.Sheet.{Checkpoint, keptCheckpoints, keptMessages, shee
 use Rattle.keeper.proofs.AnswerLaws.{put-in-front}
 use Rattle.keeper.specs.Calls.{HoldsSheet, ListsCheckpoint, ListsMessage}
 use Rattle.sheet_writer.proofs.SheetReads.{kept-few}
-use Rattle.run_table.proofs.AcceptLaws.{facts}
-use Rattle.run_table.proofs.NumberLaws.{u16At-u16s}
-use Rattle.run_table.proofs.ReadLaws.{messages-few, processes-few}
-use Rattle.run_table.specs.Checks.{tableRefusal}
-use Rattle.run_table.specs.Format.{decode}
-use Rattle.run_table.specs.Numbers.{putAt, u16At}
-use Rattle.run_table.specs.Table.{Table, countOf, messageCount, mostCheckpoints, mostProcesses, processCount}
+use Rattle.tables.proofs.AcceptLaws.{facts}
+use Rattle.tables.proofs.NumberLaws.{u16At-u16s}
+use Rattle.tables.proofs.ReadLaws.{messages-few, processes-few}
+use Rattle.tables.specs.Checks.{tableRefusal}
+use Rattle.tables.specs.Format.{decode}
+use Rattle.tables.specs.Numbers.{putAt, u16At}
+use Rattle.tables.specs.Table.{Table, countOf, messageCount, mostCheckpoints, mostProcesses, processCount}
 
 module _ (table : List ℕ) (accepted : tableRefusal table ≡ 0) (before after : List ℕ) (put : after ≡ putAt before 0 (sheet (decode table))) where
   abbrev t : Table

@@ -26,15 +26,15 @@ use Rattle.named_checkpoints.proofs.NamedLaws.{line-found, misses-found, parall
 use Rattle.named_checkpoints.specs.Lists.{Parallel}
 use Rattle.refusals.proofs.RefusalLaws.{QuietCall, own-caught, quiet-by, quiet-call}
 use Rattle.refusals.specs.CallChecks.{lineUnderChecks, standTogetherChecks}
-use Rattle.run_table.proofs.AcceptLaws.{facts}
-use Rattle.run_table.proofs.CheckLaws.{append-passed, areRefusals, caughtBy, passed, quiet-none}
-use Rattle.run_table.proofs.ListLaws.{or-false-left, or-false-right}
-use Rattle.run_table.proofs.NumberLaws.{length-u16s}
-use Rattle.run_table.specs.Arrays.{arrayOf}
-use Rattle.run_table.specs.Checks.{Check, firstCaught, tableChecks}
-use Rattle.run_table.specs.Format.{decode}
-use Rattle.run_table.specs.Numbers.{putAt, u16s}
-use Rattle.run_table.specs.Table.{Table, mostProcesses, processCount}
+use Rattle.tables.proofs.AcceptLaws.{facts}
+use Rattle.tables.proofs.CheckLaws.{append-passed, areRefusals, caughtBy, passed, quiet-none}
+use Rattle.tables.proofs.ListLaws.{or-false-left, or-false-right}
+use Rattle.tables.proofs.NumberLaws.{length-u16s}
+use Rattle.tables.specs.Arrays.{arrayOf}
+use Rattle.tables.specs.Checks.{Check, firstCaught, tableChecks}
+use Rattle.tables.specs.Format.{decode}
+use Rattle.tables.specs.Numbers.{putAt, u16s}
+use Rattle.tables.specs.Table.{Table, mostProcesses, processCount}
 use Rattle.zigzag.proofs.NameLaws.{named-ceiling, names-checked}
 use Rattle.zigzag.proofs.TogetherLaws.{together}
 use Rattle.zigzag.specs.Names.{Names, unknownNamed}

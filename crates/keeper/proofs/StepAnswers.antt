@@ -22,14 +22,14 @@ use Rattle.keeper.proofs.AnswerLaws.{put-in-front}
 use Rattle.refusals.proofs.RefusalLaws.{QuietCall, quiet-by}
 use Rattle.keeper.specs.Calls.{HoldsTable}
 use Rattle.refusals.specs.CallChecks.{checkpointCallChecks, receiptCallChecks, sendCallChecks}
-use Rattle.run_table.proofs.AcceptLaws.{accepted-encode, facts, reread, rewritten}
-use Rattle.run_table.proofs.CheckLaws.{caughtBy, passed, quiet-none}
-use Rattle.run_table.proofs.CodingLaws.{AreBytes}
-use Rattle.run_table.proofs.FormatLaws.{encode-length}
-use Rattle.run_table.specs.Checks.{Accepted, Limits, WellFormed, firstCaught, tableChecks, tableRefusal}
-use Rattle.run_table.specs.Format.{decode, encode, tableLength}
-use Rattle.run_table.specs.Numbers.{putAt}
-use Rattle.run_table.specs.Table.{Table, messageCount, mostCheckpoints, mostMessages, processCount}
+use Rattle.tables.proofs.AcceptLaws.{accepted-encode, facts, reread, rewritten}
+use Rattle.tables.proofs.CheckLaws.{caughtBy, passed, quiet-none}
+use Rattle.tables.proofs.CodingLaws.{AreBytes}
+use Rattle.tables.proofs.FormatLaws.{encode-length}
+use Rattle.tables.specs.Checks.{Accepted, Limits, WellFormed, firstCaught, tableChecks, tableRefusal}
+use Rattle.tables.specs.Format.{decode, encode, tableLength}
+use Rattle.tables.specs.Numbers.{putAt}
+use Rattle.tables.specs.Table.{Table, messageCount, mostCheckpoints, mostMessages, processCount}
 use Rattle.steps.specs.Receipts.{CanReceive}
 
 -- ---- the length of the answer

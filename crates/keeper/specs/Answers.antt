@@ -4,7 +4,7 @@ use mathlib.Core.Path.{_≡_}
 use Prim.Native.Nat.{ℕ, zero, suc}
 use lib.Dec.{ltb}
 use lib.ListN.{length, drop}
-use Rattle.run_table.specs.Checks.{Check, firstCaught}
+use Rattle.tables.specs.Checks.{Check, firstCaught}
 
 -- A call is refused, by the number of a check, or answers with bytes.
 pub data Answer : Type 0 where

@@ -18,11 +18,11 @@ use Rattle.marks.specs.Room.{cleared, marksSize}
 use Rattle.process_set.specs.Sets.{member}
 use Rattle.refusals.specs.CallChecks.{checkpointCallChecks, keepSheetChecks, lineOfSetChecks, lineUnderChecks}
 use Rattle.refusals.specs.CallChecks.{markedLineChecks, receiptCallChecks, sendCallChecks, standTogetherChecks}
-use Rattle.run_table.specs.Checks.{Accepted, Check, firstCaught, tableChecks}
-use Rattle.run_table.specs.Format.{decode, encode}
-use Rattle.run_table.specs.Lists.{tabulate}
-use Rattle.run_table.specs.Numbers.{u16At, u16s}
-use Rattle.run_table.specs.Table.{Table, processCount}
+use Rattle.tables.specs.Checks.{Accepted, Check, firstCaught, tableChecks}
+use Rattle.tables.specs.Format.{decode, encode}
+use Rattle.tables.specs.Lists.{tabulate}
+use Rattle.tables.specs.Numbers.{u16At, u16s}
+use Rattle.tables.specs.Table.{Table, processCount}
 use Rattle.zigzag.specs.Names.{NamedZigzag}
 use Rattle.zigzag.specs.Together.{StandOn, misses, namedLine}
 

@@ -9,9 +9,9 @@ use Rattle.keeper.specs.Calls.{checkpointAnswer, keepSheetAnswer, lineOf
 use Rattle.keeper.specs.Calls.{markedLineAnswer, receiptAnswer, recoveryLineAnswer, rollbackAnswer}
 use Rattle.keeper.specs.Calls.{standTogetherAnswer}
 use Rattle.marking.specs.Procedure.{EndsWith}
-use Rattle.run_table.specs.Checks.{tableRefusal}
-use Rattle.run_table.specs.Format.{decode}
-use Rattle.run_table.specs.Numbers.{u16s}
+use Rattle.tables.specs.Checks.{tableRefusal}
+use Rattle.tables.specs.Format.{decode}
+use Rattle.tables.specs.Numbers.{u16s}
 use Rattle.zigzag.specs.Paths.{Zigzag}
 
 -- ---- the tables, by their numbers: N, M; the counts; the sends; the receipts

@@ -48,8 +48,8 @@ ghost use Rattle.keeper.specs.Calls.{markedLineAnswer, marksAfter, recei
 ghost use Rattle.keeper.specs.Calls.{TellsTogether, rollbackAnswer, sendAnswer, standTogetherAnswer};
 ghost use Rattle.process_set.specs.Sets.{member};
 ghost use Rattle.refusals.specs.CallChecks.{standTogetherChecks};
-ghost use Rattle.run_table.specs.Checks.{firstCaught, tableRefusal};
-ghost use Rattle.run_table.specs.Format.{decode};
+ghost use Rattle.tables.specs.Checks.{firstCaught, tableRefusal};
+ghost use Rattle.tables.specs.Format.{decode};
 
 // The refusal of a table: the number of the first of its checks that catches, or 0.
 #[no_mangle]

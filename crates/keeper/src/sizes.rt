@@ -1,17 +1,17 @@
 // The sizes of the answers, in bytes.
-use run_table::format::table_length;
-use run_table::parts::message_count;
-use run_table::parts::process_count;
+use tables::format::table_length;
+use tables::parts::message_count;
+use tables::parts::process_count;
 ghost use mathlib.Core.List.{List};
 ghost use mathlib.Core.Path.{_≡_};
 ghost use Prim.Native.Nat.{ℕ, _<_};
 ghost use lib.ListN.{length};
 ghost use Rattle.futures.specs.Sheet.{keptCheckpoints, keptMessages, sheet};
 ghost use Rattle.futures.specs.Steps.{afterRollback, afterSend};
-ghost use Rattle.run_table.specs.Checks.{tableRefusal};
-ghost use Rattle.run_table.specs.Format.{decode, encode};
-ghost use Rattle.run_table.specs.Numbers.{u16s};
-ghost use Rattle.run_table.specs.Table.{Table, messageCount, processCount};
+ghost use Rattle.tables.specs.Checks.{tableRefusal};
+ghost use Rattle.tables.specs.Format.{decode, encode};
+ghost use Rattle.tables.specs.Numbers.{u16s};
+ghost use Rattle.tables.specs.Table.{Table, messageCount, processCount};
 
 // A line of N numbers.
 pub fn line_size(table: &[u8]) -> usize

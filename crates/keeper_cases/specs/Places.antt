@@ -2,7 +2,7 @@
 use mathlib.Core.Bool.{Bool, cond, not, _||_}
 use Prim.Native.Nat.{ℕ, _*_}
 use lib.Dec.{eqb, ltb}
-use Rattle.run_table.specs.Table.{mostProcesses}
+use Rattle.tables.specs.Table.{mostProcesses}
 
 -- The numbers of the guarded scratch.
 abbrev pub scratchSize : ℕ

@@ -22,16 +22,16 @@ use Rattle.consistency.specs.Lowering.{lineUnder}
 use Rattle.lines.specs.Arrays.{heightAt, messagesOf}
 use Rattle.process_set.proofs.SetLaws.{all-member}
 use Rattle.process_set.specs.Sets.{allProcesses, member}
-use Rattle.run_table.proofs.FormatLaws.{count-beyond, decode-messages}
-use Rattle.run_table.proofs.ArrayLaws.{array-at, array-front, array-length}
-use Rattle.run_table.proofs.ListLaws.{tabulate-ext}
-use Rattle.run_table.proofs.ReadLaws.{ReadMessages, count-is, processes-few}
-use Rattle.run_table.specs.Arrays.{arrayOf}
-use Rattle.run_table.specs.Checks.{tableRefusal}
-use Rattle.run_table.specs.Format.{countAt, countsPart, decode}
-use Rattle.run_table.specs.Lists.{tabulate}
-use Rattle.run_table.specs.Numbers.{u16At}
-use Rattle.run_table.specs.Table.{Message, countOf, processCount}
+use Rattle.tables.proofs.FormatLaws.{count-beyond, decode-messages}
+use Rattle.tables.proofs.ArrayLaws.{array-at, array-front, array-length}
+use Rattle.tables.proofs.ListLaws.{tabulate-ext}
+use Rattle.tables.proofs.ReadLaws.{ReadMessages, count-is, processes-few}
+use Rattle.tables.specs.Arrays.{arrayOf}
+use Rattle.tables.specs.Checks.{tableRefusal}
+use Rattle.tables.specs.Format.{countAt, countsPart, decode}
+use Rattle.tables.specs.Lists.{tabulate}
+use Rattle.tables.specs.Numbers.{u16At}
+use Rattle.tables.specs.Table.{Message, countOf, processCount}
 
 pub array-line : (ms : List Message) (c : List ℕ) → length c ≤ 32 → lineUnder ms (arrayOf c) ≡ arrayOf (lineUnder ms c)
 array-line ms c small =

@@ -18,13 +18,13 @@ use Rattle.consistency.proofs.LoweringLaws.{line-consistent, line-put-back, put
 use Rattle.consistency.specs.Lines.{Consistent, Orphan, asLine}
 use Rattle.consistency.specs.Lowering.{lineUnder}
 use Rattle.lines.specs.Arrays.{messagesOf}
-use Rattle.run_table.proofs.CodingLaws.{message-path}
-use Rattle.run_table.proofs.ListLaws.{getD-tabulate, length-tabulate}
-use Rattle.run_table.specs.Format.{checkpointAt, messageAt, processAt}
-use Rattle.run_table.specs.Lists.{sum}
-use Rattle.run_table.specs.Numbers.{u16At}
-use Rattle.run_table.specs.Parts.{Messages}
-use Rattle.run_table.specs.Table.{Message, mostProcesses, noMessage}
+use Rattle.tables.proofs.CodingLaws.{message-path}
+use Rattle.tables.proofs.ListLaws.{getD-tabulate, length-tabulate}
+use Rattle.tables.specs.Format.{checkpointAt, messageAt, processAt}
+use Rattle.tables.specs.Lists.{sum}
+use Rattle.tables.specs.Numbers.{u16At}
+use Rattle.tables.specs.Parts.{Messages}
+use Rattle.tables.specs.Table.{Message, mostProcesses, noMessage}
 
 -- Passes have brought a line down from a ceiling: the line under it is the same.
 pub record Under (m : ℕ) (sends receipts ceiling line : List ℕ) : Type 0 where

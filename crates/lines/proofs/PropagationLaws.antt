@@ -24,15 +24,15 @@ use Rattle.consistency.specs.Lines.{Orphan, asLine}
 use Rattle.lines.specs.Propagation.{orphaned, propagatesFrom}
 use Rattle.process_set.proofs.SetLaws.{member-one}
 use Rattle.process_set.specs.Sets.{member}
-use Rattle.run_table.proofs.AcceptLaws.{facts}
-use Rattle.run_table.proofs.ListLaws.{anyBelow-found, set-tabulate, tabulate-ext}
-use Rattle.run_table.proofs.ReadLaws.{ReadMessages, count-is, counts-known, good, received-is, sender-is, sender-small, sent-is}
-use Rattle.run_table.specs.Checks.{WellFormed, tableRefusal}
-use Rattle.run_table.specs.Format.{countAt, countsPart, decode}
-use Rattle.run_table.specs.Lists.{anyBelow, tabulate}
-use Rattle.run_table.specs.Numbers.{u16At}
-use Rattle.run_table.specs.Parts.{Counts}
-use Rattle.run_table.specs.Table.{Table, countOf, messageCount, messageOf, processCount}
+use Rattle.tables.proofs.AcceptLaws.{facts}
+use Rattle.tables.proofs.ListLaws.{anyBelow-found, set-tabulate, tabulate-ext}
+use Rattle.tables.proofs.ReadLaws.{ReadMessages, count-is, counts-known, good, received-is, sender-is, sender-small, sent-is}
+use Rattle.tables.specs.Checks.{WellFormed, tableRefusal}
+use Rattle.tables.specs.Format.{countAt, countsPart, decode}
+use Rattle.tables.specs.Lists.{anyBelow, tabulate}
+use Rattle.tables.specs.Numbers.{u16At}
+use Rattle.tables.specs.Parts.{Counts}
+use Rattle.tables.specs.Table.{Table, countOf, messageCount, messageOf, processCount}
 
 -- process p sent message k, which a rollback of p orphans
 abbrev orphans : Table → ℕ → ℕ → Bool

@@ -4,9 +4,9 @@ use mathlib.Core.Bool.{cond}
 use Prim.Native.Nat.{ℕ, _-_}
 use lib.Dec.{ltb}
 use Rattle.process_set.specs.Sets.{member}
-use Rattle.run_table.specs.Format.{countAt, messageAt}
-use Rattle.run_table.specs.Lists.{tabulate}
-use Rattle.run_table.specs.Table.{Message}
+use Rattle.tables.specs.Format.{countAt, messageAt}
+use Rattle.tables.specs.Lists.{tabulate}
+use Rattle.tables.specs.Table.{Message}
 
 -- How high a process may stand for a set, from a part of n counts: at its last checkpoint where it holds, and else at
 -- its virtual one. It is 0 from n on.

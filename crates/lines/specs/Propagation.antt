@@ -3,8 +3,8 @@
 use mathlib.Core.Bool.{Bool, _&&_}
 use Prim.Native.Nat.{ℕ, _-_}
 use lib.Dec.{eqb, leb, ltb}
-use Rattle.run_table.specs.Lists.{anyBelow}
-use Rattle.run_table.specs.Table.{Message, Table, countOf, messageCount, messageOf}
+use Rattle.tables.specs.Lists.{anyBelow}
+use Rattle.tables.specs.Table.{Message, Table, countOf, messageCount, messageOf}
 
 -- A rollback of its sender to the sender's last checkpoint orphans a message: it was sent after that checkpoint,
 -- and received.

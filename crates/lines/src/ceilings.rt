@@ -1,12 +1,12 @@
 // The ceiling of a process set.
 use process_set::is_member;
-use run_table::numbers::u16_at;
+use tables::numbers::u16_at;
 ghost use mathlib.Core.Bool.{cond};
 ghost use mathlib.Core.Path.{_≡_};
 ghost use Prim.Native.Nat.{_-_, _<_};
 ghost use Rattle.lines.specs.Arrays.{heightAt};
-ghost use Rattle.run_table.specs.Lists.{tabulate};
-ghost use Rattle.run_table.specs.Parts.{Counts};
+ghost use Rattle.tables.specs.Lists.{tabulate};
+ghost use Rattle.tables.specs.Parts.{Counts};
 
 // How high a process of so many checkpoints may stand: at its last one where it holds, and else at
 // its virtual one.

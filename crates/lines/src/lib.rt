@@ -5,8 +5,8 @@ pub mod lowering;
 pub mod propagation;
 
 use process_set::bit;
-use run_table::parts;
 use table_writer::put_numbers;
+use tables::parts;
 ghost use mathlib.Core.Path.{_≡_};
 ghost use Prim.Native.Nat.{_*_, _^_, _≤_, _<_};
 ghost use lib.ListN.{length, take};
@@ -14,11 +14,11 @@ ghost use Rattle.consistency.specs.Ceilings.{ceilingOf, lineOf, recoveryLine};
 ghost use Rattle.consistency.specs.Lowering.{lineUnder};
 ghost use Rattle.lines.specs.Propagation.{propagatesFrom};
 ghost use Rattle.process_set.specs.Sets.{member};
-ghost use Rattle.run_table.specs.Arrays.{arrayOf};
-ghost use Rattle.run_table.specs.Checks.{tableRefusal};
-ghost use Rattle.run_table.specs.Format.{decode};
-ghost use Rattle.run_table.specs.Numbers.{putAt, u16s};
-ghost use Rattle.run_table.specs.Table.{processCount};
+ghost use Rattle.tables.specs.Arrays.{arrayOf};
+ghost use Rattle.tables.specs.Checks.{tableRefusal};
+ghost use Rattle.tables.specs.Format.{decode};
+ghost use Rattle.tables.specs.Numbers.{putAt, u16s};
+ghost use Rattle.tables.specs.Table.{processCount};
 
 // The line under a ceiling in an accepted table.
 pub fn line_under(table: &[u8], ceiling: [u16; 32]) -> [u16; 32]

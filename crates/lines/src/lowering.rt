@@ -1,11 +1,11 @@
 // Rollback propagation: passes over the messages, from the last to the first, until one finds no
 // orphan.
-use run_table::numbers::u16_at;
+use tables::numbers::u16_at;
 ghost use mathlib.Core.Path.{_≡_};
 ghost use Rattle.consistency.specs.Lowering.{lineUnder};
 ghost use Rattle.lines.specs.Arrays.{messagesOf};
-ghost use Rattle.run_table.specs.Parts.{Messages};
-ghost use Rattle.run_table.specs.Table.{mostProcesses};
+ghost use Rattle.tables.specs.Parts.{Messages};
+ghost use Rattle.tables.specs.Table.{mostProcesses};
 
 // The line under a ceiling, of the m messages of a part of sends and a part of receipts. An orphan of
 // the line puts its receiver back to the checkpoint before the receipt.

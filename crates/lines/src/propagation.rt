@@ -1,11 +1,11 @@
 // Which processes propagate a rollback to their last checkpoint.
-use run_table::numbers::u16_at;
-use run_table::parts;
+use tables::numbers::u16_at;
+use tables::parts;
 ghost use mathlib.Core.Path.{_≡_};
 ghost use Rattle.lines.specs.Propagation.{propagatesFrom};
-ghost use Rattle.run_table.specs.Checks.{tableRefusal};
-ghost use Rattle.run_table.specs.Format.{decode};
-ghost use Rattle.run_table.specs.Lists.{tabulate};
+ghost use Rattle.tables.specs.Checks.{tableRefusal};
+ghost use Rattle.tables.specs.Format.{decode};
+ghost use Rattle.tables.specs.Lists.{tabulate};
 
 // Whether a rollback of each process of an accepted table to its last checkpoint propagates: whether a
 // message that it sent since then was received.

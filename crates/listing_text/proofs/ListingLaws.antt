@@ -34,16 +34,16 @@ use Rattle.listing_text.specs.Rows.{Answered, checkpointAt, checkpointRo
 use Rattle.listing_text.specs.Text.{Laid, each, overlay}
 use Rattle.sheet_writer.proofs.SheetReads.{entry-is, holder-length, kept-few, lines-length, lines-stand, sheet-length}
 use Rattle.sheet_entries.specs.Scratch.{HoldsLines, linesIn}
-use Rattle.run_table.proofs.ArrayLaws.{array-front, array-length}
-use Rattle.run_table.proofs.CheckLaws.{areRefusals, passed, quiet-none, stopped}
-use Rattle.run_table.proofs.ListLaws.{rows-ext, tabulate-ext, tabulate-getD}
-use Rattle.run_table.proofs.ReadLaws.{processes-few}
-use Rattle.run_table.specs.Arrays.{arrayOf}
-use Rattle.run_table.specs.Checks.{firstCaught, tableRefusal}
-use Rattle.run_table.specs.Format.{decode}
-use Rattle.run_table.specs.Lists.{rows, tabulate}
-use Rattle.run_table.specs.Numbers.{putAt, u16At}
-use Rattle.run_table.specs.Table.{Table, processCount}
+use Rattle.tables.proofs.ArrayLaws.{array-front, array-length}
+use Rattle.tables.proofs.CheckLaws.{areRefusals, passed, quiet-none, stopped}
+use Rattle.tables.proofs.ListLaws.{rows-ext, tabulate-ext, tabulate-getD}
+use Rattle.tables.proofs.ReadLaws.{processes-few}
+use Rattle.tables.specs.Arrays.{arrayOf}
+use Rattle.tables.specs.Checks.{firstCaught, tableRefusal}
+use Rattle.tables.specs.Format.{decode}
+use Rattle.tables.specs.Lists.{rows, tabulate}
+use Rattle.tables.specs.Numbers.{putAt, u16At}
+use Rattle.tables.specs.Table.{Table, processCount}
 
 -- the first n numbers of a list that has them
 take-tabulate : (n : ℕ) (l : List ℕ) → n ≤ length l → take n l ≡ tabulate n (λ p. getD l p 0)

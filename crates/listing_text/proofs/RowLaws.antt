@@ -13,10 +13,10 @@ use lib.ListN.{take, drop}
 use Rattle.listing_text.specs.Listing.{checkpointRow}
 use Rattle.listing_text.specs.Rows.{checkpointAt, lineAt}
 use Rattle.sheet_entries.proofs.ScratchLaws.{cell-below}
-use Rattle.run_table.proofs.ListLaws.{sum-more, tabulate-getD}
-use Rattle.run_table.specs.Lists.{sum, tabulate}
-use Rattle.run_table.specs.Numbers.{u16At}
-use Rattle.run_table.specs.Table.{Table, countOf, processCount}
+use Rattle.tables.proofs.ListLaws.{sum-more, tabulate-getD}
+use Rattle.tables.specs.Lists.{sum, tabulate}
+use Rattle.tables.specs.Numbers.{u16At}
+use Rattle.tables.specs.Table.{Table, countOf, processCount}
 
 pub checkpoint-read : (sheet : List ℕ) (k e : ℕ) {process number : ℕ} → process ≡ u16At sheet (4 + 2 * e)
     → number ≡ u16At sheet (4 + 2 * k + 2 * e)

@@ -9,10 +9,10 @@ use Rattle.keeper.specs.Cases.{tableA, tableB, tableC, tableD}
 use Rattle.listing_text.specs.Listing.{share}
 use Rattle.rounding.specs.Rounding.{evenOf, roundedQuotient}
 use Rattle.listing_text.specs.ShareCases.{allPortions, allShares, portions, shareCases}
-use Rattle.run_table.specs.Format.{checkpointAt, countAt, countsPart, decode, messageAt, messagesIn, processAt, processesIn, receiptsPart, sendsPart}
-use Rattle.run_table.specs.Lists.{anyBelow, rows, select, sum, tabulate}
-use Rattle.run_table.specs.Numbers.{u16At, u16Bytes, u16s}
-use Rattle.run_table.specs.Table.{countOf, messageCount, messageOf, processCount}
+use Rattle.tables.specs.Format.{checkpointAt, countAt, countsPart, decode, messageAt, messagesIn, processAt, processesIn, receiptsPart, sendsPart}
+use Rattle.tables.specs.Lists.{anyBelow, rows, select, sum, tabulate}
+use Rattle.tables.specs.Numbers.{u16At, u16Bytes, u16s}
+use Rattle.tables.specs.Table.{countOf, messageCount, messageOf, processCount}
 
 pub all-portions : allPortions portions ≡ true
 unfolding evenOf roundedQuotient allPortions portions

@@ -15,11 +15,11 @@ use Rattle.futures.specs.Sheet.{keptCheckpoints}
 use Rattle.rounding.proofs.RoundingLaws.{quotient-rounded, rounded-most, rounded-once}
 use Rattle.listing_text.specs.Listing.{share}
 use Rattle.rounding.specs.Rounding.{Rounded}
-use Rattle.run_table.proofs.AcceptLaws.{facts}
-use Rattle.run_table.specs.Checks.{tableRefusal}
-use Rattle.run_table.specs.Format.{decode}
-use Rattle.run_table.specs.Lists.{sum}
-use Rattle.run_table.specs.Table.{Table, countOf}
+use Rattle.tables.proofs.AcceptLaws.{facts}
+use Rattle.tables.specs.Checks.{tableRefusal}
+use Rattle.tables.specs.Format.{decode}
+use Rattle.tables.specs.Lists.{sum}
+use Rattle.tables.specs.Table.{Table, countOf}
 use Rattle.sheet_writer.proofs.FewLaws.{checkpoints-within}
 
 pub sum-positive : (table : List ℕ) → tableRefusal table ≡ 0 → 0 < sum (decode table .counts)

@@ -19,13 +19,13 @@ use Rattle.listing_text.proofs.TextLaws.{decimal-few, each-rows, tens}
 use Rattle.listing_text.specs.Listing.{checkpointRow, holdRow, lineRow, listing, listingOf, listingUnless, messageRow, refusedRow, share, shareRow}
 use Rattle.listing_text.specs.Text.{each, field, row}
 use Rattle.sheet_writer.proofs.SheetReads.{kept-few}
-use Rattle.run_table.proofs.AcceptLaws.{facts}
-use Rattle.run_table.proofs.ListLaws.{rows-most}
-use Rattle.run_table.proofs.ReadLaws.{messages-few, processes-few}
-use Rattle.run_table.specs.Checks.{tableRefusal}
-use Rattle.run_table.specs.Format.{decode}
-use Rattle.run_table.specs.Lists.{rows}
-use Rattle.run_table.specs.Table.{Table, countOf, messageCount, processCount}
+use Rattle.tables.proofs.AcceptLaws.{facts}
+use Rattle.tables.proofs.ListLaws.{rows-most}
+use Rattle.tables.proofs.ReadLaws.{messages-few, processes-few}
+use Rattle.tables.specs.Checks.{tableRefusal}
+use Rattle.tables.specs.Format.{decode}
+use Rattle.tables.specs.Lists.{rows}
+use Rattle.tables.specs.Table.{Table, countOf, messageCount, processCount}
 
 -- ---- fields and rows
 field-few : (k n : ℕ) → n < tens k → length (field n) ≤ suc (suc k)

@@ -17,8 +17,8 @@ use native.Mathlib.Omega.{arith}
 use lib.Dec.{ltb}
 use lib.ListN.{length, drop, getD, set, length-append}
 use Rattle.listing_text.specs.Text.{Fits, Laid, decimal, digits, each, field, overlay, row}
-use Rattle.run_table.proofs.ListLaws.{rows-more, rows-room}
-use Rattle.run_table.specs.Lists.{rows}
+use Rattle.tables.proofs.ListLaws.{rows-more, rows-room}
+use Rattle.tables.specs.Lists.{rows}
 
 overlay-length : (b : List ℕ) (at : ℕ) (xs : List ℕ) → length (overlay b at xs) ≡ length b
 unfolding overlay

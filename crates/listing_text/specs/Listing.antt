@@ -8,10 +8,10 @@ use Rattle.futures.specs.Sheet.{Checkpoint, holderLine, keptCheckpoints, keptMe
 use Rattle.keeper.specs.Answers.{Answer, answer}
 use Rattle.rounding.specs.Rounding.{Rounded, roundedQuotient}
 use Rattle.listing_text.specs.Text.{each, row}
-use Rattle.run_table.specs.Checks.{tableRefusal}
-use Rattle.run_table.specs.Format.{decode}
-use Rattle.run_table.specs.Lists.{rows, sum}
-use Rattle.run_table.specs.Table.{Table, processCount}
+use Rattle.tables.specs.Checks.{tableRefusal}
+use Rattle.tables.specs.Format.{decode}
+use Rattle.tables.specs.Lists.{rows, sum}
+use Rattle.tables.specs.Table.{Table, processCount}
 
 -- `line` and a line.
 unfoldable pub lineRow : List ℕ → List ℕ

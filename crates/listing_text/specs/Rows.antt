@@ -5,9 +5,9 @@ use Prim.Native.Nat.{ℕ, _+_, _*_}
 use lib.ListN.{length, take, drop}
 use Rattle.futures.specs.Sheet.{Checkpoint, holderLines, sheet}
 use Rattle.listing_text.specs.Listing.{checkpointRow, holdRow, messageRow}
-use Rattle.run_table.specs.Lists.{rows}
-use Rattle.run_table.specs.Numbers.{u16At}
-use Rattle.run_table.specs.Table.{Table, processCount}
+use Rattle.tables.specs.Lists.{rows}
+use Rattle.tables.specs.Numbers.{u16At}
+use Rattle.tables.specs.Table.{Table, processCount}
 
 -- What the call for a keep sheet leaves: the lines of single holders at the front of a scratch, and the sheet at the
 -- front of bytes.

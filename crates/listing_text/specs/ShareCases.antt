@@ -6,8 +6,8 @@ use lib.Dec.{eqb}
 use Rattle.keeper.specs.Cases.{tableA, tableB, tableC, tableD}
 use Rattle.listing_text.specs.Listing.{share}
 use Rattle.rounding.specs.Rounding.{roundedQuotient}
-use Rattle.run_table.specs.Format.{decode}
-use Rattle.run_table.specs.Numbers.{u16s}
+use Rattle.tables.specs.Format.{decode}
+use Rattle.tables.specs.Numbers.{u16s}
 
 -- So many checkpoints of so many, and the percentage.
 pub record Portion : Type 0 where

@@ -5,9 +5,9 @@ pub mod text;
 use keeper::keeper_keep_sheet;
 use lines::recovery_line;
 use rounding::rounded_quotient;
-use run_table::lookups;
-use run_table::numbers::u16_at;
-use run_table::parts;
+use tables::lookups;
+use tables::numbers::u16_at;
+use tables::parts;
 ghost use mathlib.Core.Path.{_≡_};
 ghost use Prim.Native.Nat.{ℕ, _≤_, _<_};
 ghost use lib.ListN.{length, take};
@@ -16,9 +16,9 @@ ghost use Rattle.keeper.specs.Answers.{Yields};
 ghost use Rattle.listing_text.specs.Listing.{EndsInShare, listing, listingAnswer, listingOf, share};
 ghost use Rattle.listing_text.specs.Rows.{Answered};
 ghost use Rattle.listing_text.specs.Text.{Laid};
-ghost use Rattle.run_table.specs.Checks.{tableRefusal};
-ghost use Rattle.run_table.specs.Format.{decode};
-ghost use Rattle.run_table.specs.Lists.{sum};
+ghost use Rattle.tables.specs.Checks.{tableRefusal};
+ghost use Rattle.tables.specs.Format.{decode};
+ghost use Rattle.tables.specs.Lists.{sum};
 
 // The sum of the counts of an accepted table.
 fn count_sum(table: &[u8]) -> usize

@@ -3,7 +3,7 @@ use crate::text::put_byte;
 use crate::text::put_field;
 use crate::text::put_fields;
 use crate::text::put_word;
-use run_table::numbers::u16_at;
+use tables::numbers::u16_at;
 ghost use mathlib.Core.List.{_∷_, []};
 ghost use Prim.Native.Nat.{_+_, _*_, _≤_, _<_};
 ghost use lib.ListN.{length};

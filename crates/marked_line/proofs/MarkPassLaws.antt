@@ -30,13 +30,13 @@ use Rattle.marking.specs.Procedure.{Reachable, root}
 use Rattle.marks.proofs.BitLaws.{unset-falls, unset-fewer}
 use Rattle.marks.proofs.LayoutLaws.{first-apart}
 use Rattle.marks.specs.Bits.{Onwards, SetFrom, bitAt, firstBit, unset}
-use Rattle.run_table.proofs.AcceptLaws.{facts}
-use Rattle.run_table.proofs.ListLaws.{and-left, and-right, or-false-left, or-false-right}
-use Rattle.run_table.proofs.ReadLaws.{ReadMessages, good, received-is, receiver-is, sender-is, sent-is}
-use Rattle.run_table.specs.Checks.{GoodMessage, WellFormed}
-use Rattle.run_table.specs.Format.{decode}
-use Rattle.run_table.specs.Numbers.{u16At}
-use Rattle.run_table.specs.Table.{Message, Table, countOf, messageCount, messageOf, processCount}
+use Rattle.tables.proofs.AcceptLaws.{facts}
+use Rattle.tables.proofs.ListLaws.{and-left, and-right, or-false-left, or-false-right}
+use Rattle.tables.proofs.ReadLaws.{ReadMessages, good, received-is, receiver-is, sender-is, sent-is}
+use Rattle.tables.specs.Checks.{GoodMessage, WellFormed}
+use Rattle.tables.specs.Format.{decode}
+use Rattle.tables.specs.Numbers.{u16At}
+use Rattle.tables.specs.Table.{Message, Table, countOf, messageCount, messageOf, processCount}
 
 abbrev bits : Table → ℕ
 bits t = firstBit (t .counts) (processCount t)

@@ -17,10 +17,10 @@ use Rattle.marked_line.specs.Marking.{Kept, Lent, Ready, markedIn}
 use Rattle.marks.proofs.LayoutLaws.{first-apart, first-at, first-more, first-small, process-inside, state-inside}
 use Rattle.marks.specs.Bits.{Onwards, SetFrom, bitAt, firstBit, mostBits}
 use Rattle.marks.specs.Room.{marksSize}
-use Rattle.run_table.proofs.ListLaws.{length-tabulate}
-use Rattle.run_table.proofs.ReadLaws.{processes-few}
-use Rattle.run_table.specs.Format.{decode}
-use Rattle.run_table.specs.Table.{Table, countOf, processCount}
+use Rattle.tables.proofs.ListLaws.{length-tabulate}
+use Rattle.tables.proofs.ReadLaws.{processes-few}
+use Rattle.tables.specs.Format.{decode}
+use Rattle.tables.specs.Table.{Table, countOf, processCount}
 
 -- ---- as the code reads them
 module _ {table first roots marks : List ℕ} (lent : Lent table first roots marks) where

@@ -28,12 +28,12 @@ use Rattle.marking.proofs.ReachLaws.{reach-root}
 use Rattle.marking.specs.Procedure.{Reachable}
 use Rattle.marks.proofs.LayoutLaws.{first-more, first-small}
 use Rattle.marks.specs.Bits.{Onwards, SetFrom, bitAt, firstBit, mostBits}
-use Rattle.run_table.proofs.ListLaws.{anyBelow-found, anyBelow-more}
-use Rattle.run_table.proofs.ReadLaws.{processes-few}
-use Rattle.run_table.specs.Checks.{WellFormed}
-use Rattle.run_table.specs.Format.{decode}
-use Rattle.run_table.specs.Lists.{anyBelow}
-use Rattle.run_table.specs.Table.{Table, countOf, messageOf, processCount}
+use Rattle.tables.proofs.ListLaws.{anyBelow-found, anyBelow-more}
+use Rattle.tables.proofs.ReadLaws.{processes-few}
+use Rattle.tables.specs.Checks.{WellFormed}
+use Rattle.tables.specs.Format.{decode}
+use Rattle.tables.specs.Lists.{anyBelow}
+use Rattle.tables.specs.Table.{Table, countOf, messageOf, processCount}
 
 module _ {table first roots marks : List ℕ} (lent : Lent table first roots marks) {p : ℕ} (known : p < processCount (decode table)) where
   -- the bit of a root, as the code finds it

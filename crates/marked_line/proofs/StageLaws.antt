@@ -27,15 +27,15 @@ use Rattle.marks.proofs.BitLaws.{cleared-again, cleared-beyond, cleared-bit, cl
 use Rattle.marks.proofs.LayoutLaws.{state-inside}
 use Rattle.marks.specs.Bits.{bitAt, firstBit}
 use Rattle.marks.specs.Room.{cleared, marksSize}
-use Rattle.run_table.proofs.AcceptLaws.{facts}
-use Rattle.run_table.proofs.ArrayLaws.{array-at, array-front, array-length}
-use Rattle.run_table.proofs.ListLaws.{found-below, none-below}
-use Rattle.run_table.proofs.ReadLaws.{processes-few}
-use Rattle.run_table.specs.Arrays.{arrayOf}
-use Rattle.run_table.specs.Checks.{tableRefusal}
-use Rattle.run_table.specs.Format.{decode}
-use Rattle.run_table.specs.Lists.{anyBelow, sum}
-use Rattle.run_table.specs.Table.{Table, countOf, processCount}
+use Rattle.tables.proofs.AcceptLaws.{facts}
+use Rattle.tables.proofs.ArrayLaws.{array-at, array-front, array-length}
+use Rattle.tables.proofs.ListLaws.{found-below, none-below}
+use Rattle.tables.proofs.ReadLaws.{processes-few}
+use Rattle.tables.specs.Arrays.{arrayOf}
+use Rattle.tables.specs.Checks.{tableRefusal}
+use Rattle.tables.specs.Format.{decode}
+use Rattle.tables.specs.Lists.{anyBelow, sum}
+use Rattle.tables.specs.Table.{Table, countOf, processCount}
 
 pub cleared-unmarked : (t : Table) (buffer : List ℕ) → marksSize t ≤ length buffer → Unmarked t (cleared (marksSize t) buffer)
 unfolding Unmarked markedIn

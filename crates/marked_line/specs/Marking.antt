@@ -12,12 +12,12 @@ use Rattle.consistency.specs.Ceilings.{Ceiling}
 use Rattle.marking.specs.Procedure.{After, EndsWith, Marks, MarksReachable, Reachable, Stage}
 use Rattle.marks.specs.Bits.{bitAt, firstBit, mostBits, unset}
 use Rattle.marks.specs.Room.{marksSize}
-use Rattle.run_table.specs.Arrays.{arrayOf}
-use Rattle.run_table.specs.Checks.{tableRefusal}
-use Rattle.run_table.specs.Format.{decode}
-use Rattle.run_table.specs.Lists.{tabulate}
-use Rattle.run_table.specs.Numbers.{putAt, u16s}
-use Rattle.run_table.specs.Table.{Table, countOf, messageCount, messageOf, processCount}
+use Rattle.tables.specs.Arrays.{arrayOf}
+use Rattle.tables.specs.Checks.{tableRefusal}
+use Rattle.tables.specs.Format.{decode}
+use Rattle.tables.specs.Lists.{tabulate}
+use Rattle.tables.specs.Numbers.{putAt, u16s}
+use Rattle.tables.specs.Table.{Table, countOf, messageCount, messageOf, processCount}
 
 -- The bit of state y of process p is set.
 unfoldable pub markedIn : Table → List ℕ → ℕ → ℕ → Bool

@@ -9,8 +9,8 @@ use marks::mark_from;
 use marks::marks_size;
 use marks::row_end;
 use marks::state_bit;
-use run_table::numbers::u16_at;
-use run_table::parts;
+use tables::numbers::u16_at;
+use tables::parts;
 ghost use mathlib.Core.Bool.{false, _||_};
 ghost use mathlib.Core.Path.{_≡_};
 ghost use Prim.Native.Nat.{_+_, _*_, _/_, _≤_, _<_};
@@ -23,11 +23,11 @@ ghost use Rattle.marked_line.specs.Marking.{Standing, Unmarked, ZeroUnma
 ghost use Rattle.marking.specs.Procedure.{EndsWith};
 ghost use Rattle.marks.specs.Bits.{bitAt, mostBits};
 ghost use Rattle.marks.specs.Room.{cleared, marksSize};
-ghost use Rattle.run_table.specs.Arrays.{arrayOf};
-ghost use Rattle.run_table.specs.Checks.{tableRefusal};
-ghost use Rattle.run_table.specs.Format.{decode};
-ghost use Rattle.run_table.specs.Lists.{anyBelow};
-ghost use Rattle.run_table.specs.Table.{processCount};
+ghost use Rattle.tables.specs.Arrays.{arrayOf};
+ghost use Rattle.tables.specs.Checks.{tableRefusal};
+ghost use Rattle.tables.specs.Format.{decode};
+ghost use Rattle.tables.specs.Lists.{anyBelow};
+ghost use Rattle.tables.specs.Table.{processCount};
 
 // Marks the states behind the roots, where nothing is marked.
 fn mark_behind(table: &[u8], first: &[usize], roots: &[u16], marks: &mut [u8])

@@ -22,10 +22,10 @@ use Rattle.checkpoint_graph.proofs.GraphLaws.{leads-carry, leads-on, leads-to, 
 use Rattle.checkpoint_graph.specs.Graph.{Edge, Leads, State, edge, received, state, then, to-next}
 use Rattle.consistency.proofs.LoweringLaws.{sum-falls}
 use Rattle.marking.specs.Procedure.{Marks, MarksReachable, Reachable}
-use Rattle.run_table.proofs.ListLaws.{and-left, and-right, found-below, getD-tabulate, length-tabulate, none-below}
-use Rattle.run_table.specs.Checks.{GoodMessage, WellFormed}
-use Rattle.run_table.specs.Lists.{anyBelow, sum, tabulate}
-use Rattle.run_table.specs.Table.{Message, Table, countOf, messageCount, messageOf, processCount}
+use Rattle.tables.proofs.ListLaws.{and-left, and-right, found-below, getD-tabulate, length-tabulate, none-below}
+use Rattle.tables.specs.Checks.{GoodMessage, WellFormed}
+use Rattle.tables.specs.Lists.{anyBelow, sum, tabulate}
+use Rattle.tables.specs.Table.{Message, Table, countOf, messageCount, messageOf, processCount}
 
 module _ {t : Table} {roots : List ℕ} where
   pub reach-edge : {a b : State} → Reachable t roots a → Edge t a b → Reachable t roots b

@@ -23,10 +23,10 @@ use Rattle.consistency.specs.Ceilings.{Ceiling}
 use Rattle.consistency.specs.Lines.{AtOrBelow, Consistent, Line, asLine}
 use Rattle.marking.proofs.ReachLaws.{marking-made, reach-root, reach-up}
 use Rattle.marking.specs.Procedure.{After, LatestUnmarked, NoneMarked, Reachable, Round, Stage, root}
-use Rattle.run_table.proofs.ListLaws.{getD-tabulate, length-tabulate, sum-lower}
-use Rattle.run_table.specs.Checks.{WellFormed}
-use Rattle.run_table.specs.Lists.{sum, tabulate}
-use Rattle.run_table.specs.Table.{Table, countOf, messageOf, processCount}
+use Rattle.tables.proofs.ListLaws.{getD-tabulate, length-tabulate, sum-lower}
+use Rattle.tables.specs.Checks.{WellFormed}
+use Rattle.tables.specs.Lists.{sum, tabulate}
+use Rattle.tables.specs.Table.{Table, countOf, messageOf, processCount}
 
 -- ---- a consistent line
 module _ (t : Table) (l : Line) (c : Consistent (t .messages) l) where

@@ -20,10 +20,10 @@ use Rattle.marking.proofs.ReachLaws.{marking-made}
 use Rattle.marking.proofs.RoundLaws.{end-consistent, round-falls, round-made, stage-above, stage-below, stage-for-each, stage-sum}
 use Rattle.marking.specs.Procedure.{After, EndsWith, NoneMarked, Round, Stage, Starts, root}
 use Rattle.marking.specs.SameLine.{SameLine}
-use Rattle.run_table.proofs.ListLaws.{found-below, none-below}
-use Rattle.run_table.specs.Checks.{WellFormed}
-use Rattle.run_table.specs.Lists.{anyBelow, sum}
-use Rattle.run_table.specs.Table.{Table, processCount}
+use Rattle.tables.proofs.ListLaws.{found-below, none-below}
+use Rattle.tables.specs.Checks.{WellFormed}
+use Rattle.tables.specs.Lists.{anyBelow, sum}
+use Rattle.tables.specs.Table.{Table, processCount}
 
 module _ (t : Table) (w : WellFormed t) (ceilings : List ℕ) (c : Ceiling t ceilings) where
   module _ (n : ℕ) (s : Stage) (a : After t ceilings n s) where

@@ -7,7 +7,7 @@ use mathlib.Core.Path.{_≡_}
 use Prim.Native.Nat.{ℕ, zero, suc, _≤_, _<_}
 use lib.ListN.{getD, length}
 use Rattle.checkpoint_graph.specs.Graph.{Leads, State, state}
-use Rattle.run_table.specs.Table.{Table, countOf, processCount}
+use Rattle.tables.specs.Table.{Table, countOf, processCount}
 
 -- Which states are marked.
 abbrev pub Marks : Type 0

@@ -7,8 +7,8 @@ use Prim.Native.Nat.{ℕ, _≤_}
 use Rattle.consistency.specs.Lines.{Latest, asLine}
 use Rattle.consistency.specs.Lowering.{lineUnder}
 use Rattle.marking.specs.Procedure.{After, EndsWith, NoneMarked, Round, Stage, Starts}
-use Rattle.run_table.specs.Lists.{sum}
-use Rattle.run_table.specs.Table.{Table}
+use Rattle.tables.specs.Lists.{sum}
+use Rattle.tables.specs.Table.{Table}
 
 -- It can start; whatever it has after some rounds, no root is marked or another round can follow; and there are no more
 -- rounds than the sum of the ceilings. So it always ends. However it went, its last roots are the latest consistent

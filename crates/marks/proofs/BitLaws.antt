@@ -23,8 +23,8 @@ use Rattle.marks.specs.Bits.{Onwards, SetFrom, bitAt, unset, withBit}
 use Rattle.marks.specs.Room.{cleared}
 use Rattle.process_set.proofs.SetLaws.{mask-is-member, member-one, no-member-from, one-shifted}
 use Rattle.process_set.specs.Sets.{member}
-use Rattle.run_table.proofs.ListLaws.{or-none}
-use Rattle.run_table.specs.Arrays.{Filled}
+use Rattle.tables.proofs.ListLaws.{or-none}
+use Rattle.tables.specs.Arrays.{Filled}
 
 -- ---- one bit
 -- the value of bit b of its byte, as the code shifts it

@@ -16,16 +16,16 @@ use native.Mathlib.Omega.{arith}
 use lib.ListN.{getD, length, replicate, set}
 use Rattle.marks.specs.Bits.{firstBit, mostBits}
 use Rattle.marks.specs.Room.{marksSize}
-use Rattle.run_table.proofs.AcceptLaws.{facts}
-use Rattle.run_table.proofs.ArrayLaws.{filled-list, filled-more}
-use Rattle.run_table.proofs.FormatLaws.{count-beyond}
-use Rattle.run_table.proofs.ListLaws.{getD-tabulate, sum-more, tabulate-getD}
-use Rattle.run_table.proofs.ReadLaws.{processes-few}
-use Rattle.run_table.specs.Arrays.{Filled}
-use Rattle.run_table.specs.Checks.{tableRefusal}
-use Rattle.run_table.specs.Format.{decode}
-use Rattle.run_table.specs.Lists.{sum, tabulate}
-use Rattle.run_table.specs.Table.{Table, countOf, mostCheckpoints, processCount}
+use Rattle.tables.proofs.AcceptLaws.{facts}
+use Rattle.tables.proofs.ArrayLaws.{filled-list, filled-more}
+use Rattle.tables.proofs.FormatLaws.{count-beyond}
+use Rattle.tables.proofs.ListLaws.{getD-tabulate, sum-more, tabulate-getD}
+use Rattle.tables.proofs.ReadLaws.{processes-few}
+use Rattle.tables.specs.Arrays.{Filled}
+use Rattle.tables.specs.Checks.{tableRefusal}
+use Rattle.tables.specs.Format.{decode}
+use Rattle.tables.specs.Lists.{sum, tabulate}
+use Rattle.tables.specs.Table.{Table, countOf, mostCheckpoints, processCount}
 
 module _ (counts : List ℕ) where
   pub first-none : firstBit counts 0 ≡ 0

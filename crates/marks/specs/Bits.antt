@@ -7,7 +7,7 @@ use Prim.Native.Nat.{ℕ, zero, suc, _+_, _*_, _/_, _%_, _^_, _≤_, _<_}
 use lib.Bits.{bitOr}
 use lib.ListN.{getD, length, set}
 use Rattle.process_set.specs.Sets.{member}
-use Rattle.run_table.specs.Lists.{sum, tabulate}
+use Rattle.tables.specs.Lists.{sum, tabulate}
 
 -- The first bit of process p, by the counts: each process before it has its checkpoints and its new state.
 unfoldable pub firstBit : List ℕ → ℕ → ℕ

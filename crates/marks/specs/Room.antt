@@ -3,8 +3,8 @@
 use mathlib.Core.List.{List, _++_}
 use Prim.Native.Nat.{ℕ, _+_, _/_}
 use lib.ListN.{drop, replicate}
-use Rattle.run_table.specs.Lists.{sum}
-use Rattle.run_table.specs.Table.{Table, processCount}
+use Rattle.tables.specs.Lists.{sum}
+use Rattle.tables.specs.Table.{Table, processCount}
 
 -- The bytes that the marks of a run take: (sum of counts + N) / 8, rounded up.
 unfoldable pub marksSize : Table → ℕ

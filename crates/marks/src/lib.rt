@@ -1,15 +1,15 @@
 // Marks of states as bits of a lent buffer, set and asked for in place: state y of process p has bit
 // first[p] + y, and bit b stands in byte b / 8.
-use run_table::lookups;
-use run_table::parts;
+use tables::lookups;
+use tables::parts;
 ghost use mathlib.Core.Path.{_≡_};
 ghost use Prim.Native.Nat.{_+_, _*_, _/_, _≤_, _<_};
 ghost use lib.ListN.{getD, length};
 ghost use Rattle.marks.specs.Bits.{Onwards, SetFrom, bitAt, firstBit, mostBits, withBit};
 ghost use Rattle.marks.specs.Room.{cleared, marksSize};
-ghost use Rattle.run_table.specs.Checks.{tableRefusal};
-ghost use Rattle.run_table.specs.Format.{decode};
-ghost use Rattle.run_table.specs.Lists.{tabulate};
+ghost use Rattle.tables.specs.Checks.{tableRefusal};
+ghost use Rattle.tables.specs.Format.{decode};
+ghost use Rattle.tables.specs.Lists.{tabulate};
 
 // Whether bit b is set.
 pub fn is_marked(marks: &[u8], b: usize) -> bool

@@ -22,14 +22,14 @@ use Rattle.consistency.proofs.LoweringLaws.{line-length}
 use Rattle.consistency.specs.Lowering.{lineUnder}
 use Rattle.lines.proofs.LineReads.{array-line}
 use Rattle.named_checkpoints.specs.Lists.{Parallel}
-use Rattle.run_table.proofs.ArrayLaws.{array-at, array-front, array-set}
-use Rattle.run_table.proofs.ListLaws.{anyBelow-ext, anyBelow-found, anyBelow-more, none-below}
-use Rattle.run_table.proofs.ReadLaws.{processes-few}
-use Rattle.run_table.specs.Arrays.{arrayOf}
-use Rattle.run_table.specs.Checks.{tableRefusal}
-use Rattle.run_table.specs.Format.{decode}
-use Rattle.run_table.specs.Lists.{anyBelow}
-use Rattle.run_table.specs.Table.{Table, countOf, mostProcesses, processCount}
+use Rattle.tables.proofs.ArrayLaws.{array-at, array-front, array-set}
+use Rattle.tables.proofs.ListLaws.{anyBelow-ext, anyBelow-found, anyBelow-more, none-below}
+use Rattle.tables.proofs.ReadLaws.{processes-few}
+use Rattle.tables.specs.Arrays.{arrayOf}
+use Rattle.tables.specs.Checks.{tableRefusal}
+use Rattle.tables.specs.Format.{decode}
+use Rattle.tables.specs.Lists.{anyBelow}
+use Rattle.tables.specs.Table.{Table, countOf, mostProcesses, processCount}
 use Rattle.zigzag.proofs.NameLaws.{put-length}
 use Rattle.zigzag.specs.Names.{notBelowCounts, unknownNamed}
 use Rattle.zigzag.specs.Together.{misses, namedCeiling, namedLine, putNamed}

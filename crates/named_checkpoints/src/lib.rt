@@ -1,13 +1,13 @@
 // Checkpoints that a caller names, in two parallel lists of processes and of their checkpoints' numbers: what
 // the checks ask of them, the line under their ceiling, and whether that line has them all.
 use lines::line_under;
-use run_table::parts;
+use tables::parts;
 ghost use mathlib.Core.Path.{_≡_};
 ghost use Rattle.named_checkpoints.specs.Lists.{Parallel};
-ghost use Rattle.run_table.specs.Arrays.{arrayOf};
-ghost use Rattle.run_table.specs.Checks.{tableRefusal};
-ghost use Rattle.run_table.specs.Format.{decode};
-ghost use Rattle.run_table.specs.Table.{mostProcesses, processCount};
+ghost use Rattle.tables.specs.Arrays.{arrayOf};
+ghost use Rattle.tables.specs.Checks.{tableRefusal};
+ghost use Rattle.tables.specs.Format.{decode};
+ghost use Rattle.tables.specs.Table.{mostProcesses, processCount};
 ghost use Rattle.zigzag.specs.Names.{notBelowCounts, unknownNamed};
 ghost use Rattle.zigzag.specs.Together.{misses, namedCeiling, namedLine};
 

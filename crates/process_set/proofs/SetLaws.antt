@@ -12,8 +12,8 @@ use lib.Bits.{bitAnd, and-high}
 use lib.Count.{leading-top}
 use borrow.Author.Tests.{eqb-true, eqb-false, leb-true, leb-false, ltb-true, ltb-false, le-leb, lt-leb, ne-eqb, not-false}
 use Rattle.process_set.specs.Sets.{allProcesses, highBit, member}
-use Rattle.run_table.proofs.ListLaws.{anyBelow-found, anyBelow-none, none-below}
-use Rattle.run_table.specs.Lists.{anyBelow}
+use Rattle.tables.proofs.ListLaws.{anyBelow-found, anyBelow-none, none-below}
+use Rattle.tables.specs.Lists.{anyBelow}
 
 -- ---- the value of a bit
 

@@ -3,7 +3,7 @@
 use Prim.Native.Nat.{ℕ, _/_, _%_, _^_}
 use mathlib.Core.Bool.{Bool, _&&_}
 use lib.Dec.{eqb, leb}
-use Rattle.run_table.specs.Lists.{anyBelow}
+use Rattle.tables.specs.Lists.{anyBelow}
 
 -- Process p is in the set: bit p of the number is 1.
 unfoldable pub member : ℕ → ℕ → Bool

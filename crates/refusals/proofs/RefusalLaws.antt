@@ -23,11 +23,11 @@ use lib.Dec.{leb, ltb}
 use Rattle.marks.specs.Room.{marksSize}
 use Rattle.futures.specs.Steps.{receiptChecks}
 use Rattle.refusals.specs.CallChecks.{checkpointCallChecks, keepSheetChecks, lineUnderChecks, markedLineChecks, onTable, receiptCallChecks}
-use Rattle.run_table.proofs.CheckLaws.{append-alike, append-passed, areRefusals, caught-first, caughtBy, passed, quiet-front, quiet-none, quiet-number}
-use Rattle.run_table.proofs.CheckLaws.{stopped, table-refusals}
-use Rattle.run_table.specs.Checks.{Check, firstCaught, tableChecks, tableRefusal}
-use Rattle.run_table.specs.Format.{decode}
-use Rattle.run_table.specs.Table.{processCount}
+use Rattle.tables.proofs.CheckLaws.{append-alike, append-passed, areRefusals, caught-first, caughtBy, passed, quiet-front, quiet-none, quiet-number}
+use Rattle.tables.proofs.CheckLaws.{stopped, table-refusals}
+use Rattle.tables.specs.Checks.{Check, firstCaught, tableChecks, tableRefusal}
+use Rattle.tables.specs.Format.{decode}
+use Rattle.tables.specs.Table.{processCount}
 
 module _ (table : List ℕ) (own : List Check) where
   pub table-caught : {r : ℕ} → r ≡ tableRefusal table → (r ≡ 0 → ⊥) → r ≡ firstCaught (onTable table own)

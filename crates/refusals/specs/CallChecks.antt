@@ -9,9 +9,9 @@ use Rattle.consistency.specs.Ceilings.{aboveCounts}
 use Rattle.futures.specs.Steps.{notRising, receiptChecks, sendChecks}
 use Rattle.marks.specs.Room.{marksSize}
 use Rattle.process_set.specs.Sets.{highBit}
-use Rattle.run_table.specs.Checks.{Check, tableChecks}
-use Rattle.run_table.specs.Format.{decode}
-use Rattle.run_table.specs.Table.{countOf, messageCount, mostCheckpoints, mostMessages, processCount}
+use Rattle.tables.specs.Checks.{Check, tableChecks}
+use Rattle.tables.specs.Format.{decode}
+use Rattle.tables.specs.Table.{countOf, messageCount, mostCheckpoints, mostMessages, processCount}
 use Rattle.zigzag.specs.Names.{notBelowCounts, unknownNamed}
 
 -- The checks of a call on a table: the table's, and then the call's own.

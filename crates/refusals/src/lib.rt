@@ -6,17 +6,17 @@ use named_checkpoints::not_below_counts;
 use named_checkpoints::unknown_process;
 use process_set::has_high_bit;
 use run_table::checks::check;
-use run_table::format::MOST_CHECKPOINTS;
-use run_table::format::MOST_MESSAGES;
-use run_table::lookups;
-use run_table::parts;
 use steps::receipts::bad_position;
 use steps::receipts::not_rising;
+use tables::format::MOST_CHECKPOINTS;
+use tables::format::MOST_MESSAGES;
+use tables::lookups;
+use tables::parts;
 ghost use mathlib.Core.Path.{_≡_};
 ghost use Rattle.refusals.specs.CallChecks.{checkpointCallChecks, keepSheetChecks, lineOfSetChecks};
 ghost use Rattle.refusals.specs.CallChecks.{lineUnderChecks, markedLineChecks, receiptCallChecks};
 ghost use Rattle.refusals.specs.CallChecks.{sendCallChecks, standTogetherChecks};
-ghost use Rattle.run_table.specs.Checks.{firstCaught};
+ghost use Rattle.tables.specs.Checks.{firstCaught};
 
 // The line of a set: the table's checks, 12.
 pub fn set_refusal(table: &[u8], set: u32) -> u32

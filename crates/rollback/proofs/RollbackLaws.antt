@@ -23,17 +23,17 @@ use Rattle.consistency.specs.Lines.{asLine}
 use Rattle.futures.proofs.StepLaws.{putBack-receiver, putBack-sender, putBack-sent, recovery-latest, recovery-length, rollback-count, rollback-fewer}
 use Rattle.futures.proofs.StepLaws.{rollback-place, rollback-processes, withReceipt}
 use Rattle.futures.specs.Steps.{afterRollback, putBack, remaining, stays}
-use Rattle.run_table.proofs.AcceptLaws.{facts}
-use Rattle.run_table.proofs.ArrayLaws.{array-at, array-front}
-use Rattle.run_table.proofs.CodingLaws.{entries-append}
-use Rattle.run_table.proofs.FormatLaws.{length-entries}
-use Rattle.run_table.proofs.NumberLaws.{length-putAt, length-u16s, putAt-none, u16s-append}
+use Rattle.tables.proofs.AcceptLaws.{facts}
+use Rattle.tables.proofs.ArrayLaws.{array-at, array-front}
+use Rattle.tables.proofs.CodingLaws.{entries-append}
+use Rattle.tables.proofs.FormatLaws.{length-entries}
+use Rattle.tables.proofs.NumberLaws.{length-putAt, length-u16s, putAt-none, u16s-append}
 use Rattle.table_writer.proofs.PlaceLaws.{both-more}
-use Rattle.run_table.proofs.ReadLaws.{ReadMessages, messages-read, processes-few, received-is, receiver-is, sender-is, sent-is}
-use Rattle.run_table.specs.Arrays.{arrayOf}
-use Rattle.run_table.specs.Format.{decode, entriesOf, receiptsOf, receiptsPart, sendsOf, sendsPart}
-use Rattle.run_table.specs.Numbers.{putAt, u16At, u16s}
-use Rattle.run_table.specs.Table.{Message, Table, countOf, messageCount, messageOf, mostProcesses, noMessage, processCount}
+use Rattle.tables.proofs.ReadLaws.{ReadMessages, messages-read, processes-few, received-is, receiver-is, sender-is, sent-is}
+use Rattle.tables.specs.Arrays.{arrayOf}
+use Rattle.tables.specs.Format.{decode, entriesOf, receiptsOf, receiptsPart, sendsOf, sendsPart}
+use Rattle.tables.specs.Numbers.{putAt, u16At, u16s}
+use Rattle.tables.specs.Table.{Message, Table, countOf, messageCount, messageOf, mostProcesses, noMessage, processCount}
 use Rattle.rollback.specs.Rollback.{AtLine, receiptLeft}
 
 -- ---- what remains of the first k messages

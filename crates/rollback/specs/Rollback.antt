@@ -5,9 +5,9 @@ use mathlib.Core.Path.{_≡_}
 use Prim.Native.Nat.{ℕ}
 use lib.Dec.{ltb}
 use Rattle.consistency.specs.Ceilings.{recoveryLine}
-use Rattle.run_table.specs.Arrays.{arrayOf}
-use Rattle.run_table.specs.Checks.{tableRefusal}
-use Rattle.run_table.specs.Format.{decode}
+use Rattle.tables.specs.Arrays.{arrayOf}
+use Rattle.tables.specs.Checks.{tableRefusal}
+use Rattle.tables.specs.Format.{decode}
 
 -- An accepted table, and its recovery line as an array.
 pub record AtLine (table line : List ℕ) : Type 0 where

@@ -1,17 +1,17 @@
 // A rollback of the run to its recovery line: how many messages stay, and the table that it leaves.
-use run_table::format::sends_at;
-use run_table::numbers::u16_at;
-use run_table::parts;
 use table_writer::put_entry;
 use table_writer::put_head;
+use tables::format::sends_at;
+use tables::numbers::u16_at;
+use tables::parts;
 ghost use mathlib.Core.Path.{_≡_};
 ghost use Prim.Native.Nat.{_+_, _*_, _≤_};
 ghost use lib.ListN.{length};
 ghost use Rattle.futures.specs.Steps.{afterRollback};
-ghost use Rattle.run_table.specs.Arrays.{arrayOf};
-ghost use Rattle.run_table.specs.Format.{decode, encode, receiptsOf, sendsOf, tableLength};
-ghost use Rattle.run_table.specs.Numbers.{putAt, u16s};
-ghost use Rattle.run_table.specs.Table.{messageCount, processCount};
+ghost use Rattle.tables.specs.Arrays.{arrayOf};
+ghost use Rattle.tables.specs.Format.{decode, encode, receiptsOf, sendsOf, tableLength};
+ghost use Rattle.tables.specs.Numbers.{putAt, u16s};
+ghost use Rattle.tables.specs.Table.{messageCount, processCount};
 ghost use Rattle.rollback.specs.Rollback.{AtLine, receiptLeft};
 
 // The receipt number that a message is left with, beside the line's number at its receiver: 0 where it

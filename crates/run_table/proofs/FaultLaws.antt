@@ -13,9 +13,9 @@ use native.Mathlib.Numerals.{add-one}
 use native.Mathlib.Omega.{arith}
 use lib.ListN.{length, drop, getD, length-map}
 use lib.Seq.{drop-drop}
-use Rattle.run_table.specs.Checks.{Check, firstCaught}
-use Rattle.run_table.specs.Lists.{anyBelow}
-use Rattle.run_table.specs.Parts.{FirstMessage, MessageCheck, checksAt, checksBelow, firstPlace}
+use Rattle.tables.specs.Checks.{Check, firstCaught}
+use Rattle.tables.specs.Lists.{anyBelow}
+use Rattle.run_table.specs.EntryChecks.{FirstMessage, MessageCheck, checksAt, checksBelow, firstPlace}
 
 -- ---- one check after another
 -- The first i of a list's checks catch nothing.

@@ -1,21 +1,7 @@
--- The laws of this crate, for its own proofs and for the crates above.
---     ArrayLaws     arrays of 32 numbers that begin with a list, and a loop that fills one
---     ListLaws      lists given by their entries; searches in lists and among numbers
---     NumberLaws    16-bit numbers in bytes
---     FormatLaws    the parts of a table's bytes, and the entries of the decoded table
---     CodingLaws    reading and writing undo each other
---     CheckLaws     the first check that catches; the checks in terms of the parts
---     FaultLaws     checks of messages, as one loop finds them
---     AcceptLaws    an accepted table's facts
---     ReadLaws      what the code knows of an accepted table once it has read N and M
---     ScanLaws      what the loop of check 5 finds, and a message's entry
-pub mod AcceptLaws
-pub mod ArrayLaws
-pub mod CheckLaws
-pub mod CodingLaws
+-- The laws of this crate, for its own proofs.
+--     EntryLaws    the checks in terms of the parts of a table's bytes
+--     FaultLaws    checks of messages, as one loop finds them
+--     ScanLaws     what the loop of check 5 finds, and a message's entry
+mod EntryLaws
 mod FaultLaws
-pub mod FormatLaws
-pub mod ListLaws
-pub mod NumberLaws
-pub mod ReadLaws
 mod ScanLaws

@@ -1,38 +1,22 @@
 -- What the loop of check 5 finds. It goes up over the counts and leaves at the first that is 0 or above 4,096.
---     outside-zero, outside-above, inside    a number and its limit
 --     Passed, passed-none .. passed-all      the loop's invariant: how it begins, goes on and ends
 --     process-known                          a message's process, as the code read it
 --     not-below .. not-above                 its number beside the count of that process, both as they were read
 -- Assumes nothing.
-use mathlib.Core.Bool.{true, false, or-true}
+use mathlib.Core.Bool.{true, false}
 use mathlib.Core.List.{List}
 use mathlib.Core.Path.{_≡_, refl, sym, ap, _∙_}
 use Prim.Native.Nat.{ℕ, _+_, _*_, _<_, _≤_, zero-le}
 use native.Mathlib.Nat.{le-antisymm}
 use native.Mathlib.Omega.{arith}
-use lib.Dec.{eqb}
-use borrow.Author.Tests.{lt-ltb, le-leb, le-ltb, leb-false, lt-leb, ne-eqb}
-use Rattle.run_table.proofs.ListLaws.{anyBelow-found, anyBelow-more}
-use Rattle.run_table.specs.Checks.{badCount, outside}
-use Rattle.run_table.specs.Format.{checkpointAt, countAt, processAt}
-use Rattle.run_table.specs.Lists.{anyBelow}
-use Rattle.run_table.specs.Numbers.{u16At}
-use Rattle.run_table.specs.Parts.{aboveAt, badCountAt, notBelowAt, unknownAt}
-use Rattle.run_table.specs.Table.{mostCheckpoints}
-
--- ---- a number that is 0 or above a limit, and one that is neither
-module _ (limit n : ℕ) where
-  pub outside-zero : n ≡ 0 → outside limit n ≡ true
-  unfolding outside
-  outside-zero z = rw z
-
-  pub outside-above : limit < n → outside limit n ≡ true
-  unfolding outside
-  outside-above l = rw (lt-ltb limit n l) (or-true (eqb n 0))
-
-  pub inside : (n ≡ 0 → ⊥) → n ≤ limit → outside limit n ≡ false
-  unfolding outside
-  inside z l = rw (ne-eqb n 0 z, le-ltb limit n l)
+use borrow.Author.Tests.{lt-ltb, le-leb, le-ltb, leb-false, lt-leb}
+use Rattle.tables.proofs.ListLaws.{anyBelow-found, anyBelow-more}
+use Rattle.tables.specs.Checks.{badCount, outside}
+use Rattle.tables.specs.Format.{checkpointAt, countAt, processAt}
+use Rattle.tables.specs.Lists.{anyBelow}
+use Rattle.tables.specs.Numbers.{u16At}
+use Rattle.run_table.specs.EntryChecks.{aboveAt, badCountAt, notBelowAt, unknownAt}
+use Rattle.tables.specs.Table.{mostCheckpoints}
 
 -- ---- the loop
 -- It stands at p, and no count below p is bad.

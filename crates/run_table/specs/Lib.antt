@@ -1,17 +1,3 @@
--- What a run table's bytes say, in the order of docs/MANUAL.md, "The run table" and "Refusals".
---     Lists      lists that are given by their entries, and searches
---     Numbers    16-bit numbers in bytes
---     Table      messages and tables, free of bytes
---     Format     the bytes of a table, read (decode) and written (encode)
---     Checks     the checks of a table, the refusal, and what an accepted table satisfies
---     Fields     the numbers of a message, by name
---     Arrays     numbers of processes, as an array of the code; a list that is filled from the front
---     Parts      what the loops of the code read off a part of a table's bytes
-pub mod Arrays
-pub mod Checks
-pub mod Fields
-pub mod Format
-pub mod Lists
-pub mod Numbers
-pub mod Parts
-pub mod Table
+-- How the code makes the checks of a table.
+--     EntryChecks    the checks of counts and messages, entry by entry, on the parts of a table's bytes
+pub mod EntryChecks

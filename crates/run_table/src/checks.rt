@@ -1,22 +1,22 @@
 // The checks of a run table, in checking order (docs/MANUAL.md, "Refusals"). Each covers the whole table
 // before the next begins.
-use crate::format::COUNTS_AT;
-use crate::format::MOST_CHECKPOINTS;
-use crate::format::MOST_MESSAGES;
-use crate::format::MOST_PROCESSES;
-use crate::format::receipts_at;
-use crate::format::sends_at;
-use crate::format::table_length;
-use crate::numbers::u16_at;
+use tables::format::COUNTS_AT;
+use tables::format::MOST_CHECKPOINTS;
+use tables::format::MOST_MESSAGES;
+use tables::format::MOST_PROCESSES;
+use tables::format::receipts_at;
+use tables::format::sends_at;
+use tables::format::table_length;
+use tables::numbers::u16_at;
 ghost use mathlib.Core.Path.{_≡_};
 ghost use mathlib.Core.Bool.{false};
 ghost use Prim.Native.Nat.{_+_, _*_, _<_};
 ghost use lib.ListN.{length};
-ghost use Rattle.run_table.specs.Checks.{tableRefusal};
-ghost use Rattle.run_table.specs.Format.{countAt, processAt};
-ghost use Rattle.run_table.specs.Lists.{anyBelow};
-ghost use Rattle.run_table.specs.Parts.{FirstMessage, Sized, badCountAt, checksAt, checksBelow, firstPlace};
-ghost use Rattle.run_table.specs.Parts.{messageChecks, partsRefusal, toItselfAt, unknownAt};
+ghost use Rattle.tables.specs.Checks.{tableRefusal};
+ghost use Rattle.tables.specs.Format.{countAt, processAt};
+ghost use Rattle.tables.specs.Lists.{anyBelow};
+ghost use Rattle.run_table.specs.EntryChecks.{FirstMessage, Sized, badCountAt, checksAt, checksBelow};
+ghost use Rattle.run_table.specs.EntryChecks.{firstPlace, messageChecks, partsRefusal, toItselfAt, unknownAt};
 
 // The numbers of the checks of a message, in checking order; 0 behind the last, where none catches.
 const FAULTS: [u32; 6] = [6, 6, 7, 8, 9, 0];

@@ -1,16 +1,14 @@
-// The run table: what its bytes say, its checks, and its numbers by place (docs/MANUAL.md, "The run
-// table"). It stands below the keeper and knows nothing of it: plotting tools link it alone.
+// The run table: its checks, and its numbers by place (docs/MANUAL.md, "The run table"). It stands below
+// the keeper and knows nothing of it: plotting tools link it alone.
 pub mod checks;
-pub mod format;
-pub mod lookups;
-pub mod numbers;
-pub mod parts;
 
-use lookups::Field;
+use tables::lookups;
+use tables::lookups::Field;
+use tables::numbers;
 ghost use mathlib.Core.Path.{_≡_};
-ghost use Rattle.run_table.specs.Checks.{tableRefusal};
-ghost use Rattle.run_table.specs.Format.{decode};
-ghost use Rattle.run_table.specs.Table.{countOf, messageCount, messageOf, processCount};
+ghost use Rattle.tables.specs.Checks.{tableRefusal};
+ghost use Rattle.tables.specs.Format.{decode};
+ghost use Rattle.tables.specs.Table.{countOf, messageCount, messageOf, processCount};
 
 // The refusal of a table: the number of the first of its checks that catches, or 0.
 #[no_mangle]

@@ -22,15 +22,15 @@ use lib.Dec.{eqb, ltb}
 use lib.ListN.{length, getD, set, replicate, length-append, length-map}
 use Rattle.consistency.specs.Lines.{Line}
 use Rattle.futures.specs.Sheet.{Checkpoint, crosses}
-use Rattle.run_table.proofs.ArrayLaws.{Filling, array-at, filling-array, filling-more, filling-none}
-use Rattle.run_table.proofs.ListLaws.{anyBelow-found, anyBelow-more, anyBelow-none, found-below, getD-tabulate, length-tabulate, none-below}
-use Rattle.run_table.proofs.ListLaws.{rows-more, select-gap, select-more, select-skip, select-small}
-use Rattle.run_table.proofs.ReadLaws.{message-there}
-use Rattle.run_table.specs.Format.{checkpointAt, countAt, messageAt, processAt}
-use Rattle.run_table.specs.Lists.{anyBelow, rows, select, tabulate}
-use Rattle.run_table.specs.Numbers.{u16At}
-use Rattle.run_table.specs.Parts.{Messages}
-use Rattle.run_table.specs.Table.{Message, mostProcesses}
+use Rattle.tables.proofs.ArrayLaws.{Filling, array-at, filling-array, filling-more, filling-none}
+use Rattle.tables.proofs.ListLaws.{anyBelow-found, anyBelow-more, anyBelow-none, found-below, getD-tabulate, length-tabulate, none-below}
+use Rattle.tables.proofs.ListLaws.{rows-more, select-gap, select-more, select-skip, select-small}
+use Rattle.tables.proofs.ReadLaws.{message-there}
+use Rattle.tables.specs.Format.{checkpointAt, countAt, messageAt, processAt}
+use Rattle.tables.specs.Lists.{anyBelow, rows, select, tabulate}
+use Rattle.tables.specs.Numbers.{u16At}
+use Rattle.tables.specs.Parts.{Messages}
+use Rattle.tables.specs.Table.{Message, mostProcesses}
 use Rattle.sheet_entries.specs.Kept.{First, checkpointsAt, checkpointsOf, crossesLine, isKept, keptOf, leastBelow, lowestAt, lowestLine, shows}
 use Rattle.sheet_entries.specs.Scratch.{HoldsLines, MessageBeside, linesIn}
 

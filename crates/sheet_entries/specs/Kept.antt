@@ -7,10 +7,10 @@ use Prim.Native.Nat.{ℕ, zero, suc, min, _≤_, _<_}
 use lib.Dec.{eqb}
 use Rattle.consistency.specs.Lines.{Line}
 use Rattle.futures.specs.Sheet.{Checkpoint, crosses}
-use Rattle.run_table.specs.Arrays.{arrayOf}
-use Rattle.run_table.specs.Format.{countAt, messageAt}
-use Rattle.run_table.specs.Lists.{anyBelow, rows, select, tabulate}
-use Rattle.run_table.specs.Table.{Message}
+use Rattle.tables.specs.Arrays.{arrayOf}
+use Rattle.tables.specs.Format.{countAt, messageAt}
+use Rattle.tables.specs.Lists.{anyBelow, rows, select, tabulate}
+use Rattle.tables.specs.Table.{Message}
 
 -- Some line has checkpoint c at process i.
 unfoldable pub shows : ℕ → (ℕ → Line) → ℕ → ℕ → Bool

@@ -4,9 +4,9 @@ use mathlib.Core.Path.{_≡_}
 use Prim.Native.Nat.{ℕ, _+_, _*_, _≤_}
 use lib.ListN.{getD, length}
 use Rattle.consistency.specs.Lines.{Line}
-use Rattle.run_table.specs.Format.{processAt}
-use Rattle.run_table.specs.Parts.{MessageThere}
-use Rattle.run_table.specs.Table.{mostProcesses}
+use Rattle.tables.specs.Format.{processAt}
+use Rattle.tables.specs.Parts.{MessageThere}
+use Rattle.tables.specs.Table.{mostProcesses}
 use Rattle.sheet_entries.specs.Kept.{lowestAt}
 
 -- A scratch that begins with n lines of n numbers, n being a number of processes.

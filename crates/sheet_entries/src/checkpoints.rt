@@ -1,12 +1,12 @@
 // The kept checkpoints: those below a process's count that some line has there.
 use crate::scratch::number_in_line;
-use run_table::numbers::u16_at;
+use tables::numbers::u16_at;
 ghost use mathlib.Core.Path.{_≡_};
 ghost use Prim.Native.Nat.{_<_, _≤_};
 ghost use lib.ListN.{length};
 ghost use Rattle.sheet_entries.specs.Kept.{First, checkpointsOf, keptOf, shows};
 ghost use Rattle.sheet_entries.specs.Scratch.{HoldsLines, linesIn};
-ghost use Rattle.run_table.specs.Parts.{Counts};
+ghost use Rattle.tables.specs.Parts.{Counts};
 
 // The first checkpoint from a start on, below a count, that some line has at process i; the count where
 // there is none.

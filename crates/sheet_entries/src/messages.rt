@@ -1,14 +1,14 @@
 // The kept messages: undelivered, or crossing some line.
 use crate::checkpoints::next_kept;
 use crate::scratch::number_in_line;
-use run_table::numbers::u16_at;
+use tables::numbers::u16_at;
 ghost use mathlib.Core.Path.{_≡_};
 ghost use Prim.Native.Nat.{_<_};
 ghost use lib.ListN.{length};
 ghost use Rattle.sheet_entries.specs.Kept.{crossesLine, isKept, lowestLine, positionsOf};
 ghost use Rattle.sheet_entries.specs.Scratch.{HoldsLines, MessageBeside, linesIn};
-ghost use Rattle.run_table.specs.Format.{messageAt};
-ghost use Rattle.run_table.specs.Parts.{Messages};
+ghost use Rattle.tables.specs.Format.{messageAt};
+ghost use Rattle.tables.specs.Parts.{Messages};
 
 // The lowest line: at each process the least number that any of n lines has there.
 pub fn lowest_line(scratch: &[u16], n: usize) -> [u16; 32]

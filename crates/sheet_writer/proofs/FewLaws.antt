@@ -15,9 +15,9 @@ use lib.Dec.{eqb}
 use lib.ListN.{length, length-append, length-map}
 use Rattle.consistency.specs.Lines.{asLine}
 use Rattle.futures.specs.Sheet.{Checkpoint, holderLine, keepsCheckpoint, keptCheckpoints}
-use Rattle.run_table.proofs.ListLaws.{rows-sum, select-ext, select-gap, select-small, sum-same, tabulate-getD}
-use Rattle.run_table.specs.Lists.{anyBelow, select, sum, tabulate}
-use Rattle.run_table.specs.Table.{Table, countOf, processCount}
+use Rattle.tables.proofs.ListLaws.{rows-sum, select-ext, select-gap, select-small, sum-same, tabulate-getD}
+use Rattle.tables.specs.Lists.{anyBelow, select, sum, tabulate}
+use Rattle.tables.specs.Table.{Table, countOf, processCount}
 
 -- a number where it passes
 abbrev one : Bool → ℕ → List ℕ

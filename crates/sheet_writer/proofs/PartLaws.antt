@@ -12,11 +12,11 @@ use native.Mathlib.Omega.{arith}
 use denote.Ref.{RefT, now}
 use lib.ListN.{length, length-append}
 use Rattle.futures.specs.Sheet.{keptCheckpoints, sheet}
-use Rattle.run_table.proofs.NumberLaws.{length-u16s}
-use Rattle.run_table.proofs.ReadLaws.{ReadMessages}
-use Rattle.run_table.specs.Format.{countsPart, decode}
-use Rattle.run_table.specs.Numbers.{putAt, u16s}
-use Rattle.run_table.specs.Table.{Table, processCount}
+use Rattle.tables.proofs.NumberLaws.{length-u16s}
+use Rattle.tables.proofs.ReadLaws.{ReadMessages}
+use Rattle.tables.specs.Format.{countsPart, decode}
+use Rattle.tables.specs.Numbers.{putAt, u16s}
+use Rattle.tables.specs.Table.{Table, processCount}
 use Rattle.sheet_entries.specs.Kept.{columnOf, positionsOf}
 use Rattle.sheet_entries.specs.Scratch.{linesIn}
 use Rattle.sheet_writer.proofs.PutLaws.{put-length, put-room, put-then, put-written}

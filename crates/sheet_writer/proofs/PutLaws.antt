@@ -15,12 +15,12 @@ use native.Mathlib.Nat.{le-antisymm, mul-add-div, mul-add-mod-self-left}
 use native.Mathlib.Omega.{arith}
 use lib.Dec.{lit<}
 use lib.ListN.{length, length-append, length-map}
-use Rattle.run_table.proofs.ListLaws.{map-append, rows-more, rows-room, select-more, select-room, select-skip}
-use Rattle.run_table.proofs.NumberLaws.{length-putAt, length-u16s, putAt-more, putAt-none, u16s-append}
-use Rattle.run_table.specs.Format.{countAt, messageAt}
-use Rattle.run_table.specs.Lists.{rows, select}
-use Rattle.run_table.specs.Numbers.{putAt, u16At, u16Bytes, u16s}
-use Rattle.run_table.specs.Parts.{Counts}
+use Rattle.tables.proofs.ListLaws.{map-append, rows-more, rows-room, select-more, select-room, select-skip}
+use Rattle.tables.proofs.NumberLaws.{length-putAt, length-u16s, putAt-more, putAt-none, u16s-append}
+use Rattle.tables.specs.Format.{countAt, messageAt}
+use Rattle.tables.specs.Lists.{rows, select}
+use Rattle.tables.specs.Numbers.{putAt, u16At, u16Bytes, u16s}
+use Rattle.tables.specs.Parts.{Counts}
 use Rattle.sheet_entries.proofs.SearchLaws.{Asking, Standing, select-first, select-next, stands}
 use Rattle.sheet_entries.specs.Kept.{First, columnAt, columnOf, isKept, keptOf, positionsOf}
 use Rattle.sheet_entries.specs.Scratch.{HoldsLines, linesIn}

@@ -27,16 +27,16 @@ use Rattle.lines.proofs.LineReads.{set-front}
 use Rattle.lines.specs.Propagation.{propagatesFrom}
 use Rattle.process_set.proofs.SetLaws.{member-one}
 use Rattle.process_set.specs.Sets.{member}
-use Rattle.run_table.proofs.ArrayLaws.{array-length}
-use Rattle.run_table.proofs.ListLaws.{anyBelow-ext, getD-tabulate, map-rows, rows-at, rows-ext, rows-length, select-ext, select-small, tabulate-ext}
-use Rattle.run_table.proofs.NumberLaws.{length-u16s}
-use Rattle.run_table.proofs.ReadLaws.{ReadMessages, count-is, message-good, message-is, messages-few, processes-few}
-use Rattle.run_table.specs.Arrays.{arrayOf}
-use Rattle.run_table.specs.Checks.{GoodMessage, tableRefusal}
-use Rattle.run_table.specs.Format.{countAt, countsPart, decode}
-use Rattle.run_table.specs.Lists.{select, tabulate}
-use Rattle.run_table.specs.Numbers.{putAt}
-use Rattle.run_table.specs.Table.{Message, Table, countOf, messageCount, messageOf, mostMessages, mostProcesses, processCount}
+use Rattle.tables.proofs.ArrayLaws.{array-length}
+use Rattle.tables.proofs.ListLaws.{anyBelow-ext, getD-tabulate, map-rows, rows-at, rows-ext, rows-length, select-ext, select-small, tabulate-ext}
+use Rattle.tables.proofs.NumberLaws.{length-u16s}
+use Rattle.tables.proofs.ReadLaws.{ReadMessages, count-is, message-good, message-is, messages-few, processes-few}
+use Rattle.tables.specs.Arrays.{arrayOf}
+use Rattle.tables.specs.Checks.{GoodMessage, tableRefusal}
+use Rattle.tables.specs.Format.{countAt, countsPart, decode}
+use Rattle.tables.specs.Lists.{select, tabulate}
+use Rattle.tables.specs.Numbers.{putAt}
+use Rattle.tables.specs.Table.{Message, Table, countOf, messageCount, messageOf, mostMessages, mostProcesses, processCount}
 use Rattle.sheet_entries.proofs.ScratchLaws.{cell-below}
 use Rattle.sheet_entries.specs.Kept.{checkpointsAt, checkpointsOf, columnAt, columnOf, crossesLine, isKept, keptOf, positionsOf, shows}
 use Rattle.sheet_entries.specs.Scratch.{HoldsLines, linesIn}

@@ -7,9 +7,9 @@ use lib.ListN.{length, take}
 use Rattle.futures.specs.Sheet.{holderLines, keptCheckpoints, keptMessages}
 use Rattle.sheet_writer.specs.declared.writing.Part.{Part}
 use Rattle.sheet_writer.specs.declared.writing.Part.the-variants.{Checkpoints, Positions, Processes, Sizes}
-use Rattle.run_table.specs.Checks.{tableRefusal}
-use Rattle.run_table.specs.Format.{decode}
-use Rattle.run_table.specs.Table.{Table, processCount}
+use Rattle.tables.specs.Checks.{tableRefusal}
+use Rattle.tables.specs.Format.{decode}
+use Rattle.tables.specs.Table.{Table, processCount}
 
 -- The numbers of a part: K and Q as given; the processes and the numbers of the kept checkpoints; the positions of the
 -- kept messages.

@@ -4,7 +4,7 @@ use Prim.Native.Nat.{ℕ, _+_, _*_}
 use lib.ListN.{length}
 use denote.Ref.{RefT, now, at-last}
 use Rattle.sheet_writer.specs.declared.writer.SheetWriter.{SheetWriter}
-use Rattle.run_table.specs.Numbers.{putAt, u16s}
+use Rattle.tables.specs.Numbers.{putAt, u16s}
 
 -- A writer over a lent buffer, at a place.
 abbrev pub standing : RefT (List ℕ) → ℕ → SheetWriter

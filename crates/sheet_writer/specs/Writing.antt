@@ -3,7 +3,7 @@ use mathlib.Core.List.{List}
 use mathlib.Core.Path.{_≡_}
 use Prim.Native.Nat.{ℕ, _+_, _*_}
 use lib.ListN.{length}
-use Rattle.run_table.specs.Numbers.{putAt, u16s}
+use Rattle.tables.specs.Numbers.{putAt, u16s}
 
 -- Numbers were put from a place on, the rest of the buffer is as it was, and the next place follows the last number.
 pub record Put (before after : List ℕ) (at : ℕ) (numbers : List ℕ) (next : ℕ) : Type 0 where

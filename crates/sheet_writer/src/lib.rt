@@ -6,18 +6,18 @@ use crate::writer::SheetWriter;
 use crate::writing::Part;
 use lines::line_of_holder;
 use lines::propagation::propagating;
-use run_table::parts;
 use sheet_entries::checkpoints;
 use sheet_entries::messages;
 use table_writer::store_numbers;
+use tables::parts;
 ghost use mathlib.Core.Path.{_≡_};
 ghost use Prim.Native.Nat.{_*_, _≤_};
 ghost use lib.ListN.{length};
 ghost use Rattle.futures.specs.Sheet.{holderLines, keptCheckpoints, keptMessages, sheet};
-ghost use Rattle.run_table.specs.Checks.{tableRefusal};
-ghost use Rattle.run_table.specs.Format.{decode};
-ghost use Rattle.run_table.specs.Numbers.{putAt};
-ghost use Rattle.run_table.specs.Table.{processCount};
+ghost use Rattle.tables.specs.Checks.{tableRefusal};
+ghost use Rattle.tables.specs.Format.{decode};
+ghost use Rattle.tables.specs.Numbers.{putAt};
+ghost use Rattle.tables.specs.Table.{processCount};
 ghost use Rattle.sheet_writer.specs.SheetParts.{CanPutSheet, LinesOf};
 
 // Writes the lines of all single holders to the front of a scratch that has room for N × N numbers.

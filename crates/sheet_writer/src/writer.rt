@@ -6,7 +6,7 @@ use crate::writing::put_part;
 ghost use mathlib.Core.Path.{_≡_};
 ghost use Rattle.sheet_writer.specs.SheetParts.{CanPut, numbersOf};
 ghost use Rattle.sheet_writer.specs.Writers.{written};
-ghost use Rattle.run_table.specs.Format.{decode};
+ghost use Rattle.tables.specs.Format.{decode};
 
 pub struct SheetWriter<'a> {
     pub buffer: &'a mut [u8],

@@ -1,11 +1,11 @@
 // The numbers of a keep sheet, put into a buffer one after another, part by part. Each function answers
 // the next place.
-use run_table::numbers::put_u16;
-use run_table::numbers::u16_at;
-use run_table::parts;
 use sheet_entries::checkpoints::next_kept;
 use sheet_entries::messages::is_kept;
 use sheet_entries::messages::lowest_line;
+use tables::numbers::put_u16;
+use tables::numbers::u16_at;
+use tables::parts;
 ghost use mathlib.Core.Bool.{cond};
 ghost use mathlib.Core.List.{_∷_, []};
 ghost use mathlib.Core.Path.{_≡_};
@@ -15,8 +15,8 @@ ghost use Rattle.sheet_entries.specs.Kept.{columnAt, columnOf, keptOf, position
 ghost use Rattle.sheet_entries.specs.Scratch.{HoldsLines, linesIn};
 ghost use Rattle.sheet_writer.specs.SheetParts.{CanPut, numbersOf};
 ghost use Rattle.sheet_writer.specs.Writing.{Put};
-ghost use Rattle.run_table.specs.Format.{decode};
-ghost use Rattle.run_table.specs.Parts.{Counts, Messages};
+ghost use Rattle.tables.specs.Format.{decode};
+ghost use Rattle.tables.specs.Parts.{Counts, Messages};
 
 // The parts of a keep sheet: K and Q, the two arrays of the kept checkpoints, and the positions.
 pub enum Part {

@@ -20,15 +20,15 @@ use lib.ListN.{length, getD, set, take, length-append}
 use lib.Seq.{set-append-left, set-append-seam, take-all, take-suc}
 use Rattle.futures.proofs.StepLaws.{Waiting, good-position, rising, waiting-position}
 use Rattle.futures.specs.Steps.{badPosition, notRising, notRisingAfter}
-use Rattle.run_table.proofs.CodingLaws.{even-number, odd-number}
-use Rattle.run_table.proofs.ListLaws.{any-last, any-none, any-some, none-of, or-none, tabulate-more}
+use Rattle.tables.proofs.CodingLaws.{even-number, odd-number}
+use Rattle.tables.proofs.ListLaws.{any-last, any-none, any-some, none-of, or-none, tabulate-more}
 use Rattle.table_writer.proofs.PlaceLaws.{number-within}
-use Rattle.run_table.proofs.ReadLaws.{ReadMessages, messages-read, received-is, receiver-is}
-use Rattle.run_table.specs.Checks.{tableRefusal}
-use Rattle.run_table.specs.Format.{checkpointAt, decode, processAt, receiptsPart, sendsPart}
-use Rattle.run_table.specs.Lists.{any, tabulate}
-use Rattle.run_table.specs.Numbers.{putAt, u16At, u16Bytes, u16s}
-use Rattle.run_table.specs.Table.{Table, messageCount}
+use Rattle.tables.proofs.ReadLaws.{ReadMessages, messages-read, received-is, receiver-is}
+use Rattle.tables.specs.Checks.{tableRefusal}
+use Rattle.tables.specs.Format.{checkpointAt, decode, processAt, receiptsPart, sendsPart}
+use Rattle.tables.specs.Lists.{any, tabulate}
+use Rattle.tables.specs.Numbers.{putAt, u16At, u16Bytes, u16s}
+use Rattle.tables.specs.Table.{Table, messageCount}
 use Rattle.steps.proofs.SendLaws.{copied}
 use Rattle.steps.specs.Receipts.{CanReceive, newReceipt, receiptNumbers}
 

@@ -16,13 +16,13 @@ use lib.Seq.{set-getD}
 use Rattle.futures.proofs.StepLaws.{receipt-receives, receivedAt-listed, receivedAt-receiver, receivedAt-sender, receivedAt-sent}
 use Rattle.futures.proofs.StepLaws.{receivedAt-unlisted, receives-messages}
 use Rattle.futures.specs.Steps.{afterCheckpoint, afterReceipt, receivedAt}
-use Rattle.run_table.proofs.CodingLaws.{entries-append, entries-tabulate, even-number, odd-number}
-use Rattle.run_table.proofs.ListLaws.{tabulate-more}
-use Rattle.run_table.proofs.ReadLaws.{ReadMessages, received-is, receiver-is, sender-is, sent-is}
-use Rattle.run_table.specs.Format.{checkpointAt, decode, encode, entriesOf, processAt, receiptsOf, sendsOf}
-use Rattle.run_table.specs.Lists.{any, tabulate}
-use Rattle.run_table.specs.Numbers.{putAt, u16At}
-use Rattle.run_table.specs.Table.{Message, Table, countOf, messageCount, processCount}
+use Rattle.tables.proofs.CodingLaws.{entries-append, entries-tabulate, even-number, odd-number}
+use Rattle.tables.proofs.ListLaws.{tabulate-more}
+use Rattle.tables.proofs.ReadLaws.{ReadMessages, received-is, receiver-is, sender-is, sent-is}
+use Rattle.tables.specs.Format.{checkpointAt, decode, encode, entriesOf, processAt, receiptsOf, sendsOf}
+use Rattle.tables.specs.Lists.{any, tabulate}
+use Rattle.tables.specs.Numbers.{putAt, u16At}
+use Rattle.tables.specs.Table.{Message, Table, countOf, messageCount, processCount}
 use Rattle.steps.proofs.SendLaws.{Read, Writes, copied, count-read, front-set, table-written}
 use Rattle.steps.specs.Receipts.{CanReceive, afterReceiving, newReceipt, receiptNumbers}
 

@@ -15,19 +15,19 @@ use lib.ListN.{length, getD, set, take, length-set}
 use lib.Seq.{length-take-le}
 use Rattle.futures.proofs.StepLaws.{send-messages, send-processes}
 use Rattle.futures.specs.Steps.{afterSend}
-use Rattle.run_table.proofs.AcceptLaws.{facts}
-use Rattle.run_table.proofs.ArrayLaws.{array-at, array-front, array-length, array-set}
-use Rattle.run_table.proofs.CodingLaws.{entries-append, receipts-numbers, sends-numbers}
-use Rattle.run_table.proofs.FormatLaws.{decode-messages}
-use Rattle.run_table.proofs.NumberLaws.{length-u16s, putAt-more, u16s-append}
-use Rattle.run_table.proofs.ReadLaws.{ReadMessages, messages-few, processes-few, receipts-size, sends-size}
+use Rattle.tables.proofs.AcceptLaws.{facts}
+use Rattle.tables.proofs.ArrayLaws.{array-at, array-front, array-length, array-set}
+use Rattle.tables.proofs.CodingLaws.{entries-append, receipts-numbers, sends-numbers}
+use Rattle.tables.proofs.FormatLaws.{decode-messages}
+use Rattle.tables.proofs.NumberLaws.{length-u16s, putAt-more, u16s-append}
+use Rattle.tables.proofs.ReadLaws.{ReadMessages, messages-few, processes-few, receipts-size, sends-size}
 use Rattle.table_writer.proofs.WriteLaws.{numbers-size, table-put}
-use Rattle.run_table.specs.Arrays.{arrayOf}
-use Rattle.run_table.specs.Checks.{tableRefusal}
-use Rattle.run_table.specs.Format.{decode, encode, entriesOf, receiptsAt, receiptsOf, receiptsPart, sendsAt, sendsOf, sendsPart, tableLength}
-use Rattle.run_table.specs.Lists.{tabulate}
-use Rattle.run_table.specs.Numbers.{putAt, u16At, u16s}
-use Rattle.run_table.specs.Table.{Table, countOf, messageCount, mostCheckpoints, mostMessages, mostProcesses, processCount}
+use Rattle.tables.specs.Arrays.{arrayOf}
+use Rattle.tables.specs.Checks.{tableRefusal}
+use Rattle.tables.specs.Format.{decode, encode, entriesOf, receiptsAt, receiptsOf, receiptsPart, sendsAt, sendsOf, sendsPart, tableLength}
+use Rattle.tables.specs.Lists.{tabulate}
+use Rattle.tables.specs.Numbers.{putAt, u16At, u16s}
+use Rattle.tables.specs.Table.{Table, countOf, messageCount, mostCheckpoints, mostMessages, mostProcesses, processCount}
 
 -- ---- what a step has read of an accepted table
 -- Its sizes, and its counts as an array. The limits and the lengths follow from the rest; `omega` finds them here.

@@ -6,10 +6,10 @@ use Prim.Native.Nat.{ℕ, zero, suc, _+_, _<_}
 use lib.Dec.{eqb}
 use lib.ListN.{set}
 use Rattle.futures.specs.Steps.{afterReceipt, badPosition}
-use Rattle.run_table.specs.Checks.{tableRefusal}
-use Rattle.run_table.specs.Format.{checkpointAt, decode, processAt}
-use Rattle.run_table.specs.Lists.{any}
-use Rattle.run_table.specs.Table.{Table, countOf, processCount}
+use Rattle.tables.specs.Checks.{tableRefusal}
+use Rattle.tables.specs.Format.{checkpointAt, decode, processAt}
+use Rattle.tables.specs.Lists.{any}
+use Rattle.tables.specs.Table.{Table, countOf, processCount}
 
 -- A known process of an accepted table, and a list of messages that wait for it.
 pub record CanReceive (table : List ℕ) (process : ℕ) (list : List ℕ) : Type 0 where

@@ -1,21 +1,21 @@
 // Receipt and checkpoint (docs/MANUAL.md, "Steps": receive, save): the listed messages are received, and at a
 // checkpoint the count of the process grows.
-use run_table::format::receipts_at;
-use run_table::format::sends_at;
-use run_table::numbers::put_u16;
-use run_table::numbers::u16_at;
-use run_table::parts;
 use table_writer::copy_numbers;
 use table_writer::put_head;
+use tables::format::receipts_at;
+use tables::format::sends_at;
+use tables::numbers::put_u16;
+use tables::numbers::u16_at;
+use tables::parts;
 ghost use mathlib.Core.Path.{_≡_};
 ghost use Prim.Native.Nat.{ℕ, _+_, _*_, _<_, _≤_};
 ghost use lib.ListN.{getD, length};
 ghost use Rattle.futures.specs.Steps.{afterCheckpoint, afterReceipt, badPosition, notRising};
-ghost use Rattle.run_table.specs.Checks.{tableRefusal};
-ghost use Rattle.run_table.specs.Format.{decode, encode, tableLength};
-ghost use Rattle.run_table.specs.Lists.{any};
-ghost use Rattle.run_table.specs.Numbers.{putAt, u16s};
-ghost use Rattle.run_table.specs.Table.{messageCount, processCount};
+ghost use Rattle.tables.specs.Checks.{tableRefusal};
+ghost use Rattle.tables.specs.Format.{decode, encode, tableLength};
+ghost use Rattle.tables.specs.Lists.{any};
+ghost use Rattle.tables.specs.Numbers.{putAt, u16s};
+ghost use Rattle.tables.specs.Table.{messageCount, processCount};
 ghost use Rattle.steps.specs.Receipts.{CanReceive, afterReceiving, receiptNumbers};
 
 // Whether an entry of a list is not above the one before it.

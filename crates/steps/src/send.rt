@@ -1,20 +1,20 @@
 // Send: the table with one message more.
-use run_table::format::receipts_at;
-use run_table::format::sends_at;
-use run_table::parts;
 use table_writer::copy_numbers;
 use table_writer::put_entry;
 use table_writer::put_head;
+use tables::format::receipts_at;
+use tables::format::sends_at;
+use tables::parts;
 ghost use mathlib.Core.List.{[], _∷_, _++_};
 ghost use mathlib.Core.Path.{_≡_};
 ghost use Prim.Native.Nat.{_+_, _*_, _<_, _≤_};
 ghost use lib.ListN.{length};
 ghost use Rattle.futures.specs.Steps.{afterSend};
-ghost use Rattle.run_table.specs.Checks.{tableRefusal};
-ghost use Rattle.run_table.specs.Format.{decode, encode, tableLength};
-ghost use Rattle.run_table.specs.Lists.{tabulate};
-ghost use Rattle.run_table.specs.Numbers.{putAt, u16At, u16s};
-ghost use Rattle.run_table.specs.Table.{messageCount, processCount};
+ghost use Rattle.tables.specs.Checks.{tableRefusal};
+ghost use Rattle.tables.specs.Format.{decode, encode, tableLength};
+ghost use Rattle.tables.specs.Lists.{tabulate};
+ghost use Rattle.tables.specs.Numbers.{putAt, u16At, u16s};
+ghost use Rattle.tables.specs.Table.{messageCount, processCount};
 
 // Copies an array of m entries, and one entry more, to a place of a buffer that has room for them.
 fn put_longer(buffer: &mut [u8], at: usize, part: &[u8], m: usize, process: u16, checkpoint: u16)

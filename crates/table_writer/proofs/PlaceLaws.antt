@@ -10,8 +10,8 @@ use Prim.Native.Nat.{ℕ, zero, suc, _+_, _*_, _/_, _%_, _≤_, _<_}
 use native.Mathlib.Nat.{suc-add, zero-add}
 use native.Mathlib.Omega.{arith}
 use lib.ListN.{length, set, take, drop, length-append}
-use Rattle.run_table.proofs.NumberLaws.{length-putAt, length-u16s, putAt-more, putAt-none}
-use Rattle.run_table.specs.Numbers.{putAt, u16Bytes, u16s}
+use Rattle.tables.proofs.NumberLaws.{length-putAt, length-u16s, putAt-more, putAt-none}
+use Rattle.tables.specs.Numbers.{putAt, u16Bytes, u16s}
 
 -- ---- one entry further on
 put-later : (x : ℕ) (b ys : List ℕ) (i : ℕ) → putAt (x ∷ b) (suc i) ys ≡ x ∷ putAt b i ys

@@ -14,13 +14,13 @@ use native.Mathlib.Nat.{le-antisymm, mul-le-mul-left, mul-suc, zero-add}
 use native.Mathlib.Numerals.{add-one}
 use native.Mathlib.Omega.{arith}
 use lib.ListN.{length, set, length-append}
-use Rattle.run_table.proofs.FormatLaws.{length-entries}
-use Rattle.run_table.proofs.ListLaws.{length-tabulate, rows-length, rows-more, tabulate-more}
-use Rattle.run_table.proofs.NumberLaws.{length-putAt, length-u16s, putAt-more, putAt-none, putAt-one, u16s-append}
-use Rattle.run_table.specs.Format.{encode, receiptsAt, receiptsOf, sendsAt, sendsOf, tableLength}
-use Rattle.run_table.specs.Lists.{rows, tabulate}
-use Rattle.run_table.specs.Numbers.{putAt, u16Bytes, u16s}
-use Rattle.run_table.specs.Table.{Table, messageCount, processCount}
+use Rattle.tables.proofs.FormatLaws.{length-entries}
+use Rattle.tables.proofs.ListLaws.{length-tabulate, rows-length, rows-more, tabulate-more}
+use Rattle.tables.proofs.NumberLaws.{length-putAt, length-u16s, putAt-more, putAt-none, putAt-one, u16s-append}
+use Rattle.tables.specs.Format.{encode, receiptsAt, receiptsOf, sendsAt, sendsOf, tableLength}
+use Rattle.tables.specs.Lists.{rows, tabulate}
+use Rattle.tables.specs.Numbers.{putAt, u16Bytes, u16s}
+use Rattle.tables.specs.Table.{Table, messageCount, processCount}
 
 -- Bytes stand at the front of a buffer, up to a place, and the rest of it is as it was.
 pub record Front (before after bytes : List ℕ) (at : ℕ) : Type 0 where

@@ -1,16 +1,16 @@
 // What a table is written of: numbers from a place on, entries, and the head. The steps put a table
 // together of these.
-use run_table::format::COUNTS_AT;
-use run_table::numbers::put_u16;
-use run_table::numbers::u16_at;
+use tables::format::COUNTS_AT;
+use tables::numbers::put_u16;
+use tables::numbers::u16_at;
 ghost use mathlib.Core.List.{[], _∷_};
 ghost use mathlib.Core.Path.{_≡_};
 ghost use Prim.Native.Nat.{_+_, _*_, _<_, _≤_};
 ghost use lib.ListN.{length};
-ghost use Rattle.run_table.specs.Format.{sendsAt};
-ghost use Rattle.run_table.specs.Lists.{tabulate};
-ghost use Rattle.run_table.specs.Numbers.{putAt, u16At, u16s};
-ghost use Rattle.run_table.specs.Table.{mostProcesses};
+ghost use Rattle.tables.specs.Format.{sendsAt};
+ghost use Rattle.tables.specs.Lists.{tabulate};
+ghost use Rattle.tables.specs.Numbers.{putAt, u16At, u16s};
+ghost use Rattle.tables.specs.Table.{mostProcesses};
 
 // Puts the numbers of a slice into bytes, from a place on that has room for them.
 pub fn put_numbers(buffer: &mut [u8], at: usize, numbers: &[u16])

@@ -14,8 +14,8 @@ use native.Mathlib.Nat.{le-antisymm}
 use native.Mathlib.Numerals.{add-one}
 use native.Mathlib.Omega.{arith}
 use lib.ListN.{length, getD}
-use Rattle.run_table.proofs.FormatLaws.{ReadSizes}
-use Rattle.run_table.specs.Format.{messagesIn, processesIn, receiptsAt, sendsAt}
+use Rattle.tables.proofs.FormatLaws.{ReadSizes}
+use Rattle.tables.specs.Format.{messagesIn, processesIn, receiptsAt, sendsAt}
 use Rattle.test_kit.specs.Buffers.{AllAre, ValuesEnd, checksumOf}
 use Rattle.test_kit.specs.Tables.{dominoMessage, each, withCount, withDomino, withEntry, withMessage, withSizes}
 

@@ -10,9 +10,9 @@ use native.Mathlib.Nat.{min-eq-left, min-eq-right}
 use native.Mathlib.Omega.{arith}
 use borrow.Author.Tests.{le-ltb, lt-ltb}
 use lib.ListN.{getD, replicate, set}
-use Rattle.run_table.proofs.ArrayLaws.{filled-list, filled-more, filled-none}
-use Rattle.run_table.specs.Arrays.{Filled}
-use Rattle.run_table.specs.Lists.{tabulate}
+use Rattle.tables.proofs.ArrayLaws.{filled-list, filled-more, filled-none}
+use Rattle.tables.specs.Arrays.{Filled}
+use Rattle.tables.specs.Lists.{tabulate}
 use Rattle.test_kit.specs.Scripts.{ceilingAt}
 
 module _ (numbers : List ℕ) (from count : ℕ) where

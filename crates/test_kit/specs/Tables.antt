@@ -2,7 +2,7 @@
 use mathlib.Core.Bool.{Bool, cond}
 use mathlib.Core.List.{List}
 use Prim.Native.Nat.{ℕ, zero, suc, _+_, _-_, _*_, _/_, _%_}
-use Rattle.run_table.specs.Format.{countsAt, messagesIn, processesIn, receiptsAt, sendsAt}
+use Rattle.tables.specs.Format.{countsAt, messagesIn, processesIn, receiptsAt, sendsAt}
 use Rattle.test_kit.specs.Buffers.{withNumber}
 
 -- n changes of a buffer, from change 0 on.

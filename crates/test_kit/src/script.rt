@@ -1,12 +1,12 @@
 // A test script: lines of a word and decimal numbers, as "message 0 1 2 3 4". A word is known by its
 // first two letters.
-use run_table::numbers::u16_or_zero;
+use tables::numbers::u16_or_zero;
 ghost use mathlib.Core.Path.{_≡_};
 ghost use Prim.Native.Nat.{_+_, _*_, _%_, _<_, _≤_, min};
 ghost use lib.Dec.{eqb};
 ghost use lib.ListN.{getD, length, take};
-ghost use Rattle.run_table.specs.Lists.{tabulate};
-ghost use Rattle.run_table.specs.Numbers.{u16At};
+ghost use Rattle.tables.specs.Lists.{tabulate};
+ghost use Rattle.tables.specs.Numbers.{u16At};
 ghost use Rattle.test_kit.specs.Scripts.{ceilingAt};
 
 // A line: its word, its numbers, how many they are, and where the next line starts.

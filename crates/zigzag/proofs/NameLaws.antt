@@ -18,8 +18,8 @@ use lib.ListN.{length, getD, set, length-set}
 use lib.Seq.{getD-set-same, getD-set-other}
 use Rattle.consistency.specs.Ceilings.{Ceiling}
 use Rattle.consistency.specs.Lines.{asLine}
-use Rattle.run_table.proofs.ListLaws.{none-below}
-use Rattle.run_table.specs.Table.{Table, countOf, processCount}
+use Rattle.tables.proofs.ListLaws.{none-below}
+use Rattle.tables.specs.Table.{Table, countOf, processCount}
 use Rattle.zigzag.specs.Names.{Named, Names, notBelowCounts}
 use Rattle.zigzag.specs.Together.{namedCeiling, putNamed}
 

@@ -22,9 +22,9 @@ use lib.Seq.{getD-set-other}
 use Rattle.consistency.proofs.CeilingLaws.{orphan-in, under-below}
 use Rattle.consistency.proofs.LoweringLaws.{line-carries, line-latest, put-back-here}
 use Rattle.consistency.specs.Lines.{AtOrBelow, Line, Orphan, asLine}
-use Rattle.run_table.proofs.ListLaws.{found-below, none-below}
-use Rattle.run_table.specs.Checks.{WellFormed}
-use Rattle.run_table.specs.Table.{Table, countOf, messageOf}
+use Rattle.tables.proofs.ListLaws.{found-below, none-below}
+use Rattle.tables.specs.Checks.{WellFormed}
+use Rattle.tables.specs.Table.{Table, countOf, messageOf}
 use Rattle.zigzag.proofs.NameLaws.{ceiling-else, ceiling-named, named-ceiling}
 use Rattle.zigzag.proofs.ZigzagLaws.{zigzag-behind}
 use Rattle.zigzag.specs.Names.{Named, NamedZigzag, Names}

@@ -7,7 +7,7 @@ use Prim.Native.Nat.{ℕ, _≤_, _<_}
 use native.Mathlib.Omega.{arith}
 use Rattle.consistency.proofs.LineLaws.{orphan-free}
 use Rattle.consistency.specs.Lines.{Consistent, Line}
-use Rattle.run_table.specs.Table.{Table, messageOf}
+use Rattle.tables.specs.Table.{Table, messageOf}
 use Rattle.zigzag.specs.Paths.{Chain, Zigzag, first, receivedIn, then}
 
 module _ (t : Table) (l : Line) (consistent : Consistent (t .messages) l) where

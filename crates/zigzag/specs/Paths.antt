@@ -7,7 +7,7 @@
 -- C_{q,j} where r is at most j. An unsaved message, whose r is the count, is received in the last interval.
 use mathlib.Core.Path.{_≡_}
 use Prim.Native.Nat.{ℕ, _-_, _≤_, _<_}
-use Rattle.run_table.specs.Table.{Message, Table, messageOf}
+use Rattle.tables.specs.Table.{Message, Table, messageOf}
 
 -- The interval of its receiver in which a message is received.
 unfoldable pub receivedIn : Message → ℕ

@@ -9,8 +9,8 @@ use lib.Dec.{eqb}
 use lib.ListN.{getD, length, set}
 use Rattle.consistency.specs.Lines.{AtOrBelow, Consistent, Line, asLine}
 use Rattle.consistency.specs.Lowering.{lineUnder}
-use Rattle.run_table.specs.Lists.{anyBelow}
-use Rattle.run_table.specs.Table.{Table, countOf}
+use Rattle.tables.specs.Lists.{anyBelow}
+use Rattle.tables.specs.Table.{Table, countOf}
 use Rattle.zigzag.specs.Names.{Named, NamedZigzag}
 
 -- The named checkpoints stand together on a line: it is consistent and has each of them. The other processes stand

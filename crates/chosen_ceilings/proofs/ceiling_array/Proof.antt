@@ -4,8 +4,8 @@ use native.Mathlib.Omega.{arith}
 use mathlib.Core.Path.{refl}
 use Prim.Native.Nat.{_-_, _≤_}
 use lib.ListN.{getD, length}
-use Rattle.run_table.proofs.ArrayLaws.{Filling, filling-array, filling-more, filling-none}
-use Rattle.run_table.specs.Table.{mostProcesses}
+use Rattle.tables.proofs.ArrayLaws.{Filling, filling-array, filling-more, filling-none}
+use Rattle.tables.specs.Table.{mostProcesses}
 use Rattle.chosen_ceilings.proofs.ceiling_array.Statement.{statement}
 use Rattle.chosen_ceilings.proofs.ceiling_array.Tie as tie
 

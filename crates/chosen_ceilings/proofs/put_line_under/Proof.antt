@@ -3,7 +3,7 @@
 use borrow.Author.Needs.{needs}
 use native.Mathlib.Omega.{arith}
 use Rattle.chosen_ceilings.proofs.ChosenLaws.{under-read}
-use Rattle.run_table.proofs.ReadLaws.{processes-few}
+use Rattle.tables.proofs.ReadLaws.{processes-few}
 use Rattle.chosen_ceilings.proofs.put_line_under.Statement.{statement}
 use Rattle.chosen_ceilings.proofs.put_line_under.Tie as tie
 

@@ -10,9 +10,9 @@ use Rattle.refusals.proofs.RefusalLaws.{QuietCall, quiet-call}
 use Rattle.keeper.proofs.StepAnswers.{rollback-bytes, rollback-taken, table-holds}
 use Rattle.keeper.specs.Calls.{rollbackAnswer}
 use Rattle.rollback.specs.Rollback.{AtLine}
-use Rattle.run_table.proofs.CheckLaws.{areRefusals}
-use Rattle.run_table.specs.Checks.{tableChecks, tableRefusal}
-use Rattle.run_table.specs.Format.{decode}
+use Rattle.tables.proofs.CheckLaws.{areRefusals}
+use Rattle.tables.specs.Checks.{tableChecks, tableRefusal}
+use Rattle.tables.specs.Format.{decode}
 use Rattle.keeper.proofs.keeper_fall_back.Statement.{statement}
 use Rattle.keeper.proofs.keeper_fall_back.Tie as tie
 

@@ -16,8 +16,8 @@ use Rattle.keeper.specs.Calls.{keepSheetAnswer}
 use Rattle.refusals.specs.CallChecks.{keepSheetChecks}
 use Rattle.sheet_writer.proofs.SheetReads.{kept-few, lines-stand, sheet-length}
 use Rattle.sheet_writer.specs.SheetParts.{LinesOf}
-use Rattle.run_table.proofs.CheckLaws.{areRefusals}
-use Rattle.run_table.specs.Format.{decode}
+use Rattle.tables.proofs.CheckLaws.{areRefusals}
+use Rattle.tables.specs.Format.{decode}
 use Rattle.keeper.proofs.keeper_keep_sheet.Statement.{statement}
 use Rattle.keeper.proofs.keeper_keep_sheet.Tie as tie
 

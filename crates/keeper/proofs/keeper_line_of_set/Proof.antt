@@ -9,7 +9,7 @@ use Rattle.refusals.proofs.RefusalLaws.{QuietCall, quiet-call}
 use Rattle.consistency.specs.Ceilings.{lineOf}
 use Rattle.keeper.specs.Calls.{lineOfSetAnswer}
 use Rattle.refusals.specs.CallChecks.{lineOfSetChecks}
-use Rattle.run_table.proofs.CheckLaws.{areRefusals}
+use Rattle.tables.proofs.CheckLaws.{areRefusals}
 use Rattle.keeper.proofs.keeper_line_of_set.Statement.{statement}
 use Rattle.keeper.proofs.keeper_line_of_set.Tie as tie
 

@@ -7,7 +7,7 @@ use Rattle.keeper.proofs.LineAnswers.{ceilings-accepted, line-answered,
 use Rattle.keeper.specs.Calls.{lineUnderAnswer}
 use Rattle.refusals.proofs.RefusalLaws.{QuietCall, quiet-call}
 use Rattle.refusals.specs.CallChecks.{lineUnderChecks}
-use Rattle.run_table.proofs.CheckLaws.{areRefusals}
+use Rattle.tables.proofs.CheckLaws.{areRefusals}
 use Rattle.keeper.proofs.keeper_line_under.Statement.{statement}
 use Rattle.keeper.proofs.keeper_line_under.Tie as tie
 

@@ -8,7 +8,7 @@ use Rattle.keeper.proofs.LineAnswers.{ceilings-accepted, line-room}
 use Rattle.keeper.proofs.MarkingAnswers.{marked-answered, marked-refused, marked-short}
 use Rattle.refusals.proofs.RefusalLaws.{QuietCall, marks-long, quiet-ceilings, quiet-marking}
 use Rattle.refusals.specs.CallChecks.{markedLineChecks}
-use Rattle.run_table.specs.Format.{decode}
+use Rattle.tables.specs.Format.{decode}
 use Rattle.keeper.proofs.keeper_marked_line.Statement.{statement}
 use Rattle.keeper.proofs.keeper_marked_line.Tie as tie
 

@@ -10,8 +10,8 @@ use Rattle.keeper.proofs.LineAnswers.{line-answered, line-refused, line
 use Rattle.refusals.proofs.RefusalLaws.{QuietCall, quiet-call}
 use Rattle.keeper.specs.Calls.{recoveryLineAnswer}
 use Rattle.process_set.specs.Sets.{allProcesses}
-use Rattle.run_table.proofs.CheckLaws.{areRefusals}
-use Rattle.run_table.specs.Checks.{tableChecks, tableRefusal}
+use Rattle.tables.proofs.CheckLaws.{areRefusals}
+use Rattle.tables.specs.Checks.{tableChecks, tableRefusal}
 use Rattle.keeper.proofs.keeper_recovery_line.Statement.{statement}
 use Rattle.keeper.proofs.keeper_recovery_line.Tie as tie
 

@@ -9,7 +9,7 @@ use Rattle.refusals.proofs.RefusalLaws.{QuietCall, quiet-call}
 use Rattle.keeper.proofs.StepAnswers.{send-room, send-taken, sender-known, table-holds}
 use Rattle.keeper.specs.Calls.{sendAnswer}
 use Rattle.refusals.specs.CallChecks.{sendCallChecks}
-use Rattle.run_table.proofs.CheckLaws.{areRefusals}
+use Rattle.tables.proofs.CheckLaws.{areRefusals}
 use Rattle.keeper.proofs.keeper_send.Statement.{statement}
 use Rattle.keeper.proofs.keeper_send.Tie as tie
 

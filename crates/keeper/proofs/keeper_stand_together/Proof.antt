@@ -8,8 +8,8 @@ use Rattle.keeper.proofs.StandingAnswers.{names-few, names-parallel, st
 use Rattle.keeper.proofs.LineAnswers.{line-room}
 use Rattle.refusals.proofs.RefusalLaws.{QuietCall, quiet-call}
 use Rattle.refusals.specs.CallChecks.{standTogetherChecks}
-use Rattle.run_table.proofs.CheckLaws.{areRefusals}
-use Rattle.run_table.specs.Format.{decode}
+use Rattle.tables.proofs.CheckLaws.{areRefusals}
+use Rattle.tables.specs.Format.{decode}
 use Rattle.zigzag.specs.Together.{misses, namedLine}
 use Rattle.keeper.proofs.keeper_stand_together.Statement.{statement}
 use Rattle.keeper.proofs.keeper_stand_together.Tie as tie

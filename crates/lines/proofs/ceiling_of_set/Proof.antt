@@ -3,7 +3,7 @@
 use borrow.Author.Needs.{needs}
 use mathlib.Core.Path.{_∙_}
 use Rattle.lines.proofs.LineReads.{ceiling-read}
-use Rattle.run_table.proofs.ReadLaws.{counts-known}
+use Rattle.tables.proofs.ReadLaws.{counts-known}
 use Rattle.lines.proofs.ceiling_of_set.Statement.{statement}
 use Rattle.lines.proofs.ceiling_of_set.Tie as tie
 

@@ -4,7 +4,7 @@ use borrow.Author.Needs.{needs}
 use borrow.Author.Tests.{not-true}
 use mathlib.Core.Path.{sym, ap, _∙_}
 use Rattle.lines.proofs.PropagationLaws.{holder-ceiling}
-use Rattle.run_table.specs.Arrays.{arrayOf}
+use Rattle.tables.specs.Arrays.{arrayOf}
 use Rattle.lines.proofs.line_of_holder.Statement.{statement}
 use Rattle.lines.proofs.line_of_holder.Tie as tie
 

@@ -4,7 +4,7 @@ use borrow.Author.Needs.{needs}
 use mathlib.Core.Path.{_∙_}
 use denote.Ref.{now}
 use Rattle.lines.proofs.LineReads.{line-read}
-use Rattle.run_table.proofs.ReadLaws.{ReadMessages, messages-known, messages-read, processes-few}
+use Rattle.tables.proofs.ReadLaws.{ReadMessages, messages-known, messages-read, processes-few}
 use Rattle.lines.proofs.line_under.Statement.{statement}
 use Rattle.lines.proofs.line_under.Tie as tie
 

@@ -6,8 +6,8 @@ use mathlib.Core.Path.{_≡_, sym}
 use Prim.Native.Nat.{_≤_}
 use lib.ListN.{length, take}
 use lib.Seq.{length-take-le}
-use Rattle.run_table.proofs.ReadLaws.{processes-few}
-use Rattle.run_table.specs.Table.{mostProcesses}
+use Rattle.tables.proofs.ReadLaws.{processes-few}
+use Rattle.tables.specs.Table.{mostProcesses}
 use Rattle.lines.proofs.put_line.Statement.{statement}
 use Rattle.lines.proofs.put_line.Tie as tie
 

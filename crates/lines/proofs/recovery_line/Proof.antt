@@ -4,7 +4,7 @@ use borrow.Author.Needs.{needs}
 use mathlib.Core.Path.{ap, _∙_}
 use Rattle.lines.proofs.LineReads.{all-hold}
 use Rattle.process_set.specs.Sets.{allProcesses}
-use Rattle.run_table.specs.Arrays.{arrayOf}
+use Rattle.tables.specs.Arrays.{arrayOf}
 use Rattle.lines.proofs.recovery_line.Statement.{statement}
 use Rattle.lines.proofs.recovery_line.Tie as tie
 

@@ -2,9 +2,9 @@
 -- Assumes nothing.
 use Prim.Native.Nat.{_-_, _≤_}
 use Rattle.listing_text.proofs.RowLaws.{Summed, summed-all, summed-more, summed-none}
-use Rattle.run_table.proofs.ReadLaws.{processes-few}
-use Rattle.run_table.specs.Format.{decode}
-use Rattle.run_table.specs.Table.{processCount}
+use Rattle.tables.proofs.ReadLaws.{processes-few}
+use Rattle.tables.specs.Format.{decode}
+use Rattle.tables.specs.Table.{processCount}
 use mathlib.Core.Path.{_≡_}
 use native.Mathlib.Omega.{arith}
 use Rattle.listing_text.proofs.count_sum.Statement.{statement}

@@ -3,8 +3,8 @@
 use Rattle.listing_text.proofs.ListingLaws.{listing-answered, listing-ends, listing-longer, listing-refused, sheet-answered, sheet-number}
 use Rattle.listing_text.proofs.SizeLaws.{text-few}
 use Rattle.listing_text.specs.Rows.{Answered}
-use Rattle.run_table.specs.Checks.{tableRefusal}
-use Rattle.run_table.specs.Format.{decode}
+use Rattle.tables.specs.Checks.{tableRefusal}
+use Rattle.tables.specs.Format.{decode}
 use denote.Ref.{now}
 use lib.Dec.{lit≤}
 use mathlib.Core.Path.{_≡_, refl}

@@ -4,7 +4,7 @@ use Rattle.listing_text.proofs.ListingLaws.{accepted-text, refused-text
 use Rattle.listing_text.proofs.SizeLaws.{refused-few}
 use Rattle.listing_text.proofs.TextLaws.{laid-same}
 use Rattle.listing_text.specs.Listing.{refusedRow}
-use Rattle.run_table.specs.Checks.{tableRefusal}
+use Rattle.tables.specs.Checks.{tableRefusal}
 use denote.Ref.{now}
 use mathlib.Core.Path.{_≡_, _∙_, sym}
 use native.Mathlib.Omega.{arith}

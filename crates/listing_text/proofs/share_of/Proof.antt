@@ -3,7 +3,7 @@
 use Rattle.listing_text.proofs.ShareLaws.{rounded-share, share-most, sum-positive}
 use Rattle.listing_text.specs.Listing.{share}
 use Rattle.sheet_writer.proofs.SheetReads.{kept-few}
-use Rattle.run_table.specs.Format.{decode}
+use Rattle.tables.specs.Format.{decode}
 use denote.Ref.{now}
 use mathlib.Core.Path.{_≡_}
 use native.Mathlib.Omega.{arith}

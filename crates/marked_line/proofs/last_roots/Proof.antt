@@ -7,9 +7,9 @@ use lib.ListN.{take}
 use Rattle.marked_line.proofs.MarkRowLaws.{kept-both}
 use Rattle.marked_line.proofs.StageLaws.{given-few, given-roots, running-ends, running-falls, running-more, running-since}
 use Rattle.marked_line.specs.Marking.{Kept, Running}
-use Rattle.run_table.specs.Format.{decode}
-use Rattle.run_table.specs.Lists.{sum}
-use Rattle.run_table.specs.Table.{processCount}
+use Rattle.tables.specs.Format.{decode}
+use Rattle.tables.specs.Lists.{sum}
+use Rattle.tables.specs.Table.{processCount}
 use Rattle.marked_line.proofs.last_roots.Statement.{statement}
 use Rattle.marked_line.proofs.last_roots.Tie as tie
 

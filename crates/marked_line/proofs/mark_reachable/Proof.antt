@@ -3,8 +3,8 @@
 use borrow.Author.Tests.{not-false, not-true}
 use Rattle.marked_line.proofs.MarkPassLaws.{Growing, grown-none, passes-end, passes-more}
 use Rattle.marks.specs.Bits.{firstBit, unset}
-use Rattle.run_table.specs.Format.{decode}
-use Rattle.run_table.specs.Table.{processCount}
+use Rattle.tables.specs.Format.{decode}
+use Rattle.tables.specs.Table.{processCount}
 use Rattle.marked_line.proofs.mark_reachable.Statement.{statement}
 use Rattle.marked_line.proofs.mark_reachable.Tie as tie
 

@@ -9,7 +9,7 @@ use denote.Ref.{now}
 use Rattle.marked_line.proofs.MarkPassLaws.{AtReceipt, AtSend, Passing, end-in, pass-begins, pass-ends, pass-marks, receipt-in, receiver-few}
 use Rattle.marked_line.proofs.MarkPassLaws.{row-ready, send-there, skips-marked, skips-undelivered, skips-unreached}
 use Rattle.marked_line.proofs.MarkRowLaws.{first-there}
-use Rattle.run_table.proofs.ReadLaws.{messages-read}
+use Rattle.tables.proofs.ReadLaws.{messages-read}
 use Rattle.marked_line.proofs.pass.Statement.{statement}
 use Rattle.marked_line.proofs.pass.Tie as tie
 

@@ -5,7 +5,7 @@ use mathlib.Core.Path.{refl, sym, _∙_}
 use Prim.Native.Nat.{_-_}
 use Rattle.marked_line.proofs.RootLaws.{Asking, asking-found, asking-more, asking-none, first-there-now, over-known, over-none}
 use Rattle.marked_line.proofs.RootLaws.{root-in, root-there}
-use Rattle.run_table.specs.Lists.{anyBelow}
+use Rattle.tables.specs.Lists.{anyBelow}
 use Rattle.marked_line.proofs.root_marked.Statement.{statement}
 use Rattle.marked_line.proofs.root_marked.Tie as tie
 

@@ -5,8 +5,8 @@ use native.Mathlib.Omega.{arith}
 use Prim.Native.Nat.{_-_, _≤_}
 use lib.ListN.{length}
 use Rattle.marks.proofs.BitLaws.{filled-cleared}
-use Rattle.run_table.proofs.ArrayLaws.{filled-all, filled-more, filled-none}
-use Rattle.run_table.specs.Arrays.{Filled}
+use Rattle.tables.proofs.ArrayLaws.{filled-all, filled-more, filled-none}
+use Rattle.tables.specs.Arrays.{Filled}
 use Rattle.marks.proofs.clear.Statement.{statement}
 use Rattle.marks.proofs.clear.Tie as tie
 

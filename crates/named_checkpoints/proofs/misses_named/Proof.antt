@@ -9,7 +9,7 @@ use lib.Dec.{eqb}
 use lib.ListN.{getD, length}
 use Rattle.named_checkpoints.proofs.NamedLaws.{Searched, searched-all, searched-here, searched-more, searched-none}
 use Rattle.named_checkpoints.specs.Lists.{Parallel}
-use Rattle.run_table.specs.Table.{mostProcesses}
+use Rattle.tables.specs.Table.{mostProcesses}
 use Rattle.zigzag.specs.Together.{misses}
 use Rattle.named_checkpoints.proofs.misses_named.Statement.{statement}
 use Rattle.named_checkpoints.proofs.misses_named.Tie as tie

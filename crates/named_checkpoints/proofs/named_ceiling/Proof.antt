@@ -6,7 +6,7 @@ use denote.Ref.{now}
 use Prim.Native.Nat.{_-_, _<_}
 use lib.ListN.{getD, length}
 use Rattle.named_checkpoints.proofs.NamedLaws.{Putting, place-inside, putting-all, putting-more, putting-none}
-use Rattle.run_table.specs.Table.{mostProcesses}
+use Rattle.tables.specs.Table.{mostProcesses}
 use Rattle.named_checkpoints.proofs.named_ceiling.Statement.{statement}
 use Rattle.named_checkpoints.proofs.named_ceiling.Tie as tie
 

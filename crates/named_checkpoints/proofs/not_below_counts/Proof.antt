@@ -6,7 +6,7 @@ use denote.Ref.{now}
 use Prim.Native.Nat.{_-_, _<_}
 use lib.ListN.{getD, length}
 use Rattle.named_checkpoints.proofs.NamedLaws.{Compared, below-here, compared-all, compared-none, not-below-here, place-inside}
-use Rattle.run_table.specs.Table.{mostProcesses}
+use Rattle.tables.specs.Table.{mostProcesses}
 use Rattle.named_checkpoints.proofs.not_below_counts.Statement.{statement}
 use Rattle.named_checkpoints.proofs.not_below_counts.Tie as tie
 

@@ -9,10 +9,10 @@ use lib.Dec.{eqb}
 use lib.ListN.{length}
 use Rattle.refusals.proofs.RefusalLaws.{own-caught, table-caught}
 use Rattle.refusals.specs.CallChecks.{lineUnderChecks}
-use Rattle.run_table.proofs.CheckLaws.{passed, quiet-none, stopped}
-use Rattle.run_table.specs.Checks.{tableRefusal}
-use Rattle.run_table.specs.Format.{decode}
-use Rattle.run_table.specs.Table.{processCount}
+use Rattle.tables.proofs.CheckLaws.{passed, quiet-none, stopped}
+use Rattle.tables.specs.Checks.{tableRefusal}
+use Rattle.tables.specs.Format.{decode}
+use Rattle.tables.specs.Table.{processCount}
 use Rattle.refusals.proofs.ceilings_refusal.Statement.{statement}
 use Rattle.refusals.proofs.ceilings_refusal.Tie as tie
 

@@ -4,7 +4,7 @@ use borrow.Author.Needs.{needs}
 use denote.Ref.{now}
 use Rattle.refusals.proofs.RefusalLaws.{QuietCall, last-caught, last-quiet, le-read, lt-read, quiet-receiving}
 use Rattle.refusals.specs.CallChecks.{checkpointCallChecks, receiptCallChecks}
-use Rattle.run_table.proofs.CheckLaws.{caught-first}
+use Rattle.tables.proofs.CheckLaws.{caught-first}
 use Rattle.refusals.proofs.checkpoint_refusal.Statement.{statement}
 use Rattle.refusals.proofs.checkpoint_refusal.Tie as tie
 

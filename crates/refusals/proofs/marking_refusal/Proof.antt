@@ -5,7 +5,7 @@ use mathlib.Core.Path.{refl}
 use denote.Ref.{now}
 use Rattle.refusals.proofs.RefusalLaws.{QuietCall, last-caught, last-quiet, quiet-call, read-long, read-short}
 use Rattle.refusals.specs.CallChecks.{lineUnderChecks, markedLineChecks}
-use Rattle.run_table.proofs.CheckLaws.{areRefusals, caught-first}
+use Rattle.tables.proofs.CheckLaws.{areRefusals, caught-first}
 use Rattle.refusals.proofs.marking_refusal.Statement.{statement}
 use Rattle.refusals.proofs.marking_refusal.Tie as tie
 

@@ -11,9 +11,9 @@ use Rattle.futures.specs.Steps.{notRising}
 use Rattle.named_checkpoints.proofs.NamedLaws.{parallel}
 use Rattle.refusals.proofs.RefusalLaws.{first-of, neither, own-caught, second-of, table-caught}
 use Rattle.refusals.specs.CallChecks.{standTogetherChecks}
-use Rattle.run_table.proofs.CheckLaws.{passed, quiet-none, stopped}
-use Rattle.run_table.specs.Checks.{tableRefusal}
-use Rattle.run_table.specs.Format.{decode}
+use Rattle.tables.proofs.CheckLaws.{passed, quiet-none, stopped}
+use Rattle.tables.specs.Checks.{tableRefusal}
+use Rattle.tables.specs.Format.{decode}
 use Rattle.zigzag.specs.Names.{unknownNamed}
 use Rattle.refusals.proofs.names_refusal.Statement.{statement}
 use Rattle.refusals.proofs.names_refusal.Tie as tie

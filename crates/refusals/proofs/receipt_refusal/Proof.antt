@@ -8,11 +8,11 @@ use lib.Dec.{leb}
 use Rattle.futures.specs.Steps.{badPosition, receiptChecks, notRising}
 use Rattle.refusals.proofs.RefusalLaws.{first-of, neither, own-caught, read-le, read-lt, second-of, table-caught}
 use Rattle.refusals.specs.CallChecks.{receiptCallChecks}
-use Rattle.run_table.proofs.CheckLaws.{passed, quiet-none, stopped}
-use Rattle.run_table.specs.Checks.{tableRefusal}
-use Rattle.run_table.specs.Format.{decode}
-use Rattle.run_table.specs.Lists.{any}
-use Rattle.run_table.specs.Table.{processCount}
+use Rattle.tables.proofs.CheckLaws.{passed, quiet-none, stopped}
+use Rattle.tables.specs.Checks.{tableRefusal}
+use Rattle.tables.specs.Format.{decode}
+use Rattle.tables.specs.Lists.{any}
+use Rattle.tables.specs.Table.{processCount}
 use Rattle.refusals.proofs.receipt_refusal.Statement.{statement}
 use Rattle.refusals.proofs.receipt_refusal.Tie as tie
 

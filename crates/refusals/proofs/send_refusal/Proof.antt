@@ -9,10 +9,10 @@ use lib.Dec.{leb}
 use Rattle.futures.specs.Steps.{sendChecks}
 use Rattle.refusals.proofs.RefusalLaws.{first-of, le-read, lt-read, neither, own-caught, read-le, read-lt, second-of, table-caught}
 use Rattle.refusals.specs.CallChecks.{sendCallChecks}
-use Rattle.run_table.proofs.CheckLaws.{passed, quiet-none, stopped}
-use Rattle.run_table.specs.Checks.{tableRefusal}
-use Rattle.run_table.specs.Format.{decode}
-use Rattle.run_table.specs.Table.{processCount}
+use Rattle.tables.proofs.CheckLaws.{passed, quiet-none, stopped}
+use Rattle.tables.specs.Checks.{tableRefusal}
+use Rattle.tables.specs.Format.{decode}
+use Rattle.tables.specs.Table.{processCount}
 use Rattle.refusals.proofs.send_refusal.Statement.{statement}
 use Rattle.refusals.proofs.send_refusal.Tie as tie
 

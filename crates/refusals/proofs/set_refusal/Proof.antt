@@ -6,10 +6,10 @@ use denote.Ref.{now}
 use Rattle.refusals.proofs.RefusalLaws.{own-caught, table-caught}
 use Rattle.refusals.specs.CallChecks.{lineOfSetChecks}
 use Rattle.process_set.specs.Sets.{highBit}
-use Rattle.run_table.proofs.CheckLaws.{passed, quiet-none, stopped}
-use Rattle.run_table.specs.Checks.{tableRefusal}
-use Rattle.run_table.specs.Format.{decode}
-use Rattle.run_table.specs.Table.{processCount}
+use Rattle.tables.proofs.CheckLaws.{passed, quiet-none, stopped}
+use Rattle.tables.specs.Checks.{tableRefusal}
+use Rattle.tables.specs.Format.{decode}
+use Rattle.tables.specs.Table.{processCount}
 use Rattle.refusals.proofs.set_refusal.Statement.{statement}
 use Rattle.refusals.proofs.set_refusal.Tie as tie
 

@@ -9,8 +9,8 @@ use denote.Ref.{now}
 use Rattle.refusals.proofs.RefusalLaws.{table-caught}
 use Rattle.refusals.proofs.RefusalLaws.{long-scratch, short-scratch}
 use Rattle.refusals.specs.CallChecks.{keepSheetChecks}
-use Rattle.run_table.proofs.ReadLaws.{processes-few}
-use Rattle.run_table.specs.Checks.{tableRefusal}
+use Rattle.tables.proofs.ReadLaws.{processes-few}
+use Rattle.tables.specs.Checks.{tableRefusal}
 use Rattle.refusals.proofs.sheet_refusal.Statement.{statement}
 use Rattle.refusals.proofs.sheet_refusal.Tie as tie
 

@@ -3,7 +3,7 @@
 use borrow.Author.Needs.{needs}
 use native.Mathlib.Omega.{arith}
 use Prim.Native.Nat.{_-_}
-use Rattle.run_table.proofs.ReadLaws.{sender-small}
+use Rattle.tables.proofs.ReadLaws.{sender-small}
 use Rattle.rollback.proofs.RollbackLaws.{Counting, counting-all, counting-fits, counting-goes, counting-none, counting-stays}
 use Rattle.rollback.proofs.count_remaining.Statement.{statement}
 use Rattle.rollback.proofs.count_remaining.Tie as tie

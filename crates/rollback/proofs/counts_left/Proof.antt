@@ -8,10 +8,10 @@ use lib.ListN.{getD}
 use Rattle.futures.proofs.StepLaws.{rollback-processes}
 use Rattle.futures.specs.Steps.{afterRollback}
 use Rattle.rollback.proofs.RollbackLaws.{count-left, line-small}
-use Rattle.run_table.proofs.ArrayLaws.{Filling, filling-array, filling-more, filling-none}
-use Rattle.run_table.proofs.ReadLaws.{processes-few}
-use Rattle.run_table.specs.Format.{decode}
-use Rattle.run_table.specs.Table.{mostProcesses, processCount}
+use Rattle.tables.proofs.ArrayLaws.{Filling, filling-array, filling-more, filling-none}
+use Rattle.tables.proofs.ReadLaws.{processes-few}
+use Rattle.tables.specs.Format.{decode}
+use Rattle.tables.specs.Table.{mostProcesses, processCount}
 use Rattle.rollback.proofs.counts_left.Statement.{statement}
 use Rattle.rollback.proofs.counts_left.Tie as tie
 

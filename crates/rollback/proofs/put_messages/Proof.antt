@@ -4,7 +4,7 @@ use borrow.Author.Needs.{needs}
 use native.Mathlib.Omega.{arith}
 use Prim.Native.Nat.{_+_, _-_, _*_, _≤_}
 use lib.ListN.{length}
-use Rattle.run_table.proofs.ReadLaws.{receiver-small, sender-small}
+use Rattle.tables.proofs.ReadLaws.{receiver-small, sender-small}
 use Rattle.rollback.proofs.RollbackLaws.{Gathering, gathering-all, gathering-goes, gathering-none, gathering-room, gathering-stays}
 use Rattle.rollback.proofs.put_messages.Statement.{statement}
 use Rattle.rollback.proofs.put_messages.Tie as tie

@@ -8,12 +8,12 @@ use denote.Ref.{now}
 use lib.ListN.{length, take}
 use lib.Seq.{length-take-le}
 use Rattle.futures.proofs.StepLaws.{rollback-fewer, rollback-processes}
-use Rattle.run_table.proofs.ArrayLaws.{array-length}
-use Rattle.run_table.proofs.ReadLaws.{messages-few, processes-few}
+use Rattle.tables.proofs.ArrayLaws.{array-length}
+use Rattle.tables.proofs.ReadLaws.{messages-few, processes-few}
 use Rattle.table_writer.proofs.WriteLaws.{table-put}
-use Rattle.run_table.specs.Format.{decode}
+use Rattle.tables.specs.Format.{decode}
 use Rattle.rollback.proofs.RollbackLaws.{counts-front}
-use Rattle.run_table.specs.Table.{mostMessages, mostProcesses}
+use Rattle.tables.specs.Table.{mostMessages, mostProcesses}
 use Rattle.rollback.proofs.put_rollback.Statement.{statement}
 use Rattle.rollback.proofs.put_rollback.Tie as tie
 

@@ -2,8 +2,8 @@
 -- Assumes nothing.
 use borrow.Author.Needs.{needs}
 use mathlib.Core.Path.{sym, _∙_}
-use Rattle.run_table.proofs.FormatLaws.{decode-messages}
-use Rattle.run_table.specs.Format.{messagesIn}
+use Rattle.tables.proofs.FormatLaws.{decode-messages}
+use Rattle.tables.specs.Format.{messagesIn}
 use Rattle.run_table.proofs.run_table_messages.Statement.{statement}
 use Rattle.run_table.proofs.run_table_messages.Tie as tie
 

@@ -2,8 +2,8 @@
 -- Assumes nothing.
 use borrow.Author.Needs.{needs}
 use mathlib.Core.Path.{sym, _∙_}
-use Rattle.run_table.proofs.FormatLaws.{decode-processes}
-use Rattle.run_table.specs.Format.{processesIn}
+use Rattle.tables.proofs.FormatLaws.{decode-processes}
+use Rattle.tables.specs.Format.{processesIn}
 use Rattle.run_table.proofs.run_table_processes.Statement.{statement}
 use Rattle.run_table.proofs.run_table_processes.Tie as tie
 

@@ -1,7 +1,7 @@
 -- `count_checkpoints` meets its contract, by the counts of the table.
 -- Assumes nothing.
 use borrow.Author.Needs.{needs}
-use Rattle.run_table.proofs.ReadLaws.{counts-known}
+use Rattle.tables.proofs.ReadLaws.{counts-known}
 use Rattle.sheet_writer.proofs.SheetReads.{checkpoints-found, holds-lines}
 use Rattle.sheet_writer.proofs.count_checkpoints.Statement.{statement}
 use Rattle.sheet_writer.proofs.count_checkpoints.Tie as tie

@@ -3,7 +3,7 @@
 use borrow.Author.Needs.{needs}
 use native.Mathlib.Omega.{arith}
 use denote.Ref.{now}
-use Rattle.run_table.proofs.ReadLaws.{ReadMessages, messages-known, messages-read}
+use Rattle.tables.proofs.ReadLaws.{ReadMessages, messages-known, messages-read}
 use Rattle.sheet_writer.proofs.SheetReads.{holds-lines, positions-found}
 use Rattle.sheet_writer.proofs.count_messages.Statement.{statement}
 use Rattle.sheet_writer.proofs.count_messages.Tie as tie

@@ -42,7 +42,7 @@ use denote.Triple.Table.{entered, cited}
 use denote.Triple.Walked.{says, needs, Stays, stay-dropped, stay-slice, walkOf, Goes, goes-dropped, goes-slice, Walks, ends-at, walked, walk-meets}
 use denote.Exit.{yes}
 use denote.Signature.{Slot, plain}
-use Rattle.run_table.specs.Format.{decode}
+use Rattle.tables.specs.Format.{decode}
 use Rattle.sheet_writer.specs.declared.writer.SheetWriter.{SheetWriter}
 use Rattle.sheet_writer.specs.declared.writing.Part.{Part}
 use Rattle.sheet_writer.specs.declared.writing.Part.the-variants.{Checkpoints, Positions, Processes, Sizes}

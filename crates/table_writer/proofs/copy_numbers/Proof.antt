@@ -3,7 +3,7 @@
 use native.Mathlib.Omega.{arith}
 use Prim.Native.Nat.{_-_, _*_}
 use Rattle.table_writer.proofs.WriteLaws.{Written, numbers-all, numbers-more, written-none}
-use Rattle.run_table.specs.Numbers.{u16At, u16Bytes}
+use Rattle.tables.specs.Numbers.{u16At, u16Bytes}
 use Rattle.table_writer.proofs.copy_numbers.Statement.{statement}
 use Rattle.table_writer.proofs.copy_numbers.Tie as tie
 

@@ -4,9 +4,9 @@ use native.Mathlib.Omega.{arith}
 use mathlib.Core.Path.{ap, _∙_}
 use Prim.Native.Nat.{_-_}
 use lib.ListN.{getD, length}
-use Rattle.run_table.proofs.ListLaws.{tabulate-getD}
+use Rattle.tables.proofs.ListLaws.{tabulate-getD}
 use Rattle.table_writer.proofs.WriteLaws.{Written, numbers-all, numbers-more, written-none}
-use Rattle.run_table.specs.Numbers.{putAt, u16Bytes, u16s}
+use Rattle.tables.specs.Numbers.{putAt, u16Bytes, u16s}
 use Rattle.table_writer.proofs.put_numbers.Statement.{statement}
 use Rattle.table_writer.proofs.put_numbers.Tie as tie
 

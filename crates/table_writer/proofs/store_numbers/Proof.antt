@@ -5,9 +5,9 @@ use mathlib.Core.List.{[], _∷_}
 use mathlib.Core.Path.{ap, _∙_}
 use Prim.Native.Nat.{_-_}
 use lib.ListN.{getD, length}
-use Rattle.run_table.proofs.ListLaws.{tabulate-getD}
+use Rattle.tables.proofs.ListLaws.{tabulate-getD}
 use Rattle.table_writer.proofs.WriteLaws.{Written, stored-all, stored-more, written-none}
-use Rattle.run_table.specs.Numbers.{putAt}
+use Rattle.tables.specs.Numbers.{putAt}
 use Rattle.table_writer.proofs.store_numbers.Statement.{statement}
 use Rattle.table_writer.proofs.store_numbers.Tie as tie
 

@@ -5,8 +5,8 @@ use mathlib.Core.Path.{refl}
 use Prim.Native.Nat.{_-_, _≤_}
 use native.Mathlib.Omega.{arith}
 use lib.ListN.{getD, length}
-use Rattle.run_table.proofs.ArrayLaws.{filled-all, filled-more, filled-none}
-use Rattle.run_table.specs.Arrays.{Filled}
+use Rattle.tables.proofs.ArrayLaws.{filled-all, filled-more, filled-none}
+use Rattle.tables.specs.Arrays.{Filled}
 use Rattle.test_kit.proofs.copy.Statement.{statement}
 use Rattle.test_kit.proofs.copy.Tie as tie
 

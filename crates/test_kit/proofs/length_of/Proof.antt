@@ -1,7 +1,7 @@
 -- `length_of` meets its contract.
 -- Assumes nothing.
 use borrow.Author.Needs.{needs}
-use Rattle.run_table.specs.Format.{messagesIn, processesIn}
+use Rattle.tables.specs.Format.{messagesIn, processesIn}
 use Rattle.test_kit.proofs.length_of.Statement.{statement}
 use Rattle.test_kit.proofs.length_of.Tie as tie
 

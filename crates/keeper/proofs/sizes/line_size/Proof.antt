@@ -2,8 +2,8 @@
 -- Assumes nothing.
 use borrow.Author.Needs.{needs}
 use native.Mathlib.Omega.{arith}
-use Rattle.run_table.proofs.NumberLaws.{length-u16s}
-use Rattle.run_table.proofs.ReadLaws.{processes-few}
+use Rattle.tables.proofs.NumberLaws.{length-u16s}
+use Rattle.tables.proofs.ReadLaws.{processes-few}
 use Rattle.keeper.proofs.sizes.line_size.Statement.{statement}
 use Rattle.keeper.proofs.sizes.line_size.Tie as tie
 

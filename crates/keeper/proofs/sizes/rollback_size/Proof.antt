@@ -5,8 +5,8 @@ use native.Mathlib.Omega.{arith}
 use denote.Ref.{now}
 use Rattle.futures.proofs.StepLaws.{rollback-fewer}
 use Rattle.keeper.proofs.StepAnswers.{rollback-bytes}
-use Rattle.run_table.proofs.ReadLaws.{messages-few, processes-few}
-use Rattle.run_table.specs.Format.{decode}
+use Rattle.tables.proofs.ReadLaws.{messages-few, processes-few}
+use Rattle.tables.specs.Format.{decode}
 use Rattle.keeper.proofs.sizes.rollback_size.Statement.{statement}
 use Rattle.keeper.proofs.sizes.rollback_size.Tie as tie
 

@@ -1,8 +1,8 @@
 -- `sizes::same_size` meets its contract: an accepted table is as long as the format says.
 -- Assumes nothing.
 use native.Mathlib.Omega.{arith}
-use Rattle.run_table.proofs.FormatLaws.{encode-length}
-use Rattle.run_table.proofs.ReadLaws.{whole}
+use Rattle.tables.proofs.FormatLaws.{encode-length}
+use Rattle.tables.proofs.ReadLaws.{whole}
 use Rattle.keeper.proofs.sizes.same_size.Statement.{statement}
 use Rattle.keeper.proofs.sizes.same_size.Tie as tie
 

@@ -4,8 +4,8 @@ use borrow.Author.Needs.{needs}
 use native.Mathlib.Omega.{arith}
 use denote.Ref.{now}
 use Rattle.keeper.proofs.StepAnswers.{send-bytes}
-use Rattle.run_table.proofs.ReadLaws.{messages-few, processes-few}
-use Rattle.run_table.specs.Format.{decode}
+use Rattle.tables.proofs.ReadLaws.{messages-few, processes-few}
+use Rattle.tables.specs.Format.{decode}
 use Rattle.keeper.proofs.sizes.send_size.Statement.{statement}
 use Rattle.keeper.proofs.sizes.send_size.Tie as tie
 

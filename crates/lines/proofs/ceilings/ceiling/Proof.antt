@@ -3,10 +3,10 @@
 use native.Mathlib.Omega.{arith}
 use Prim.Native.Nat.{_-_}
 use Rattle.lines.proofs.LineReads.{height-beyond, height-read}
-use Rattle.run_table.proofs.ArrayLaws.{Filling, filling-all, filling-more, filling-none}
+use Rattle.tables.proofs.ArrayLaws.{Filling, filling-all, filling-more, filling-none}
 use Rattle.lines.specs.Arrays.{heightAt}
-use Rattle.run_table.specs.Format.{countAt}
-use Rattle.run_table.specs.Parts.{Counts}
+use Rattle.tables.specs.Format.{countAt}
+use Rattle.tables.specs.Parts.{Counts}
 use Rattle.lines.proofs.ceilings.ceiling.Statement.{statement}
 use Rattle.lines.proofs.ceilings.ceiling.Tie as tie
 

@@ -8,7 +8,7 @@ use mathlib.Core.Path.{refl, _∙_}
 use denote.Ref.{now}
 use Rattle.lines.proofs.PassLaws.{Next, Passing, Under, pass-begins, pass-ends, pass-lowers, receiver-small, sender-small}
 use Rattle.lines.proofs.PassLaws.{skips-received-after, skips-sent-before, skips-undelivered}
-use Rattle.run_table.specs.Lists.{sum}
+use Rattle.tables.specs.Lists.{sum}
 use Rattle.lines.proofs.lowering.lower.Statement.{statement}
 use Rattle.lines.proofs.lowering.lower.Tie as tie
 

@@ -6,9 +6,9 @@ use Prim.Native.Nat.{_-_, _<_}
 use denote.Ref.{now}
 use Rattle.lines.proofs.PropagationLaws.{Next, Seen, count-positive, seen-all, seen-marks, seen-none, sender-known}
 use Rattle.lines.proofs.PropagationLaws.{skips-sent-before, skips-undelivered}
-use Rattle.run_table.proofs.ReadLaws.{messages-read, sender-small}
-use Rattle.run_table.specs.Format.{decode}
-use Rattle.run_table.specs.Table.{processCount}
+use Rattle.tables.proofs.ReadLaws.{messages-read, sender-small}
+use Rattle.tables.specs.Format.{decode}
+use Rattle.tables.specs.Table.{processCount}
 use Rattle.lines.proofs.propagation.propagating.Statement.{statement}
 use Rattle.lines.proofs.propagation.propagating.Tie as tie
 

@@ -4,7 +4,7 @@ use Prim.Native.Nat.{_+_, _-_, _*_}
 use Rattle.listing_text.proofs.TextLaws.{Laying, laying-all, laying-length, laying-more, laying-none, laying-room}
 use Rattle.listing_text.specs.Listing.{messageRow}
 use Rattle.listing_text.specs.Rows.{messageRows}
-use Rattle.run_table.specs.Numbers.{u16At}
+use Rattle.tables.specs.Numbers.{u16At}
 use borrow.Author.Needs.{needs}
 use mathlib.Core.Path.{ap, refl}
 use native.Mathlib.Omega.{arith}

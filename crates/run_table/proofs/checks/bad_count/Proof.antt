@@ -2,7 +2,8 @@
 -- Assumes nothing.
 use native.Mathlib.Omega.{arith}
 use Prim.Native.Nat.{_-_}
-use Rattle.run_table.proofs.ScanLaws.{Passed, inside, outside-above, outside-zero, passed-all, passed-bad, passed-more, passed-none}
+use Rattle.run_table.proofs.ScanLaws.{Passed, passed-all, passed-bad, passed-more, passed-none}
+use Rattle.tables.proofs.CheckLaws.{inside, outside-above, outside-zero}
 use Rattle.run_table.proofs.checks.bad_count.Statement.{statement}
 use Rattle.run_table.proofs.checks.bad_count.Tie as tie
 

@@ -4,11 +4,11 @@ use borrow.Author.Needs.{needs}
 use mathlib.Core.Bool.{false}
 use mathlib.Core.Path.{_≡_, _∙_}
 use denote.Ref.{now}
-use Rattle.run_table.proofs.CheckLaws.{refused-length, refused-messages, refused-parts, refused-processes, refused-short}
-use Rattle.run_table.proofs.FormatLaws.{ReadSizes}
-use Rattle.run_table.proofs.ScanLaws.{inside, outside-above, outside-zero}
-use Rattle.run_table.specs.Checks.{outside}
-use Rattle.run_table.specs.Table.{mostProcesses}
+use Rattle.run_table.proofs.EntryLaws.{refused-length, refused-messages, refused-parts, refused-processes, refused-short}
+use Rattle.tables.proofs.FormatLaws.{ReadSizes}
+use Rattle.tables.proofs.CheckLaws.{inside, outside-above, outside-zero}
+use Rattle.tables.specs.Checks.{outside}
+use Rattle.tables.specs.Table.{mostProcesses}
 use Rattle.run_table.proofs.checks.check.Statement.{statement}
 use Rattle.run_table.proofs.checks.check.Tie as tie
 

@@ -3,7 +3,7 @@
 use borrow.Author.Needs.{needs}
 use native.Mathlib.Omega.{arith}
 use Rattle.run_table.proofs.ScanLaws.{process-known}
-use Rattle.run_table.specs.Format.{countAt, processAt}
+use Rattle.tables.specs.Format.{countAt, processAt}
 use Rattle.run_table.proofs.checks.count_for.Statement.{statement}
 use Rattle.run_table.proofs.checks.count_for.Tie as tie
 

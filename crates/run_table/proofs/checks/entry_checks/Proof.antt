@@ -5,10 +5,10 @@ use native.Mathlib.Omega.{arith}
 use mathlib.Core.List.{List}
 use mathlib.Core.Path.{sym, _∙_}
 use denote.Ref.{now}
-use Rattle.run_table.proofs.CheckLaws.{passed, stopped}
+use Rattle.tables.proofs.CheckLaws.{passed, stopped}
 use Rattle.run_table.proofs.FaultLaws.{number-there, place-within}
-use Rattle.run_table.specs.Checks.{Check}
-use Rattle.run_table.specs.Parts.{checksBelow, messageChecks}
+use Rattle.tables.specs.Checks.{Check}
+use Rattle.run_table.specs.EntryChecks.{checksBelow, messageChecks}
 use Rattle.run_table.proofs.checks.entry_checks.Statement.{statement}
 use Rattle.run_table.proofs.checks.entry_checks.Tie as tie
 

@@ -7,8 +7,8 @@ use mathlib.Core.Path.{refl, sym, _∙_}
 use denote.Ref.{now}
 use Rattle.run_table.proofs.FaultLaws.{Past, past-all, past-more, past-none, past-stops}
 use Rattle.run_table.proofs.ScanLaws.{above, below, not-above, not-below}
-use Rattle.run_table.specs.Checks.{Check}
-use Rattle.run_table.specs.Parts.{checksAt, messageChecks}
+use Rattle.tables.specs.Checks.{Check}
+use Rattle.run_table.specs.EntryChecks.{checksAt, messageChecks}
 use Rattle.run_table.proofs.checks.fault_at.Statement.{statement}
 use Rattle.run_table.proofs.checks.fault_at.Tie as tie
 

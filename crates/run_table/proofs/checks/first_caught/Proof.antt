@@ -4,7 +4,7 @@ use native.Mathlib.Omega.{arith}
 use mathlib.Core.Path.{_∙_}
 use Prim.Native.Nat.{_-_}
 use Rattle.run_table.proofs.FaultLaws.{Looked, looked-first, looked-none, looked-past}
-use Rattle.run_table.specs.Parts.{messageChecks}
+use Rattle.run_table.specs.EntryChecks.{messageChecks}
 use Rattle.run_table.proofs.checks.first_caught.Statement.{statement}
 use Rattle.run_table.proofs.checks.first_caught.Tie as tie
 

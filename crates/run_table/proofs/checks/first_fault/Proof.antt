@@ -3,7 +3,7 @@
 use native.Mathlib.Omega.{arith}
 use Prim.Native.Nat.{_-_}
 use Rattle.run_table.proofs.FaultLaws.{Looked, looked-all, looked-more}
-use Rattle.run_table.specs.Parts.{messageChecks}
+use Rattle.run_table.specs.EntryChecks.{messageChecks}
 use Rattle.run_table.proofs.checks.first_fault.Statement.{statement}
 use Rattle.run_table.proofs.checks.first_fault.Tie as tie
 

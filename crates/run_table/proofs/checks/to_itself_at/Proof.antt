@@ -3,8 +3,8 @@
 use borrow.Author.Needs.{needs}
 use mathlib.Core.Path.{ap₂}
 use lib.Dec.{eqb}
-use Rattle.run_table.specs.Format.{processAt}
-use Rattle.run_table.specs.Parts.{toItselfAt}
+use Rattle.tables.specs.Format.{processAt}
+use Rattle.run_table.specs.EntryChecks.{toItselfAt}
 use Rattle.run_table.proofs.checks.to_itself_at.Statement.{statement}
 use Rattle.run_table.proofs.checks.to_itself_at.Tie as tie
 

@@ -3,8 +3,8 @@
 use borrow.Author.Needs.{needs}
 use mathlib.Core.Path.{ap}
 use lib.Dec.{leb}
-use Rattle.run_table.specs.Format.{processAt}
-use Rattle.run_table.specs.Parts.{unknownAt}
+use Rattle.tables.specs.Format.{processAt}
+use Rattle.run_table.specs.EntryChecks.{unknownAt}
 use Rattle.run_table.proofs.checks.unknown_at.Statement.{statement}
 use Rattle.run_table.proofs.checks.unknown_at.Tie as tie
 

@@ -3,7 +3,7 @@
 use borrow.Author.Needs.{needs}
 use native.Mathlib.Omega.{arith}
 use Rattle.sheet_entries.proofs.SearchLaws.{delivered-kept, old-kept, undelivered-kept}
-use Rattle.run_table.specs.Format.{processAt}
+use Rattle.tables.specs.Format.{processAt}
 use Rattle.sheet_entries.proofs.messages.is_kept.Statement.{statement}
 use Rattle.sheet_entries.proofs.messages.is_kept.Tie as tie
 

@@ -2,7 +2,7 @@
 -- Assumes nothing.
 use borrow.Author.Needs.{needs}
 use native.Mathlib.Omega.{arith}
-use Rattle.run_table.specs.Numbers.{u16Bytes, u16s}
+use Rattle.tables.specs.Numbers.{u16Bytes, u16s}
 use Rattle.sheet_writer.proofs.writing.put_number.Statement.{statement}
 use Rattle.sheet_writer.proofs.writing.put_number.Tie as tie
 

@@ -4,7 +4,7 @@ use borrow.Author.Needs.{needs}
 use native.Mathlib.Omega.{arith}
 use mathlib.Core.Bool.{true, false}
 use denote.Ref.{now}
-use Rattle.run_table.proofs.ReadLaws.{ReadMessages, counts-known, messages-known, messages-read}
+use Rattle.tables.proofs.ReadLaws.{ReadMessages, counts-known, messages-known, messages-read}
 use Rattle.sheet_writer.proofs.PartLaws.{column-put, column-room, positions-put, positions-room, sizes-put, sizes-room}
 use Rattle.sheet_writer.proofs.SheetReads.{holds-lines}
 use Rattle.sheet_writer.proofs.writing.put_part.Statement.{statement}

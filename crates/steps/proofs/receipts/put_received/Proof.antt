@@ -7,8 +7,8 @@ use mathlib.Core.Path.{_≡_, refl, ap, _∙_}
 use Prim.Native.Nat.{ℕ, _+_, _≤_}
 use denote.Ref.{now}
 use lib.ListN.{getD, length, set, take, length-set}
-use Rattle.run_table.proofs.ReadLaws.{messages-read}
-use Rattle.run_table.specs.Format.{tableLength}
+use Rattle.tables.proofs.ReadLaws.{messages-read}
+use Rattle.tables.specs.Format.{tableLength}
 use Rattle.steps.proofs.ReceiptLaws.{received-put}
 use Rattle.steps.proofs.PositionLaws.{positions-below}
 use Rattle.steps.proofs.SendLaws.{Read, count-small, front-size, table-read}

@@ -6,8 +6,8 @@ use mathlib.Core.Path.{_≡_, refl, ap}
 use Prim.Native.Nat.{_+_, _≤_}
 use denote.Ref.{now}
 use lib.ListN.{length, take}
-use Rattle.run_table.proofs.ReadLaws.{messages-read}
-use Rattle.run_table.specs.Format.{tableLength}
+use Rattle.tables.proofs.ReadLaws.{messages-read}
+use Rattle.tables.specs.Format.{tableLength}
 use Rattle.steps.proofs.SendLaws.{Read, count-positive, front-size, send-put, table-read}
 use Rattle.steps.proofs.send.put_send.Statement.{statement}
 use Rattle.steps.proofs.send.put_send.Tie as tie

@@ -5,8 +5,8 @@ use mathlib.Core.Path.{refl}
 use Prim.Native.Nat.{_-_, _%_}
 use native.Mathlib.Omega.{arith}
 use lib.ListN.{getD, replicate}
-use Rattle.run_table.proofs.ArrayLaws.{filled-list, filled-more, filled-none}
-use Rattle.run_table.specs.Arrays.{Filled}
+use Rattle.tables.proofs.ArrayLaws.{filled-list, filled-more, filled-none}
+use Rattle.tables.specs.Arrays.{Filled}
 use Rattle.test_kit.proofs.script.smalls.Statement.{statement}
 use Rattle.test_kit.proofs.script.smalls.Tie as tie
 

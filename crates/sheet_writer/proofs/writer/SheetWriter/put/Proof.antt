@@ -49,7 +49,7 @@ use Rattle.sheet_writer.specs.declared.writing.Part.{Part}
 use Rattle.sheet_writer.specs.SheetParts.{CanPut, numbersOf}
 use Rattle.sheet_writer.specs.Writing.{Put}
 use Rattle.sheet_writer.specs.Writers.{standing}
-use Rattle.run_table.specs.Format.{decode}
+use Rattle.tables.specs.Format.{decode}
 use Rattle.sheet_writer.proofs.Loans.{Waiting, lend-on, take-back}
 use Rattle.sheet_writer.proofs.Walking.{IsPart, Slice, and-local, freed, lent, lent-goes, life, machine, part-typed, part-val, row}
 use Rattle.sheet_writer.proofs.writer.SheetWriter as T

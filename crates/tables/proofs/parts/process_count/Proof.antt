@@ -1,0 +1,19 @@
+-- `parts::process_count` meets its contract: an accepted table has N at its place.
+-- Assumes nothing.
+use borrow.Author.Needs.{needs}
+use native.Mathlib.Omega.{arith}
+use mathlib.Core.Path.{sym, _∙_}
+use Rattle.tables.proofs.FormatLaws.{decode-processes}
+use Rattle.tables.proofs.ReadLaws.{long-enough}
+use Rattle.tables.specs.Format.{processesIn}
+use Rattle.tables.proofs.parts.process_count.Statement.{statement}
+use Rattle.tables.proofs.parts.process_count.Tie as tie
+
+pub process-count-spec : {M : Type 1} → statement M
+unfolding processesIn
+process-count-spec =
+    tie.close
+    (tie.spec
+    (λ c κs. omega (arith, long-enough _ (c .before .pre)))
+    (λ c. search needs)
+    (λ c. c .u16-at .ensures ∙ sym (decode-processes _)))

@@ -1,0 +1,110 @@
+-- The checks of a table (docs/MANUAL.md, "Refusals"). Each is a test over the whole table, and the refusal is the
+-- number of the first one, in checking order, that catches; 0 says that none does. Assumes nothing.
+use mathlib.Core.Bool.{Bool, cond, not, _||_}
+use mathlib.Core.List.{List, [], _∷_}
+use mathlib.Core.Path.{_≡_}
+use Prim.Native.Nat.{ℕ, _≤_, _<_}
+use lib.Dec.{eqb, leb, ltb}
+use lib.ListN.{length}
+use Rattle.tables.specs.Format.{decode, messagesIn, processesIn, tableLength}
+use Rattle.tables.specs.Lists.{any}
+use Rattle.tables.specs.Table.{Message, Table, countOf, messageCount, messageOf, processCount}
+use Rattle.tables.specs.Table.{mostCheckpoints, mostMessages, mostProcesses}
+
+-- A check: whether it catches, and the number of its refusal.
+pub record Check : Type 0 where
+  pub caught : Bool
+  pub number : ℕ
+
+-- The number of the first check of a list that catches, or 0.
+unfoldable pub firstCaught : List Check → ℕ
+firstCaught [] = 0
+firstCaught (c ∷ rest) =
+    let later = firstCaught rest in
+    cond (c .caught) (c .number) later
+
+-- A number that is 0 or above a limit.
+unfoldable pub outside : ℕ → ℕ → Bool
+outside limit n = eqb n 0 || ltb limit n
+
+-- 1. The table has fewer than 4 bytes.
+unfoldable pub tooShort : List ℕ → Bool
+tooShort bytes = ltb (length bytes) 4
+
+-- 2. N is 0 or above 32.
+unfoldable pub badProcessCount : List ℕ → Bool
+badProcessCount bytes = outside mostProcesses (processesIn bytes)
+
+-- 3. M is above 4,096.
+unfoldable pub tooManyMessages : List ℕ → Bool
+tooManyMessages bytes = ltb mostMessages (messagesIn bytes)
+
+-- 4. The length differs from 4 + 2N + 8M.
+unfoldable pub badLength : List ℕ → Bool
+badLength bytes = not (eqb (length bytes) (tableLength (processesIn bytes) (messagesIn bytes)))
+
+-- 5. A count is 0 or above 4,096.
+unfoldable pub badCount : ℕ → Bool
+badCount count = outside mostCheckpoints count
+
+-- 6. A sender or receiver is N or above.
+unfoldable pub unknownProcess : ℕ → Message → Bool
+unknownProcess n m = leb n (m .sender) || leb n (m .receiver)
+
+-- 7. A message has the same sender and receiver.
+unfoldable pub toItself : Message → Bool
+toItself m = eqb (m .sender) (m .receiver)
+
+-- 8. A send number is not below the sender's count.
+unfoldable pub badSend : Table → Message → Bool
+badSend t m = leb (countOf t (m .sender)) (m .sent)
+
+-- 9. A receipt number is above the receiver's count.
+unfoldable pub badReceipt : Table → Message → Bool
+badReceipt t m = ltb (countOf t (m .receiver)) (m .received)
+
+-- The checks of a table, in checking order.
+unfoldable pub tableChecks : List ℕ → List Check
+tableChecks bytes =
+    let t = decode bytes in
+    record { caught = tooShort bytes; number = 1 }
+    ∷ record { caught = badProcessCount bytes; number = 2 }
+    ∷ record { caught = tooManyMessages bytes; number = 3 }
+    ∷ record { caught = badLength bytes; number = 4 }
+    ∷ record { caught = any badCount (t .counts); number = 5 }
+    ∷ record { caught = any (unknownProcess (processCount t)) (t .messages); number = 6 }
+    ∷ record { caught = any toItself (t .messages); number = 7 }
+    ∷ record { caught = any (badSend t) (t .messages); number = 8 }
+    ∷ record { caught = any (badReceipt t) (t .messages); number = 9 }
+    ∷ []
+
+-- The refusal of a table: the first of these that catches.
+unfoldable pub tableRefusal : List ℕ → ℕ
+tableRefusal bytes = firstCaught (tableChecks bytes)
+
+-- What each message of an accepted table satisfies: checks 6 to 9 catch nothing in it.
+pub record GoodMessage (t : Table) (m : Message) : Type 0 where
+  pub sender-known : m .sender < processCount t
+  pub receiver-known : m .receiver < processCount t
+  pub two-processes : m .sender ≡ m .receiver → ⊥
+  pub sent-below : m .sent < countOf t (m .sender)
+  pub received-within : m .received ≤ countOf t (m .receiver)
+
+-- What an accepted table satisfies, the limits apart: a process at least, a checkpoint at least of each, and good
+-- messages.
+pub record WellFormed (t : Table) : Type 0 where
+  pub some-process : 0 < processCount t
+  pub some-checkpoint : (p : ℕ) → p < processCount t → 0 < countOf t p
+  pub good-messages : (k : ℕ) → k < messageCount t → GoodMessage t (messageOf t k)
+
+-- The limits of its numbers.
+pub record Limits (t : Table) : Type 0 where
+  pub processes-limit : processCount t ≤ mostProcesses
+  pub messages-limit : messageCount t ≤ mostMessages
+  pub counts-limit : (p : ℕ) → p < processCount t → countOf t p ≤ mostCheckpoints
+
+-- An accepted table: none of its checks catches.
+pub record Accepted (bytes : List ℕ) : Type 0 where
+  pub whole : length bytes ≡ tableLength (processCount (decode bytes)) (messageCount (decode bytes))
+  pub well-formed : WellFormed (decode bytes)
+  pub limits : Limits (decode bytes)
