@@ -8,8 +8,8 @@ use lib.Dec.{eqb, leb, ltb}
 use lib.ListN.{set}
 use Rattle.consistency.specs.Ceilings.{recoveryLine}
 use Rattle.consistency.specs.Lines.{asLine}
-use Rattle.tables.specs.Checks.{Check, firstCaught}
-use Rattle.tables.specs.Lists.{any, tabulate}
+use Rattle.tables.specs.Checks.{Check, firstCaught, sameChannel, waits}
+use Rattle.tables.specs.Lists.{any, anyBelow, tabulate}
 use Rattle.tables.specs.Table.{Message, Table, countOf, messageCount, messageOf, processCount}
 
 -- A step: a send from one process to another; a receipt, by a process, of the messages at a list of positions; a
@@ -36,9 +36,9 @@ afterSend t j i = record {
 }
 
 -- ---- receive
--- A message waits for a process: it goes there and is undelivered. One that was received waits no more, saved or not.
+-- A message waits for a process: it goes there and is undelivered.
 unfoldable pub waitsFor : ℕ → Message → Bool
-waitsFor i m = eqb (m .receiver) i && eqb (m .received) 0
+waitsFor i m = eqb (m .receiver) i && waits m
 
 -- A position of M or above, or of a message that does not wait for the process.
 unfoldable pub badPosition : Table → ℕ → ℕ → Bool
@@ -53,12 +53,20 @@ unfoldable pub notRising : List ℕ → Bool
 notRising [] = false
 notRising (k ∷ rest) = notRisingAfter k rest
 
+-- A list passes over an older message of the channel of position k: one that waits and is not listed.
+unfoldable pub passesOver : Table → List ℕ → ℕ → Bool
+passesOver t list k =
+    anyBelow k (λ q.
+    (sameChannel (messageOf t q) (messageOf t k) && waits (messageOf t q)) && not (any (eqb q) list))
+
 -- Of a receipt and of a checkpoint: 10. The process is N or above. 13. The list has a position of M or above, or not
--- above the one before it, or of a message not waiting for that process.
+-- above the one before it, or of a message not waiting for that process. 24. The list passes over an older waiting
+-- message of the channel of one of its positions.
 unfoldable pub receiptChecks : Table → ℕ → List ℕ → List Check
 receiptChecks t i list =
     record { caught = leb (processCount t) i; number = 10 }
     ∷ record { caught = any (badPosition t i) list || notRising list; number = 13 }
+    ∷ record { caught = any (passesOver t list) list; number = 24 }
     ∷ []
 
 -- A message after the receipt: the receipt number of a listed one becomes the count of the process.

@@ -17,6 +17,7 @@ use Rattle.tables.proofs.CheckLaws.{quiet-none, quiet-number, table-ref
 use Rattle.tables.proofs.CodingLaws.{AreBytes, Fits16, decode-encode, encode-decode}
 use Rattle.tables.proofs.FormatLaws.{decode-messages, decode-processes, encode-length, sizes-in}
 use Rattle.tables.proofs.ListLaws.{any-none, none-of, or-false-left, or-false-right}
+use Rattle.tables.proofs.TurnLaws.{turns-quiet, turns-read}
 use Rattle.tables.specs.Checks.{Accepted, GoodMessage, Limits, WellFormed, badCount, badLength, badProcessCount, badReceipt}
 use Rattle.tables.specs.Checks.{badSend, outside, tableChecks, tableRefusal, toItself, tooManyMessages, unknownProcess}
 use Rattle.tables.specs.Format.{decode, encode, messagesIn, processesIn, tableLength}
@@ -68,7 +69,7 @@ module _ (bytes : List ℕ) where
   abbrev t : Table
   t = decode bytes
 
-  -- what the nine checks leave, put together
+  -- what the ten checks leave, put together
   sizes-right : badLength bytes ≡ false → length bytes ≡ tableLength (processCount t) (messageCount t)
   unfolding badLength
   sizes-right e =
@@ -103,6 +104,7 @@ module _ (bytes : List ℕ) where
           good-messages = λ k l.
               good-message t (messageOf t k) (each-message (unknownProcess (processCount t)) (by 6) k l) (each-message toItself (by 7) k l)
               (each-message (badSend t) (by 8) k l) (each-message (badReceipt t) (by 9) k l);
+          in-turn = turns-read t (by 23);
         };
         limits = record {
           processes-limit = within-limit mostProcesses (processCount t) (process-count (by 2));
@@ -155,7 +157,8 @@ module _ (bytes : List ℕ) where
         (passed _ _ _ (no-message toItself (λ k l. not-to-itself t (messageOf t k) (good k l)))
         (passed _ _ _ (no-message (badSend t) (λ k l. good-send t (messageOf t k) (good k l)))
         (passed _ _ _ (no-message (badReceipt t) (λ k l. good-receipt t (messageOf t k) (good k l)))
-        quiet-none))))))))
+        (passed _ _ _ (turns-quiet t (w .in-turn))
+        quiet-none)))))))))
 
     -- an accepted table's bytes, read and written again
     pub rewritten : AreBytes bytes → encode (decode bytes) ≡ bytes

@@ -5,6 +5,7 @@
 --     FormatLaws    the parts of a table's bytes, and the entries of the decoded table
 --     CodingLaws    reading and writing undo each other
 --     CheckLaws     the first check that catches; checks 1 to 4
+--     TurnLaws      channels that deliver in turn
 --     AcceptLaws    an accepted table's facts
 --     ReadLaws      what the code knows of an accepted table once it has read N and M
 pub mod AcceptLaws
@@ -15,3 +16,4 @@ pub mod FormatLaws
 pub mod ListLaws
 pub mod NumberLaws
 pub mod ReadLaws
+pub mod TurnLaws

@@ -1,13 +1,13 @@
 -- The checks of a table (docs/MANUAL.md, "Refusals"). Each is a test over the whole table, and the refusal is the
 -- number of the first one, in checking order, that catches; 0 says that none does. Assumes nothing.
-use mathlib.Core.Bool.{Bool, cond, not, _||_}
+use mathlib.Core.Bool.{Bool, true, cond, not, _&&_, _||_}
 use mathlib.Core.List.{List, [], _∷_}
 use mathlib.Core.Path.{_≡_}
 use Prim.Native.Nat.{ℕ, _≤_, _<_}
 use lib.Dec.{eqb, leb, ltb}
 use lib.ListN.{length}
 use Rattle.tables.specs.Format.{decode, messagesIn, processesIn, tableLength}
-use Rattle.tables.specs.Lists.{any}
+use Rattle.tables.specs.Lists.{any, anyBelow}
 use Rattle.tables.specs.Table.{Message, Table, countOf, messageCount, messageOf, processCount}
 use Rattle.tables.specs.Table.{mostCheckpoints, mostMessages, mostProcesses}
 
@@ -63,6 +63,28 @@ badSend t m = leb (countOf t (m .sender)) (m .sent)
 unfoldable pub badReceipt : Table → Message → Bool
 badReceipt t m = ltb (countOf t (m .receiver)) (m .received)
 
+-- Two messages have one channel: the same sender and the same receiver.
+unfoldable pub sameChannel : Message → Message → Bool
+sameChannel m later = eqb (m .sender) (later .sender) && eqb (m .receiver) (later .receiver)
+
+-- A message waits: it is undelivered. One that was received waits no more, saved or not.
+unfoldable pub waits : Message → Bool
+waits m = eqb (m .received) 0
+
+-- A message is out of turn behind an earlier one of its channel: its send number is smaller; or it is received while
+-- the earlier one waits; or both are received and its receipt number is smaller.
+unfoldable pub outOfTurn : Message → Message → Bool
+outOfTurn m later =
+    ltb (later .sent) (m .sent)
+    || ((waits m && not (waits later))
+    || ((not (waits m) && not (waits later)) && ltb (later .received) (m .received)))
+
+-- 23. Of two messages of one channel, by their positions, the later one is out of turn behind the earlier one.
+unfoldable pub brokenChannel : Table → Bool
+brokenChannel t =
+    anyBelow (messageCount t) (λ k. anyBelow k (λ q.
+    sameChannel (messageOf t q) (messageOf t k) && outOfTurn (messageOf t q) (messageOf t k)))
+
 -- The checks of a table, in checking order.
 unfoldable pub tableChecks : List ℕ → List Check
 tableChecks bytes =
@@ -76,6 +98,7 @@ tableChecks bytes =
     ∷ record { caught = any toItself (t .messages); number = 7 }
     ∷ record { caught = any (badSend t) (t .messages); number = 8 }
     ∷ record { caught = any (badReceipt t) (t .messages); number = 9 }
+    ∷ record { caught = brokenChannel t; number = 23 }
     ∷ []
 
 -- The refusal of a table: the first of these that catches.
@@ -90,12 +113,20 @@ pub record GoodMessage (t : Table) (m : Message) : Type 0 where
   pub sent-below : m .sent < countOf t (m .sender)
   pub received-within : m .received ≤ countOf t (m .receiver)
 
--- What an accepted table satisfies, the limits apart: a process at least, a checkpoint at least of each, and good
--- messages.
+-- What two messages of one channel satisfy, the earlier one first: check 23 does not catch them.
+pub record InTurn (m later : Message) : Type 0 where
+  pub sends-rise : m .sent ≤ later .sent
+  pub received-first : 0 < later .received → 0 < m .received
+  pub receipts-rise : 0 < later .received → m .received ≤ later .received
+
+-- What an accepted table satisfies, the limits apart: a process at least, a checkpoint at least of each, good
+-- messages, and those of each channel in turn.
 pub record WellFormed (t : Table) : Type 0 where
   pub some-process : 0 < processCount t
   pub some-checkpoint : (p : ℕ) → p < processCount t → 0 < countOf t p
   pub good-messages : (k : ℕ) → k < messageCount t → GoodMessage t (messageOf t k)
+  pub in-turn : (q k : ℕ) → q < k → k < messageCount t → sameChannel (messageOf t q) (messageOf t k) ≡ true
+      → InTurn (messageOf t q) (messageOf t k)
 
 -- The limits of its numbers.
 pub record Limits (t : Table) : Type 0 where

@@ -1,0 +1,104 @@
+-- Channels that deliver in turn (check 23).
+--     one-channel, channel-same            two messages of one channel, and their processes
+--     turn-read, turn-quiet, turn-on       out of turn or in turn; in turn behind one that is in turn
+--     turns-read, turns-quiet              check 23 is quiet just where the messages of each channel are in turn
+-- Assumes nothing.
+use mathlib.Core.Bool.{Bool, true, false, not, _&&_, _||_, true≢false}
+use mathlib.Core.Path.{_≡_, refl}
+use Prim.Native.Nat.{ℕ, _<_, _≤_}
+use native.Mathlib.Omega.{arith}
+use borrow.Author.Tests.{eq-eqb, eqb-false, eqb-true, le-ltb, ltb-false, ne-eqb}
+use lib.Dec.{eqb, ltb}
+use Rattle.tables.proofs.ListLaws.{and-left, and-right, anyBelow-none, none-below, or-false-left, or-false-right}
+use Rattle.tables.specs.Checks.{InTurn, brokenChannel, outOfTurn, sameChannel, waits}
+use Rattle.tables.specs.Lists.{anyBelow}
+use Rattle.tables.specs.Table.{Message, Table, messageCount, messageOf}
+
+-- ---- one channel
+module _ (m later : Message) where
+  pub one-channel : sameChannel m later ≡ true → (m .sender ≡ later .sender) × (m .receiver ≡ later .receiver)
+  unfolding sameChannel
+  one-channel e = (
+    eqb-true (m .sender) (later .sender) (and-left (eqb (m .sender) (later .sender)) (eqb (m .receiver) (later .receiver)) e),
+    eqb-true (m .receiver) (later .receiver) (and-right (eqb (m .sender) (later .sender)) (eqb (m .receiver) (later .receiver)) e),
+  )
+
+  pub channel-same : m .sender ≡ later .sender → m .receiver ≡ later .receiver → sameChannel m later ≡ true
+  unfolding sameChannel
+  channel-same senders receivers = rw (eq-eqb (m .sender) (later .sender) senders, eq-eqb (m .receiver) (later .receiver) receivers)
+
+-- ---- in turn
+-- the three tests of a pair, by whether each of the two waits
+quiet-pair : (w v s r : Bool) → (s || ((w && not v) || ((not w && not v) && r))) ≡ false
+    → (s ≡ false) × ((v ≡ false → w ≡ false) × (v ≡ false → r ≡ false))
+quiet-pair true true s r e = (or-false-left s false e, ((λ (f : true ≡ false). f), λ (f : true ≡ false). absurd (true≢false f)))
+quiet-pair true false s r e = absurd (true≢false (or-false-right s true e))
+quiet-pair false true s r e = (or-false-left s false e, ((λ _. refl), λ (f : true ≡ false). absurd (true≢false f)))
+quiet-pair false false s r e = (or-false-left s r e, ((λ _. refl), λ _. or-false-right s r e))
+
+pair-quiet : (w v s r : Bool) → s ≡ false → (v ≡ false → w ≡ false) → (v ≡ false → r ≡ false)
+    → (s || ((w && not v) || ((not w && not v) && r))) ≡ false
+pair-quiet w v s r is-s first rise = rw is-s (go w v first rise)
+  where
+    go : (w v : Bool) → (v ≡ false → w ≡ false) → (v ≡ false → r ≡ false) → ((w && not v) || ((not w && not v) && r)) ≡ false
+    go true true first rise = refl
+    go true false first rise = first refl
+    go false true first rise = refl
+    go false false first rise = rise refl
+
+module _ {m later : Message} where
+  pub turn-read : outOfTurn m later ≡ false → InTurn m later
+  unfolding outOfTurn waits
+  turn-read e =
+      let quiet = quiet-pair (eqb (m .received) 0) (eqb (later .received) 0) (ltb (later .sent) (m .sent)) (ltb (later .received) (m .received)) e in
+      let there : 0 < later .received → eqb (later .received) 0 ≡ false = λ l. ne-eqb (later .received) 0 (λ z. omega (arith, l, z)) in
+      record {
+        sends-rise = ltb-false (later .sent) (m .sent) (quiet .0);
+        received-first = λ l.
+            let some : m .received ≡ 0 → ⊥ = eqb-false (m .received) 0 (quiet .1 .0 (there l)) in
+            omega (arith, some);
+        receipts-rise = λ l. ltb-false (later .received) (m .received) (quiet .1 .1 (there l));
+      }
+
+  pub turn-quiet : InTurn m later → outOfTurn m later ≡ false
+  unfolding outOfTurn waits
+  turn-quiet t =
+      let there : eqb (later .received) 0 ≡ false → 0 < later .received = λ e.
+      let some : later .received ≡ 0 → ⊥ = eqb-false (later .received) 0 e in
+      omega (arith, some) in
+      pair-quiet (eqb (m .received) 0) (eqb (later .received) 0) (ltb (later .sent) (m .sent)) (ltb (later .received) (m .received))
+      (le-ltb (later .sent) (m .sent) (t .sends-rise))
+      (λ e. ne-eqb (m .received) 0 (λ z. omega (arith, z, t .received-first (there e))))
+      (λ e. le-ltb (later .received) (m .received) (t .receipts-rise (there e)))
+
+pub turn-on : {a b c : Message} → InTurn a b → InTurn b c → InTurn a c
+turn-on first then = record {
+  sends-rise = omega (arith, first .sends-rise, then .sends-rise);
+  received-first = λ l. first .received-first (then .received-first l);
+  receipts-rise = λ l. omega (arith, first .receipts-rise (then .received-first l), then .receipts-rise l);
+}
+
+-- ---- check 23
+module _ (t : Table) where
+  abbrev pair : ℕ → ℕ → Bool
+  pair k q = sameChannel (messageOf t q) (messageOf t k) && outOfTurn (messageOf t q) (messageOf t k)
+
+  pub turns-read : brokenChannel t ≡ false → (q k : ℕ) → q < k → k < messageCount t → sameChannel (messageOf t q) (messageOf t k) ≡ true
+      → InTurn (messageOf t q) (messageOf t k)
+  unfolding brokenChannel
+  turns-read quiet q k before within same =
+      let here : pair k q ≡ false = none-below (pair k) k (none-below (λ k. anyBelow k (pair k)) (messageCount t) quiet k within) q before in
+      turn-read (rw same at here)
+
+  pub turns-quiet : ((q k : ℕ) → q < k → k < messageCount t → sameChannel (messageOf t q) (messageOf t k) ≡ true
+      → InTurn (messageOf t q) (messageOf t k)) → brokenChannel t ≡ false
+  unfolding brokenChannel
+  turns-quiet turns =
+      anyBelow-none (λ k. anyBelow k (pair k)) (messageCount t) (λ k within.
+      anyBelow-none (pair k) k (λ q before. go k q (sameChannel (messageOf t q) (messageOf t k)) refl (λ same. turns q k before within same)))
+    where
+      go : (k q : ℕ) (b : Bool) → sameChannel (messageOf t q) (messageOf t k) ≡ b
+          → (sameChannel (messageOf t q) (messageOf t k) ≡ true → InTurn (messageOf t q) (messageOf t k))
+          → (b && outOfTurn (messageOf t q) (messageOf t k)) ≡ false
+      go k q true e turn = turn-quiet (turn e)
+      go k q false e turn = refl
