@@ -1,23 +1,27 @@
 -- The checks in terms of the parts of a table's bytes.
---     refused-short .. refused-parts  the refusal, as the code finds it; checks 5 to 9 on the parts are the document's, on the decoded table
+--     refused-count .. refused-nothing    checks 5 to 9 and 23, as the code finds them; all-known: where those of messages catch nothing
+--     refused-short .. refused-parts  the refusal, as the code finds it; checks 5 to 9 and 23 on the parts are the document's, on the decoded table
 -- Assumes nothing.
 use mathlib.Core.Bool.{Bool, true, false, not, _||_}
-use mathlib.Core.List.{List, _∷_}
+use mathlib.Core.List.{List, [], _∷_, _++_}
 use mathlib.Core.Path.{_≡_, refl, sym, ap, _∙_}
 use Prim.Native.Nat.{ℕ, _-_, _*_, _<_, _≤_}
 use native.Mathlib.Omega.{arith}
 use borrow.Author.Tests.{leb-false, lt-ltb, le-ltb, eq-eqb, ne-eqb}
 use lib.Dec.{eqb, leb, ltb}
 use lib.ListN.{length, take, drop}
-use Rattle.run_table.specs.EntryChecks.{aboveAt, badCountAt, notBelowAt, partsRefusal, toItselfAt, unknownAt}
-use Rattle.tables.proofs.CheckLaws.{length-checked, messages-checked, not-short, passed, processes-checked, stopped}
-use Rattle.tables.proofs.FormatLaws.{ReadSizes, decode-count, decode-processes}
+use Rattle.run_table.specs.EntryChecks.{Sized, aboveAt, badCountAt, checksBelow, messageChecks, notBelowAt, partsRefusal, toItselfAt, unknownAt}
+use Rattle.tables.proofs.CheckLaws.{append-passed, areRefusals, caught-first, length-checked, messages-checked, not-short, passed, processes-checked}
+use Rattle.tables.proofs.CheckLaws.{quiet-cons, quiet-none, stopped}
+use Rattle.tables.proofs.FormatLaws.{ReadSizes, decode-count, decode-message, decode-messages, decode-processes}
 use Rattle.tables.proofs.ListLaws.{any-tabulate, anyBelow-ext, anyBelow-or, none-below, or-false-left, or-false-right}
-use Rattle.tables.specs.Checks.{Check, badCount, badLength, badProcessCount, badReceipt, badSend, firstCaught, outside}
+use Rattle.tables.proofs.TurnLaws.{broken-ext}
+use Rattle.tables.specs.Checks.{Check, badCount, badLength, badProcessCount, badReceipt, badSend, brokenBelow, brokenChannel, firstCaught, outside}
 use Rattle.tables.specs.Checks.{tableChecks, tableRefusal, toItself, tooManyMessages, tooShort, unknownProcess}
 use Rattle.tables.specs.Format.{checkpointAt, countAt, countsAt, countsPart, decode, messageAt, messagesIn}
 use Rattle.tables.specs.Format.{processAt, processesIn, receiptsAt, receiptsPart, sendsAt, sendsPart, tableLength}
 use Rattle.tables.specs.Lists.{any, anyBelow}
+use Rattle.tables.specs.Parts.{Messages}
 use Rattle.tables.specs.Table.{Message, Table, countOf, mostMessages, mostProcesses, processCount}
 
 -- two lists that begin with one test and agree once it catches nothing
@@ -45,7 +49,7 @@ split-check c a b n rest rest′ e later = ap (λ (x : Bool). firstCaught (recor
     go false true f = refl
     go false false f = f refl
 
--- ---- checks 5 to 9 of the decoded table, in terms of the parts of its bytes
+-- ---- checks 5 to 9 and 23 of the decoded table, in terms of the parts of its bytes
 module _ (bytes : List ℕ) where
   abbrev N : ℕ
   N = processesIn bytes
@@ -105,6 +109,10 @@ module _ (bytes : List ℕ) where
   unfolding badReceipt messageAt aboveAt
   check-9 = number-check (badReceipt t) ltb (receiptsPart bytes) (λ k. refl)
 
+  check-23 : brokenChannel t ≡ brokenBelow M message
+  unfolding brokenChannel
+  check-23 = broken-ext (decode-messages bytes) (decode-message bytes)
+
   -- where the sizes are right, the refusal is that of the parts
   parts-refusal : tooShort bytes ≡ false → badProcessCount bytes ≡ false → tooManyMessages bytes ≡ false → badLength bytes ≡ false
       → tableRefusal bytes ≡ partsRefusal N M (countsPart bytes) (sendsPart bytes) (receiptsPart bytes)
@@ -117,7 +125,50 @@ module _ (bytes : List ℕ) where
       split-check _ _ _ _ _ _ check-6 (λ known.
       same-check _ _ _ _ _ check-7 (λ _.
       same-check _ _ _ _ _ (check-8 (or-false-left senders receivers known)) (λ _.
-      same-check _ _ _ _ _ (check-9 (or-false-right senders receivers known)) (λ _. refl)))))))))
+      same-check _ _ _ _ _ (check-9 (or-false-right senders receivers known)) (λ _.
+      same-check _ _ _ _ _ check-23 (λ _. refl))))))))))
+
+-- ---- checks 5 to 9 and 23, in the code's course
+module _ (n m : ℕ) (counts sends receipts : List ℕ) where
+  abbrev messages : List Check
+  messages = checksBelow (messageChecks n counts sends receipts) m
+
+  abbrev turns : List Check
+  turns = record { caught = brokenBelow m (messageAt sends receipts); number = 23 } ∷ []
+
+  pub refused-count : anyBelow n (badCountAt counts) ≡ true → 5 ≡ partsRefusal n m counts sends receipts
+  refused-count bad = sym (stopped _ _ bad)
+
+  module _ (quiet : anyBelow n (badCountAt counts) ≡ false) {r : ℕ} (first : r ≡ firstCaught messages) where
+    pub refused-message : (r ≡ 0 → ⊥) → r ≡ partsRefusal n m counts sends receipts
+    refused-message some = caught-first messages turns r first some ∙ sym (passed _ (messages ++ turns) _ quiet refl)
+
+    module _ (none : r ≡ 0) where
+      -- the processes of all messages are known, so that each has a channel
+      pub all-known : Sized n m counts sends receipts → Messages mostProcesses m sends receipts
+      unfolding unknownAt
+      all-known sized =
+          let (senders, rest) = quiet-cons _ _ (omega arith) (sym first ∙ none) in
+          let (receivers, _) = quiet-cons _ _ (omega arith) rest in
+          let known : (part : List ℕ) → anyBelow m (unknownAt n part) ≡ false → (k : ℕ) → k < m → processAt part k < mostProcesses =
+          λ part none k l. omega (arith, leb-false n (processAt part k) (none-below (unknownAt n part) m none k l), sized .few-processes) in
+          record {
+            few = sized .few-messages;
+            sends-size = sized .sends-size;
+            receipts-size = sized .receipts-size;
+            senders-known = known sends senders;
+            receivers-known = known receipts receivers;
+          }
+
+      behind : partsRefusal n m counts sends receipts ≡ firstCaught turns
+      unfolding areRefusals
+      behind = passed _ (messages ++ turns) _ quiet (append-passed messages turns refl (sym first ∙ none))
+
+      pub refused-turn : brokenBelow m (messageAt sends receipts) ≡ true → 23 ≡ partsRefusal n m counts sends receipts
+      refused-turn broken = sym (behind ∙ stopped _ _ broken)
+
+      pub refused-nothing : brokenBelow m (messageAt sends receipts) ≡ false → 0 ≡ partsRefusal n m counts sends receipts
+      refused-nothing whole = sym (behind ∙ passed _ _ _ whole quiet-none)
 
 -- ---- the refusal of bytes, in the code's course
 pub refused-short : (bytes : List ℕ) → length bytes < 4 → 1 ≡ tableRefusal bytes

@@ -1,14 +1,15 @@
 -- Of the code: what the loops of the checks read off a part of a table's bytes, entry by entry. The laws join these to
 -- the checks of the table. Assumes nothing.
 use mathlib.Core.Bool.{Bool, cond}
-use mathlib.Core.List.{List, [], _∷_, map}
+use mathlib.Core.List.{List, [], _∷_, _++_, map}
 use mathlib.Core.Path.{_≡_}
 use Prim.Native.Nat.{ℕ, suc, _*_, _≤_, _<_}
 use lib.Dec.{eqb, leb, ltb}
 use lib.ListN.{length}
-use Rattle.tables.specs.Checks.{Check, badCount, firstCaught}
-use Rattle.tables.specs.Format.{checkpointAt, countAt, processAt}
+use Rattle.tables.specs.Checks.{Check, badCount, brokenBelow, firstCaught}
+use Rattle.tables.specs.Format.{checkpointAt, countAt, messageAt, processAt}
 use Rattle.tables.specs.Lists.{anyBelow}
+use Rattle.tables.specs.Table.{mostMessages, mostProcesses}
 
 -- Entry p of a part of counts is 0 or above 4,096.
 unfoldable pub badCountAt : List ℕ → ℕ → Bool
@@ -64,17 +65,20 @@ pub record FirstMessage (checks : List MessageCheck) (m k : ℕ) : Type 0 where
   pub quiet : length checks ≡ firstPlace (checksBelow checks k)
   pub caught : k < m → firstPlace (checksAt checks k) ≡ length checks → ⊥
 
--- Checks 5 to 9, on the parts of a table of n processes and m messages.
+-- Checks 5 to 9 and 23, on the parts of a table of n processes and m messages.
 abbrev pub partsChecks : ℕ → ℕ → List ℕ → List ℕ → List ℕ → List Check
 partsChecks n m counts sends receipts =
     record { caught = anyBelow n (badCountAt counts); number = 5 }
-    ∷ checksBelow (messageChecks n counts sends receipts) m
+    ∷ (checksBelow (messageChecks n counts sends receipts) m
+    ++ (record { caught = brokenBelow m (messageAt sends receipts); number = 23 } ∷ []))
 
 abbrev pub partsRefusal : ℕ → ℕ → List ℕ → List ℕ → List ℕ → ℕ
 partsRefusal n m counts sends receipts = firstCaught (partsChecks n m counts sends receipts)
 
--- The parts of such a table, where its length is right.
+-- The parts of such a table, where its sizes and its length are right.
 pub record Sized (n m : ℕ) (counts sends receipts : List ℕ) : Type 0 where
+  pub few-processes : n ≤ mostProcesses
+  pub few-messages : m ≤ mostMessages
   pub counts-size : length counts ≡ 2 * n
   pub sends-size : length sends ≡ 4 * m
   pub receipts-size : length receipts ≡ 4 * m

@@ -1,5 +1,6 @@
 // The checks of a run table, in checking order (docs/MANUAL.md, "Refusals"). Each covers the whole table
 // before the next begins.
+use channels::broken_channel;
 use tables::format::COUNTS_AT;
 use tables::format::MOST_CHECKPOINTS;
 use tables::format::MOST_MESSAGES;
@@ -166,7 +167,7 @@ pub fn check(table: &[u8]) -> u32
     entry_checks(counts, sends, receipts, n, m)
 }
 
-// Checks 5 to 9, on the three parts of a table whose length is right.
+// Checks 5 to 9 and 23, on the three parts of a table whose sizes and length are right.
 fn entry_checks(counts: &[u8], sends: &[u8], receipts: &[u8], n: usize, m: usize) -> u32
     requires { ⌜ Sized n m (now counts) (now sends) (now receipts) ⌝ }
     ensures { λ r. ⌜ r ≡ partsRefusal n m (now (counts .entry)) (now (sends .entry)) (now (receipts .entry)) ⌝ }
@@ -175,5 +176,12 @@ fn entry_checks(counts: &[u8], sends: &[u8], receipts: &[u8], n: usize, m: usize
         return 5;
     }
     let fault = first_fault(counts, sends, receipts, n, m);
-    FAULTS[fault]
+    let refusal = FAULTS[fault];
+    if refusal != 0 {
+        return refusal;
+    }
+    if broken_channel(sends, receipts, m) {
+        return 23;
+    }
+    0
 }

@@ -1,16 +1,17 @@
 -- Channels that deliver in turn (check 23).
 --     one-channel, channel-same            two messages of one channel, and their processes
 --     turn-read, turn-quiet, turn-on       out of turn or in turn; in turn behind one that is in turn
+--     broken-ext                           the same messages are broken alike
 --     turns-read, turns-quiet              check 23 is quiet just where the messages of each channel are in turn
 -- Assumes nothing.
 use mathlib.Core.Bool.{Bool, true, false, not, _&&_, _||_, true≢false}
-use mathlib.Core.Path.{_≡_, refl}
+use mathlib.Core.Path.{_≡_, refl, ap, ap₂, _∙_}
 use Prim.Native.Nat.{ℕ, _<_, _≤_}
 use native.Mathlib.Omega.{arith}
 use borrow.Author.Tests.{eq-eqb, eqb-false, eqb-true, le-ltb, ltb-false, ne-eqb}
 use lib.Dec.{eqb, ltb}
-use Rattle.tables.proofs.ListLaws.{and-left, and-right, anyBelow-none, none-below, or-false-left, or-false-right}
-use Rattle.tables.specs.Checks.{InTurn, brokenChannel, outOfTurn, sameChannel, waits}
+use Rattle.tables.proofs.ListLaws.{and-left, and-right, anyBelow-ext, anyBelow-none, none-below, or-false-left, or-false-right}
+use Rattle.tables.specs.Checks.{InTurn, brokenBelow, brokenChannel, outOfTurn, sameChannel, waits}
 use Rattle.tables.specs.Lists.{anyBelow}
 use Rattle.tables.specs.Table.{Message, Table, messageCount, messageOf}
 
@@ -79,23 +80,32 @@ turn-on first then = record {
 }
 
 -- ---- check 23
-module _ (t : Table) where
-  abbrev pair : ℕ → ℕ → Bool
-  pair k q = sameChannel (messageOf t q) (messageOf t k) && outOfTurn (messageOf t q) (messageOf t k)
+abbrev pair : (ℕ → Message) → ℕ → ℕ → Bool
+pair message k q = sameChannel (message q) (message k) && outOfTurn (message q) (message k)
 
+-- the same messages by position, so many of them
+pub broken-ext : {m m′ : ℕ} {f g : ℕ → Message} → m ≡ m′ → ((k : ℕ) → k < m′ → f k ≡ g k) → brokenBelow m f ≡ brokenBelow m′ g
+unfolding brokenBelow
+broken-ext {m} {m′} {f} {g} size same =
+    ap (λ (n : ℕ). brokenBelow n f) size
+    ∙ anyBelow-ext (λ k. anyBelow k (pair f k)) (λ k. anyBelow k (pair g k)) m′ (λ k within.
+    anyBelow-ext (pair f k) (pair g k) k (λ q before. ap₂ (λ (a b : Message). sameChannel a b && outOfTurn a b) (same q (omega arith)) (same k within)))
+
+module _ (t : Table) where
   pub turns-read : brokenChannel t ≡ false → (q k : ℕ) → q < k → k < messageCount t → sameChannel (messageOf t q) (messageOf t k) ≡ true
       → InTurn (messageOf t q) (messageOf t k)
-  unfolding brokenChannel
+  unfolding brokenChannel brokenBelow
   turns-read quiet q k before within same =
-      let here : pair k q ≡ false = none-below (pair k) k (none-below (λ k. anyBelow k (pair k)) (messageCount t) quiet k within) q before in
+      let all = none-below (λ k. anyBelow k (pair (messageOf t) k)) (messageCount t) quiet k within in
+      let here : pair (messageOf t) k q ≡ false = none-below (pair (messageOf t) k) k all q before in
       turn-read (rw same at here)
 
   pub turns-quiet : ((q k : ℕ) → q < k → k < messageCount t → sameChannel (messageOf t q) (messageOf t k) ≡ true
       → InTurn (messageOf t q) (messageOf t k)) → brokenChannel t ≡ false
-  unfolding brokenChannel
+  unfolding brokenChannel brokenBelow
   turns-quiet turns =
-      anyBelow-none (λ k. anyBelow k (pair k)) (messageCount t) (λ k within.
-      anyBelow-none (pair k) k (λ q before. go k q (sameChannel (messageOf t q) (messageOf t k)) refl (λ same. turns q k before within same)))
+      anyBelow-none (λ k. anyBelow k (pair (messageOf t) k)) (messageCount t) (λ k within.
+      anyBelow-none (pair (messageOf t) k) k (λ q before. go k q (sameChannel (messageOf t q) (messageOf t k)) refl (λ same. turns q k before within same)))
     where
       go : (k q : ℕ) (b : Bool) → sameChannel (messageOf t q) (messageOf t k) ≡ b
           → (sameChannel (messageOf t q) (messageOf t k) ≡ true → InTurn (messageOf t q) (messageOf t k))

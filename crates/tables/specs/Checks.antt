@@ -79,11 +79,14 @@ outOfTurn m later =
     || ((waits m && not (waits later))
     || ((not (waits m) && not (waits later)) && ltb (later .received) (m .received)))
 
--- 23. Of two messages of one channel, by their positions, the later one is out of turn behind the earlier one.
+-- Of the messages at two positions below m, and of one channel, the later one is out of turn behind the earlier one.
+unfoldable pub brokenBelow : ℕ → (ℕ → Message) → Bool
+brokenBelow m message =
+    anyBelow m (λ k. anyBelow k (λ q. sameChannel (message q) (message k) && outOfTurn (message q) (message k)))
+
+-- 23. A message is out of turn behind an earlier one of its channel.
 unfoldable pub brokenChannel : Table → Bool
-brokenChannel t =
-    anyBelow (messageCount t) (λ k. anyBelow k (λ q.
-    sameChannel (messageOf t q) (messageOf t k) && outOfTurn (messageOf t q) (messageOf t k)))
+brokenChannel t = brokenBelow (messageCount t) (messageOf t)
 
 -- The checks of a table, in checking order.
 unfoldable pub tableChecks : List ℕ → List Check
