@@ -1,27 +1,25 @@
--- What the code's tests say of two messages, and the loop over the messages.
+-- What the code's tests say of two messages, and what it knows of each channel.
 --     sent-earlier, both-wait .. both-received    the tests of a pair, one after another
 --     channel-small, one-number                   the channel of a message, as one number below 1,024
---     Compared, compared-none .. compared-found   the loop's invariant: how it begins, goes on and ends
+--     lasts-none, lasts-more, last-low            where the last message of each channel stands
+--     first-there, neighbour-there                a message beside the one that stands there
 -- Assumes nothing.
 use mathlib.Core.Bool.{Bool, true, false, cond, not, _&&_, _||_}
 use mathlib.Core.List.{List}
 use mathlib.Core.Path.{_≡_, refl, sym, ap, _∙_}
-use Prim.Native.Nat.{ℕ, suc, _+_, _-_, _*_, _<_, _≤_, zero-le}
+use Prim.Native.Nat.{ℕ, suc, _+_, _-_, _*_, _<_, _≤_}
 use native.Mathlib.Decide.{ℕ-discrete}
-use native.Mathlib.Nat.{le-antisymm}
 use native.Mathlib.Numerals.{add-one}
 use native.Mathlib.Omega.{arith}
-use borrow.Author.Tests.{eq-eqb, eqb-false, eqb-true, le-ltb, lt-ltb, ne-eqb}
+use borrow.Author.Tests.{eq-eqb, le-ltb, lt-ltb, ne-eqb}
 use lib.Dec.{eqb, ltb}
 use lib.ListN.{length, getD, set, replicate, length-replicate, length-set, getD-replicate}
 use lib.Seq.{getD-set-same, getD-set-other}
-use Rattle.channels.proofs.NeighbourLaws.{last-within, neighbours-enough}
-use Rattle.channels.specs.Neighbours.{behind, behindNeighbour, channelAt, lastIn}
-use Rattle.tables.proofs.ListLaws.{anyBelow-found, anyBelow-more}
-use Rattle.tables.specs.Checks.{brokenBelow, outOfTurn, sameChannel, waits}
+use Rattle.channels.proofs.NeighbourLaws.{last-within}
+use Rattle.channels.specs.Neighbours.{Lasts, behind, behindNeighbour, channelAt, lastIn}
+use Rattle.tables.specs.Checks.{outOfTurn, sameChannel, waits}
 use Rattle.tables.specs.Format.{messageAt, processAt}
-use Rattle.tables.specs.Lists.{anyBelow}
-use Rattle.tables.specs.Parts.{Messages}
+use Rattle.tables.specs.Parts.{MessageThere}
 use Rattle.tables.specs.Table.{Message, mostProcesses}
 
 -- ---- the tests of a pair
@@ -49,110 +47,59 @@ module _ (m later : Message) where
       both-received first = rw (le-ltb (later .sent) (m .sent) rise, ne-eqb (later .received) 0 some, ne-eqb (m .received) 0 first)
 
 -- ---- the channel of a message
-module _ {m : ℕ} {sends receipts : List ℕ} (known : Messages mostProcesses m sends receipts) where
-  pub channel-small : {k : ℕ} → k < m → channelAt sends receipts k < 1024
-  unfolding channelAt
-  channel-small {k} l = omega (arith, known .senders-known k l, known .receivers-known k l)
+pub channel-small : {k : ℕ} {sends receipts : List ℕ} → MessageThere mostProcesses k sends receipts → channelAt sends receipts k < 1024
+unfolding channelAt
+channel-small there = omega (arith, there .sender-known, there .receiver-known)
 
-  -- two messages have one channel just where the numbers are the same
-  pub one-number : (q k : ℕ) → q < m → k < m
-      → sameChannel (messageAt sends receipts q) (messageAt sends receipts k) ≡ eqb (channelAt sends receipts q) (channelAt sends receipts k)
-  unfolding sameChannel messageAt channelAt
-  one-number q k lq lk =
-      go (processAt sends q) (processAt receipts q) (processAt sends k) (processAt receipts k) (known .receivers-known q lq) (known .receivers-known k lk)
-    where
-      go : (s r s′ r′ : ℕ) → r < 32 → r′ < 32 → (eqb s s′ && eqb r r′) ≡ eqb (32 * s + r) (32 * s′ + r′)
-      go s r s′ r′ small small′ = by (ℕ-discrete s s′) (ℕ-discrete r r′)
-        where
-          by : Dec (s ≡ s′) → Dec (r ≡ r′) → (eqb s s′ && eqb r r′) ≡ eqb (32 * s + r) (32 * s′ + r′)
-          by (yes a) (yes b) = rw (eq-eqb s s′ a, eq-eqb r r′ b, eq-eqb (32 * s + r) (32 * s′ + r′) (omega (arith, a, b)))
-          by (yes a) (no b) = rw (eq-eqb s s′ a, ne-eqb r r′ b, ne-eqb (32 * s + r) (32 * s′ + r′) (λ e. b (omega (arith, a, e))))
-          by (no a) other = rw (ne-eqb s s′ a, ne-eqb (32 * s + r) (32 * s′ + r′) (λ e. a (omega (arith, e, small, small′))))
-
--- ---- the loop
--- It stands at message k; of each channel it has where the last message stands, and none below k is out of turn behind its neighbour.
-pub record Compared (m : ℕ) (sends receipts last : List ℕ) (k : ℕ) : Type 0 where
-  pub known : Messages mostProcesses m sends receipts
-  pub within : k ≤ m
-  pub size : length last ≡ 1024
-  pub lasts : (c : ℕ) → c < 1024 → getD last c 0 ≡ lastIn (channelAt sends receipts) k c
-  pub none : anyBelow k (behindNeighbour (channelAt sends receipts) (messageAt sends receipts)) ≡ false
-
-pub compared-none : {m : ℕ} {sends receipts : List ℕ} → Messages mostProcesses m sends receipts → Compared m sends receipts (replicate 1024 0) 0
-unfolding lastIn anyBelow
-compared-none known = record {
-  known = known;
-  within = zero-le;
-  size = length-replicate {A = ℕ} 1024 0;
-  lasts = λ c small. getD-replicate 1024 c 0 0 small;
-  none = refl;
-}
-
-module _ {m : ℕ} {sends receipts last : List ℕ} {k : ℕ} (w : Compared m sends receipts last k) where
-  abbrev channel : ℕ → ℕ
-  channel = channelAt sends receipts
-
-  abbrev message : ℕ → Message
-  message = messageAt sends receipts
-
-  found-is : anyBelow m (behindNeighbour channel message) ≡ brokenBelow m message
-  found-is = neighbours-enough channel message m (one-number (w .known))
-
-  pub compared-all : m ≤ k → false ≡ brokenBelow m message
-  compared-all l = sym (w .none) ∙ ap (λ (j : ℕ). anyBelow j (behindNeighbour channel message)) (le-antisymm (w .within) l) ∙ found-is
-
-  -- message k, its channel, and where the last message of that one stands
-  module _ (l : k < m) {c v : ℕ} (is-channel : c ≡ channel k) (read : v ≡ getD last c 0) where
-    pub channel-within : c < 1024
-    channel-within = omega (arith, channel-small (w .known) l)
-
-    last-is : v ≡ lastIn channel k (channel k)
-    last-is = read ∙ w .lasts c channel-within ∙ ap (lastIn channel k) is-channel
-
-    pub last-small : v ≤ k
-    last-small = omega (arith, last-is, last-within channel (channel k) k)
-
-    neighbour-is : behindNeighbour channel message k ≡ behind message k v
-    unfolding behindNeighbour
-    neighbour-is = ap (behind message k) (sym last-is)
-
-    -- what is known of the channels with this one
-    lasts-next : (c′ : ℕ) → c′ < 1024 → getD (set last c (k + 1)) c′ 0 ≡ lastIn channel (k + 1) c′
-    unfolding lastIn
-    lasts-next c′ small = rw (add-one k) (go (ℕ-discrete c′ c))
+-- two messages have one channel just where the numbers are the same
+pub one-number : {sends receipts : List ℕ} (q k : ℕ) → MessageThere mostProcesses q sends receipts → MessageThere mostProcesses k sends receipts
+    → sameChannel (messageAt sends receipts q) (messageAt sends receipts k) ≡ eqb (channelAt sends receipts q) (channelAt sends receipts k)
+unfolding sameChannel messageAt channelAt
+one-number {sends} {receipts} q k earlier later =
+    go (processAt sends q) (processAt receipts q) (processAt sends k) (processAt receipts k) (earlier .receiver-known) (later .receiver-known)
+  where
+    go : (s r s′ r′ : ℕ) → r < 32 → r′ < 32 → (eqb s s′ && eqb r r′) ≡ eqb (32 * s + r) (32 * s′ + r′)
+    go s r s′ r′ small small′ = by (ℕ-discrete s s′) (ℕ-discrete r r′)
       where
-        go : Dec (c′ ≡ c) → getD (set last c (suc k)) c′ 0 ≡ cond (eqb (channel k) c′) (suc k) (lastIn channel k c′)
-        go (yes same) =
-            rw (same, eq-eqb (channel k) c (sym is-channel)) (getD-set-same last c (suc k) 0 (omega (arith, channel-within, w .size)))
-        go (no other) =
-            rw (ne-eqb (channel k) c′ (λ e. other (sym (is-channel ∙ e)))) (getD-set-other last c c′ (suc k) 0 other ∙ w .lasts c′ small)
+        by : Dec (s ≡ s′) → Dec (r ≡ r′) → (eqb s s′ && eqb r r′) ≡ eqb (32 * s + r) (32 * s′ + r′)
+        by (yes a) (yes b) = rw (eq-eqb s s′ a, eq-eqb r r′ b, eq-eqb (32 * s + r) (32 * s′ + r′) (omega (arith, a, b)))
+        by (yes a) (no b) = rw (eq-eqb s s′ a, ne-eqb r r′ b, ne-eqb (32 * s + r) (32 * s′ + r′) (λ e. b (omega (arith, a, e))))
+        by (no a) other = rw (ne-eqb s s′ a, ne-eqb (32 * s + r) (32 * s′ + r′) (λ e. a (omega (arith, e, small, small′))))
 
-    next : behind message k v ≡ false → Compared m sends receipts (set last c (k + 1)) (k + 1)
-    next quiet = record {
-      known = w .known;
-      within = omega arith;
-      size = length-set last c (k + 1) ∙ w .size;
-      lasts = lasts-next;
-      none = anyBelow-more (behindNeighbour channel message) k (w .none) (neighbour-is ∙ quiet);
-    }
+-- ---- where the last message of each channel stands
+pub lasts-none : {channel : ℕ → ℕ} → Lasts channel 0 (replicate 1024 0)
+unfolding lastIn
+lasts-none = record { size = length-replicate {A = ℕ} 1024 0; places = λ c small. getD-replicate 1024 c 0 0 small }
 
-    -- it is the first of its channel
-    pub compared-first : v ≡ 0 → Compared m sends receipts (set last c (k + 1)) (k + 1)
-    unfolding behind
-    compared-first z = next (rw z)
+module _ {channel : ℕ → ℕ} {k : ℕ} {last : List ℕ} (w : Lasts channel k last) {c : ℕ} (is-channel : c ≡ channel k) (small : c < 1024) where
+  -- with message k
+  pub lasts-more : Lasts channel (k + 1) (set last c (k + 1))
+  unfolding lastIn
+  lasts-more = record { size = length-set last c (k + 1) ∙ w .size; places = λ c′ inside. rw (add-one k) (go c′ inside (ℕ-discrete c′ c)) }
+    where
+      go : (c′ : ℕ) → c′ < 1024 → Dec (c′ ≡ c) → getD (set last c (suc k)) c′ 0 ≡ cond (eqb (channel k) c′) (suc k) (lastIn channel k c′)
+      go c′ inside (yes same) =
+          rw (same, eq-eqb (channel k) c (sym is-channel)) (getD-set-same last c (suc k) 0 (omega (arith, small, w .size)))
+      go c′ inside (no other) =
+          rw (ne-eqb (channel k) c′ (λ e. other (sym (is-channel ∙ e)))) (getD-set-other last c c′ (suc k) 0 other ∙ w .places c′ inside)
 
-    -- there is one before it
-    module _ (some : v ≡ 0 → ⊥) where
-      stands : v ≡ suc (v - 1)
-      stands = omega (arith, some)
+  -- what was read of the channel of message k
+  module _ {v : ℕ} (read : v ≡ getD last c 0) where
+    last-is : v ≡ lastIn channel k (channel k)
+    last-is = read ∙ w .places c small ∙ ap (lastIn channel k) is-channel
 
-      behind-is : behind message k v ≡ outOfTurn (message (v - 1)) (message k)
-      unfolding behind
-      behind-is = ap (behind message k) stands
+    pub last-low : v ≤ k
+    last-low = omega (arith, last-is, last-within channel (channel k) k)
 
-      pub compared-more : outOfTurn (message (v - 1)) (message k) ≡ false → Compared m sends receipts (set last c (k + 1)) (k + 1)
-      compared-more quiet = next (behind-is ∙ quiet)
+    module _ (message : ℕ → Message) where
+      -- message k is the first of its channel
+      pub first-there : v ≡ 0 → false ≡ behindNeighbour channel message k
+      unfolding behindNeighbour behind
+      first-there z = ap (behind message k) (sym z ∙ last-is)
 
-      pub compared-found : outOfTurn (message (v - 1)) (message k) ≡ true → true ≡ brokenBelow m message
-      compared-found out =
-          sym (anyBelow-found (behindNeighbour channel message) m k l (neighbour-is ∙ behind-is ∙ out)) ∙ found-is
+      -- there is one before it
+      pub neighbour-there : (v ≡ 0 → ⊥) → outOfTurn (message (v - 1)) (message k) ≡ behindNeighbour channel message k
+      unfolding behindNeighbour behind
+      neighbour-there some =
+          let stands : suc (v - 1) ≡ v = omega (arith, some) in
+          ap (behind message k) (stands ∙ last-is)

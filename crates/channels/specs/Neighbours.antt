@@ -2,8 +2,10 @@
 -- positions do. Assumes nothing.
 use mathlib.Core.Bool.{Bool, cond, false}
 use mathlib.Core.List.{List}
-use Prim.Native.Nat.{ℕ, zero, suc, _+_, _*_}
+use mathlib.Core.Path.{_≡_}
+use Prim.Native.Nat.{ℕ, zero, suc, _+_, _*_, _<_}
 use lib.Dec.{eqb}
+use lib.ListN.{getD, length}
 use Rattle.tables.specs.Checks.{outOfTurn}
 use Rattle.tables.specs.Format.{processAt}
 use Rattle.tables.specs.Table.{Message}
@@ -25,3 +27,8 @@ behind message k (suc q) = outOfTurn (message q) (message k)
 -- Message k is out of turn behind the one before it in its channel.
 unfoldable pub behindNeighbour : (ℕ → ℕ) → (ℕ → Message) → ℕ → Bool
 behindNeighbour channel message k = behind message k (lastIn channel k (channel k))
+
+-- An array of the last messages of 1,024 channels among the first k.
+pub record Lasts (channel : ℕ → ℕ) (k : ℕ) (last : List ℕ) : Type 0 where
+  pub size : length last ≡ 1024
+  pub places : (c : ℕ) → c < 1024 → getD last c 0 ≡ lastIn channel k c

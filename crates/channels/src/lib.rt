@@ -1,14 +1,14 @@
-// Whether the messages of each channel are in turn (check 23): one loop over the messages, each beside
-// the one before it in its channel.
+// Whether the messages of each channel are in turn (check 23), found in one loop over the messages: each
+// beside the one before it in its channel. The loop is that of `run_table::checks`.
 use tables::numbers::u16_at;
 ghost use mathlib.Core.Path.{_≡_};
 ghost use Prim.Native.Nat.{_+_, _*_, _<_};
 ghost use lib.ListN.{length};
-ghost use Rattle.channels.specs.Neighbours.{channelAt};
-ghost use Rattle.tables.specs.Checks.{brokenBelow, outOfTurn};
+ghost use Rattle.channels.specs.Neighbours.{Lasts, behindNeighbour, channelAt};
+ghost use Rattle.tables.specs.Checks.{outOfTurn};
 ghost use Rattle.tables.specs.Format.{messageAt};
-ghost use Rattle.tables.specs.Parts.{MessageThere, Messages};
-ghost use Rattle.tables.specs.Table.{mostProcesses};
+ghost use Rattle.tables.specs.Parts.{MessageThere};
+ghost use Rattle.tables.specs.Table.{mostMessages, mostProcesses};
 
 // The channel of message k, its sender and its receiver as one number below 1,024.
 fn channel_at(sends: &[u8], receipts: &[u8], k: usize) -> usize
@@ -44,26 +44,22 @@ fn out_of_turn(sends: &[u8], receipts: &[u8], q: usize, k: usize) -> bool
     received < earlier
 }
 
-// Whether one of m messages is out of turn behind an earlier one of its channel. What is known of a
-// channel is where its last message stands, one more than the position; 0: it has none yet.
-pub fn broken_channel(sends: &[u8], receipts: &[u8], m: usize) -> bool
-    requires { ⌜ Messages mostProcesses m (now sends) (now receipts) ⌝ }
-    ensures { λ r. ⌜ r ≡ brokenBelow m (messageAt (now (sends .entry)) (now (receipts .entry))) ⌝ }
+// Whether message k is out of turn behind the one before it in its channel. What is known of a channel is
+// where its last message stands, one more than the position, or 0 where it has none yet; from now on
+// that is message k.
+pub fn behind_neighbour(last: &mut [u16], sends: &[u8], receipts: &[u8], k: usize) -> bool
+    requires { ⌜ k < mostMessages ⌝ }
+    requires { ⌜ MessageThere mostProcesses k (now sends) (now receipts) ⌝ }
+    requires { ⌜ Lasts (channelAt (now sends) (now receipts)) k (now last) ⌝ }
+    ensures { λ r. ⌜ r ≡ behindNeighbour (channelAt (now (sends .entry)) (now (receipts .entry)))
+        (messageAt (now (sends .entry)) (now (receipts .entry))) k ⌝ }
+    ensures { λ _. ⌜ Lasts (channelAt (now (sends .entry)) (now (receipts .entry))) (k + 1) (now (last .exit)) ⌝ }
 {
-    let mut last = [0u16; 1024];
-    let mut k = 0;
-    while k < m {
-        let channel = channel_at(sends, receipts, k);
-        let before = last[channel] as usize;
-        let here = k;
-        k += 1;
-        last[channel] = k as u16;
-        if before == 0 {
-            continue;
-        }
-        if out_of_turn(sends, receipts, before - 1, here) {
-            return true;
-        }
+    let channel = channel_at(sends, receipts, k);
+    let before = last[channel] as usize;
+    last[channel] = (k + 1) as u16;
+    if before == 0 {
+        return false;
     }
-    false
+    out_of_turn(sends, receipts, before - 1, k)
 }

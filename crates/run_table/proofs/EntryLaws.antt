@@ -1,5 +1,5 @@
 -- The checks in terms of the parts of a table's bytes.
---     refused-count .. refused-nothing    checks 5 to 9 and 23, as the code finds them; all-known: where those of messages catch nothing
+--     refused-count .. refused-message    checks 5 to 9 and 23, as the code finds them
 --     refused-short .. refused-parts  the refusal, as the code finds it; checks 5 to 9 and 23 on the parts are the document's, on the decoded table
 -- Assumes nothing.
 use mathlib.Core.Bool.{Bool, true, false, not, _||_}
@@ -9,19 +9,20 @@ use Prim.Native.Nat.{ℕ, _-_, _*_, _<_, _≤_}
 use native.Mathlib.Omega.{arith}
 use borrow.Author.Tests.{leb-false, lt-ltb, le-ltb, eq-eqb, ne-eqb}
 use lib.Dec.{eqb, leb, ltb}
-use lib.ListN.{length, take, drop}
-use Rattle.run_table.specs.EntryChecks.{Sized, aboveAt, badCountAt, checksBelow, messageChecks, notBelowAt, partsRefusal, toItselfAt, unknownAt}
-use Rattle.tables.proofs.CheckLaws.{append-passed, areRefusals, caught-first, length-checked, messages-checked, not-short, passed, processes-checked}
-use Rattle.tables.proofs.CheckLaws.{quiet-cons, quiet-none, stopped}
+use lib.ListN.{length, getD, take, drop}
+use Rattle.run_table.proofs.FaultLaws.{none-caught, number-there, quiet-at}
+use Rattle.run_table.specs.EntryChecks.{FirstMessage, MessageCheck, aboveAt, badCountAt, checksBelow, firstPlace, messageChecks, notBelowAt}
+use Rattle.run_table.specs.EntryChecks.{partsRefusal, toItselfAt, unknownAt}
+use Rattle.tables.proofs.CheckLaws.{append-passed, areRefusals, length-checked, messages-checked, not-short, passed, processes-checked}
+use Rattle.tables.proofs.CheckLaws.{quiet-none, stopped}
 use Rattle.tables.proofs.FormatLaws.{ReadSizes, decode-count, decode-message, decode-messages, decode-processes}
 use Rattle.tables.proofs.ListLaws.{any-tabulate, anyBelow-ext, anyBelow-or, none-below, or-false-left, or-false-right}
-use Rattle.tables.proofs.TurnLaws.{broken-ext}
+use Rattle.tables.proofs.TurnLaws.{broken-ext, broken-on}
 use Rattle.tables.specs.Checks.{Check, badCount, badLength, badProcessCount, badReceipt, badSend, brokenBelow, brokenChannel, firstCaught, outside}
 use Rattle.tables.specs.Checks.{tableChecks, tableRefusal, toItself, tooManyMessages, tooShort, unknownProcess}
 use Rattle.tables.specs.Format.{checkpointAt, countAt, countsAt, countsPart, decode, messageAt, messagesIn}
 use Rattle.tables.specs.Format.{processAt, processesIn, receiptsAt, receiptsPart, sendsAt, sendsPart, tableLength}
 use Rattle.tables.specs.Lists.{any, anyBelow}
-use Rattle.tables.specs.Parts.{Messages}
 use Rattle.tables.specs.Table.{Message, Table, countOf, mostMessages, mostProcesses, processCount}
 
 -- two lists that begin with one test and agree once it catches nothing
@@ -133,42 +134,37 @@ module _ (n m : ℕ) (counts sends receipts : List ℕ) where
   abbrev messages : List Check
   messages = checksBelow (messageChecks n counts sends receipts) m
 
-  abbrev turns : List Check
-  turns = record { caught = brokenBelow m (messageAt sends receipts); number = 23 } ∷ []
+  abbrev turn : Check
+  turn = record { caught = brokenBelow m (messageAt sends receipts); number = 23 }
 
   pub refused-count : anyBelow n (badCountAt counts) ≡ true → 5 ≡ partsRefusal n m counts sends receipts
   refused-count bad = sym (stopped _ _ bad)
 
-  module _ (quiet : anyBelow n (badCountAt counts) ≡ false) {r : ℕ} (first : r ≡ firstCaught messages) where
-    pub refused-message : (r ≡ 0 → ⊥) → r ≡ partsRefusal n m counts sends receipts
-    refused-message some = caught-first messages turns r first some ∙ sym (passed _ (messages ++ turns) _ quiet refl)
+  module _ (quiet : anyBelow n (badCountAt counts) ≡ false) {k : ℕ}
+      (first : FirstMessage (messageChecks n counts sends receipts) (messageAt sends receipts) m k) where
+    abbrev checks : List MessageCheck
+    checks = messageChecks n counts sends receipts
 
-    module _ (none : r ≡ 0) where
-      -- the processes of all messages are known, so that each has a channel
-      pub all-known : Sized n m counts sends receipts → Messages mostProcesses m sends receipts
-      unfolding unknownAt
-      all-known sized =
-          let (senders, rest) = quiet-cons _ _ (omega arith) (sym first ∙ none) in
-          let (receivers, _) = quiet-cons _ _ (omega arith) rest in
-          let known : (part : List ℕ) → anyBelow m (unknownAt n part) ≡ false → (k : ℕ) → k < m → processAt part k < mostProcesses =
-          λ part none k l. omega (arith, leb-false n (processAt part k) (none-below (unknownAt n part) m none k l), sized .few-processes) in
-          record {
-            few = sized .few-messages;
-            sends-size = sized .sends-size;
-            receipts-size = sized .receipts-size;
-            senders-known = known sends senders;
-            receivers-known = known receipts receivers;
-          }
+    -- no message is caught
+    pub refused-nothing : k ≡ m → 0 ≡ partsRefusal n m counts sends receipts
+    unfolding areRefusals
+    refused-nothing all =
+        let none = none-caught messages (first .quiet ∙ ap (λ (j : ℕ). firstPlace (checksBelow checks j)) all) in
+        let whole = sym (ap (λ (j : ℕ). brokenBelow j (messageAt sends receipts)) all) ∙ first .in-turn in
+        sym (passed _ (messages ++ (turn ∷ [])) _ quiet (append-passed messages (turn ∷ []) refl none ∙ passed _ _ _ whole quiet-none))
 
-      behind : partsRefusal n m counts sends receipts ≡ firstCaught turns
-      unfolding areRefusals
-      behind = passed _ (messages ++ turns) _ quiet (append-passed messages turns refl (sym first ∙ none))
+    -- message k is: by a check of messages, or else it is out of turn
+    module _ (some : k ≡ m → ⊥) where
+      broken : firstPlace messages ≡ 5 → brokenBelow m (messageAt sends receipts) ≡ true
+      broken none =
+          let below : k < m = omega (arith, first .within, some) in
+          broken-on (messageAt sends receipts) below (first .caught below (quiet-at checks below none))
 
-      pub refused-turn : brokenBelow m (messageAt sends receipts) ≡ true → 23 ≡ partsRefusal n m counts sends receipts
-      refused-turn broken = sym (behind ∙ stopped _ _ broken)
-
-      pub refused-nothing : brokenBelow m (messageAt sends receipts) ≡ false → 0 ≡ partsRefusal n m counts sends receipts
-      refused-nothing whole = sym (behind ∙ passed _ _ _ whole quiet-none)
+      pub refused-message : {fault : ℕ} → fault ≡ firstPlace messages
+          → getD (6 ∷ 6 ∷ 7 ∷ 8 ∷ 9 ∷ 23 ∷ []) fault 0 ≡ partsRefusal n m counts sends receipts
+      refused-message is-fault =
+          ap (λ (place : ℕ). getD (6 ∷ 6 ∷ 7 ∷ 8 ∷ 9 ∷ 23 ∷ []) place 0) is-fault
+          ∙ sym (passed _ (messages ++ (turn ∷ [])) _ quiet (number-there messages turn broken))
 
 -- ---- the refusal of bytes, in the code's course
 pub refused-short : (bytes : List ℕ) → length bytes < 4 → 1 ≡ tableRefusal bytes

@@ -1,7 +1,8 @@
 -- Checks of messages, as one loop over the messages finds them. It keeps the smallest place of a check that catches: places are in
 -- checking order, whatever the numbers are.
 --     Past, past-none .. past-all    one check after another: the place of the first that catches
---     place-within, number-there     it is no further than the list's end, and the refusal is the number that stands there, 0 behind the last
+--     none-caught, quiet-at          where none catches
+--     place-within, number-there     it is no further than the list's end, and the refusal is the number that stands there; behind the last, that of a check that catches
 --     Looked, looked-none .. looked-all    the loop over the messages
 -- Assumes nothing.
 use mathlib.Core.Bool.{Bool, true, false, cond, _||_}
@@ -15,7 +16,8 @@ use lib.ListN.{length, drop, getD, length-map}
 use lib.Seq.{drop-drop}
 use Rattle.tables.specs.Checks.{Check, firstCaught}
 use Rattle.tables.specs.Lists.{anyBelow}
-use Rattle.run_table.specs.EntryChecks.{FirstMessage, MessageCheck, checksAt, checksBelow, firstPlace}
+use Rattle.tables.proofs.ListLaws.{none-below}
+use Rattle.run_table.specs.EntryChecks.{MessageCheck, checksAt, checksBelow, firstPlace}
 
 -- ---- one check after another
 -- The first i of a list's checks catch nothing.
@@ -56,18 +58,44 @@ place-within (c ∷ rest) = go (c .caught) (place-within rest)
     go true l = zero-le
     go false l = omega arith
 
-pub number-there : (checks : List Check) → firstCaught checks ≡ getD (map (λ c. c .number) checks ++ (0 ∷ [])) (firstPlace checks) 0
+pub none-caught : (checks : List Check) → length checks ≡ firstPlace checks → firstCaught checks ≡ 0
 unfolding firstPlace firstCaught
-number-there [] = refl
-number-there (c ∷ rest) = go (c .caught) (number-there rest)
+none-caught [] e = refl
+none-caught (c ∷ rest) e = go (c .caught) e (none-caught rest)
+  where
+    go : (b : Bool) → suc (length rest) ≡ cond b 0 (suc (firstPlace rest)) → (length rest ≡ firstPlace rest → firstCaught rest ≡ 0)
+        → cond b (c .number) (firstCaught rest) ≡ 0
+    go true e later = absurd (omega arith)
+    go false e later = later (omega (arith, e))
+
+-- behind them stands one that catches, where they do not
+pub number-there : (checks : List Check) (last : Check) → (firstPlace checks ≡ length checks → last .caught ≡ true)
+    → firstCaught (checks ++ (last ∷ [])) ≡ getD (map (λ c. c .number) checks ++ (last .number ∷ [])) (firstPlace checks) 0
+unfolding firstPlace firstCaught
+number-there [] last e = rw (e refl)
+number-there (c ∷ rest) last e = go (c .caught) e (number-there rest last)
   where
     numbers : List ℕ
-    numbers = map (λ c. c .number) rest ++ (0 ∷ [])
+    numbers = map (λ c. c .number) rest ++ (last .number ∷ [])
 
-    go : (b : Bool) → firstCaught rest ≡ getD numbers (firstPlace rest) 0
-        → cond b (c .number) (firstCaught rest) ≡ getD (c .number ∷ numbers) (cond b 0 (suc (firstPlace rest))) 0
-    go true e = refl
-    go false e = e
+    go : (b : Bool) → (cond b 0 (suc (firstPlace rest)) ≡ suc (length rest) → last .caught ≡ true)
+        → ((firstPlace rest ≡ length rest → last .caught ≡ true) → firstCaught (rest ++ (last ∷ [])) ≡ getD numbers (firstPlace rest) 0)
+        → cond b (c .number) (firstCaught (rest ++ (last ∷ []))) ≡ getD (c .number ∷ numbers) (cond b 0 (suc (firstPlace rest))) 0
+    go true e later = refl
+    go false e later = later (λ same. e (ap suc same))
+
+-- where the checks of m messages catch nothing, they catch no one of them
+pub quiet-at : (checks : List MessageCheck) {m k : ℕ} → k < m → firstPlace (checksBelow checks m) ≡ length checks
+    → firstPlace (checksAt checks k) ≡ length checks
+unfolding firstPlace
+quiet-at [] l e = refl
+quiet-at (c ∷ rest) {m} {k} l e = go (anyBelow m (c .catches)) refl e (quiet-at rest l)
+  where
+    go : (b : Bool) → anyBelow m (c .catches) ≡ b → cond b 0 (suc (firstPlace (checksBelow rest m))) ≡ suc (length rest)
+        → (firstPlace (checksBelow rest m) ≡ length rest → firstPlace (checksAt rest k) ≡ length rest)
+        → cond (c .catches k) 0 (suc (firstPlace (checksAt rest k))) ≡ suc (length rest)
+    go true is e later = absurd (omega arith)
+    go false is e later = rw (none-below (c .catches) m is k l) (ap suc (later (omega (arith, e))))
 
 -- ---- checks that catch one thing or another
 abbrev pick : (MessageCheck → Bool) → List MessageCheck → ℕ
@@ -120,8 +148,3 @@ module _ {checks : List MessageCheck} {m : ℕ} where
       looked-past none =
           let whole = length-map {B = Check} checks (λ c. record { caught = anyBelow k (c .catches); number = c .number }) in
           looked-more (omega (arith, w .found, place-within (checksBelow checks k), whole))
-
-  -- a loop that leaves at the first message that a check catches
-  module _ {k : ℕ} (w : Looked checks m k (length checks)) where
-    pub looked-first : (k < m → firstPlace (checksAt checks k) ≡ length checks → ⊥) → FirstMessage checks m k
-    looked-first caught = record { within = w .within; quiet = w .found; caught = caught }

@@ -1,15 +1,15 @@
 -- Of the code: what the loops of the checks read off a part of a table's bytes, entry by entry. The laws join these to
 -- the checks of the table. Assumes nothing.
-use mathlib.Core.Bool.{Bool, cond}
+use mathlib.Core.Bool.{Bool, true, false, cond}
 use mathlib.Core.List.{List, [], _∷_, _++_, map}
 use mathlib.Core.Path.{_≡_}
-use Prim.Native.Nat.{ℕ, suc, _*_, _≤_, _<_}
+use Prim.Native.Nat.{ℕ, suc, _+_, _*_, _≤_, _<_}
 use lib.Dec.{eqb, leb, ltb}
 use lib.ListN.{length}
 use Rattle.tables.specs.Checks.{Check, badCount, brokenBelow, firstCaught}
 use Rattle.tables.specs.Format.{checkpointAt, countAt, messageAt, processAt}
 use Rattle.tables.specs.Lists.{anyBelow}
-use Rattle.tables.specs.Table.{mostMessages, mostProcesses}
+use Rattle.tables.specs.Table.{Message, mostMessages, mostProcesses}
 
 -- Entry p of a part of counts is 0 or above 4,096.
 unfoldable pub badCountAt : List ℕ → ℕ → Bool
@@ -59,11 +59,12 @@ unfoldable pub firstPlace : List Check → ℕ
 firstPlace [] = 0
 firstPlace (c ∷ rest) = cond (c .caught) 0 (suc (firstPlace rest))
 
--- k is the first of m messages that such a check catches, or m.
-pub record FirstMessage (checks : List MessageCheck) (m k : ℕ) : Type 0 where
+-- k is the first of m messages that such a check catches or that is out of turn behind an earlier one, or m.
+pub record FirstMessage (checks : List MessageCheck) (message : ℕ → Message) (m k : ℕ) : Type 0 where
   pub within : k ≤ m
   pub quiet : length checks ≡ firstPlace (checksBelow checks k)
-  pub caught : k < m → firstPlace (checksAt checks k) ≡ length checks → ⊥
+  pub in-turn : brokenBelow k message ≡ false
+  pub caught : k < m → firstPlace (checksAt checks k) ≡ length checks → brokenBelow (k + 1) message ≡ true
 
 -- Checks 5 to 9 and 23, on the parts of a table of n processes and m messages.
 abbrev pub partsChecks : ℕ → ℕ → List ℕ → List ℕ → List ℕ → List Check

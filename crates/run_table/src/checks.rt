@@ -1,6 +1,6 @@
 // The checks of a run table, in checking order (docs/MANUAL.md, "Refusals"). Each covers the whole table
 // before the next begins.
-use channels::broken_channel;
+use channels::behind_neighbour;
 use tables::format::COUNTS_AT;
 use tables::format::MOST_CHECKPOINTS;
 use tables::format::MOST_MESSAGES;
@@ -14,13 +14,14 @@ ghost use mathlib.Core.Bool.{false};
 ghost use Prim.Native.Nat.{_+_, _*_, _<_};
 ghost use lib.ListN.{length};
 ghost use Rattle.tables.specs.Checks.{tableRefusal};
-ghost use Rattle.tables.specs.Format.{countAt, processAt};
+ghost use Rattle.tables.specs.Format.{countAt, messageAt, processAt};
 ghost use Rattle.tables.specs.Lists.{anyBelow};
 ghost use Rattle.run_table.specs.EntryChecks.{FirstMessage, Sized, badCountAt, checksAt, checksBelow};
 ghost use Rattle.run_table.specs.EntryChecks.{firstPlace, messageChecks, partsRefusal, toItselfAt, unknownAt};
 
-// The numbers of the checks of a message, in checking order; 0 behind the last, where none catches.
-const FAULTS: [u32; 6] = [6, 6, 7, 8, 9, 0];
+// The numbers of the checks of a message, in checking order; behind the last, where none catches, that of a
+// message out of turn.
+const FAULTS: [u32; 6] = [6, 6, 7, 8, 9, 23];
 
 // Whether one of the n counts of a part is 0 or above 4,096 (check 5).
 fn bad_count(counts: &[u8], n: usize) -> bool
@@ -101,16 +102,21 @@ fn fault_at(counts: &[u8], sends: &[u8], receipts: &[u8], n: usize, k: usize) ->
     5
 }
 
-// The first of m messages that a check catches, or m. An accepted table, the usual case, is gone through
-// here alone.
+// The first of m messages that a check catches or that is out of turn, or m. An accepted table, the usual
+// case, is gone through here alone.
 fn first_caught(counts: &[u8], sends: &[u8], receipts: &[u8], n: usize, m: usize) -> usize
     requires { ⌜ Sized n m (now counts) (now sends) (now receipts) ⌝ }
     ensures { λ r. ⌜ FirstMessage
-        (messageChecks n (now (counts .entry)) (now (sends .entry)) (now (receipts .entry))) m r ⌝ }
+        (messageChecks n (now (counts .entry)) (now (sends .entry)) (now (receipts .entry)))
+        (messageAt (now (sends .entry)) (now (receipts .entry))) m r ⌝ }
 {
+    let mut last = [0u16; 1024];
     let mut k = 0;
     while k < m {
         if fault_at(counts, sends, receipts, n, k) != 5 {
+            return k;
+        }
+        if behind_neighbour(&mut last, sends, receipts, k) {
             return k;
         }
         k += 1;
@@ -118,15 +124,25 @@ fn first_caught(counts: &[u8], sends: &[u8], receipts: &[u8], n: usize, m: usize
     k
 }
 
-// The place of the first check that catches one of m messages; 5 where none does. One look at each
-// message is enough: the smallest of their places is that of the check that comes first.
-fn first_fault(counts: &[u8], sends: &[u8], receipts: &[u8], n: usize, m: usize) -> usize
+// The place of the first check that catches one of m messages, where none catches one below `from`; 5
+// where none does. One look at each message is enough: the smallest of their places is that of the check
+// that comes first.
+fn first_fault(
+    counts: &[u8],
+    sends: &[u8],
+    receipts: &[u8],
+    n: usize,
+    m: usize,
+    from: usize,
+) -> usize
     requires { ⌜ Sized n m (now counts) (now sends) (now receipts) ⌝ }
+    requires { ⌜ FirstMessage (messageChecks n (now counts) (now sends) (now receipts))
+        (messageAt (now sends) (now receipts)) m from ⌝ }
     ensures { λ r. ⌜ r ≡ firstPlace (checksBelow
         (messageChecks n (now (counts .entry)) (now (sends .entry)) (now (receipts .entry))) m) ⌝ }
 {
     let mut first = 5;
-    let mut k = first_caught(counts, sends, receipts, n, m);
+    let mut k = from;
     while k < m {
         let fault = fault_at(counts, sends, receipts, n, k);
         k += 1;
@@ -175,13 +191,10 @@ fn entry_checks(counts: &[u8], sends: &[u8], receipts: &[u8], n: usize, m: usize
     if bad_count(counts, n) {
         return 5;
     }
-    let fault = first_fault(counts, sends, receipts, n, m);
-    let refusal = FAULTS[fault];
-    if refusal != 0 {
-        return refusal;
+    let caught = first_caught(counts, sends, receipts, n, m);
+    if caught == m {
+        return 0;
     }
-    if broken_channel(sends, receipts, m) {
-        return 23;
-    }
-    0
+    let fault = first_fault(counts, sends, receipts, n, m, caught);
+    FAULTS[fault]
 }

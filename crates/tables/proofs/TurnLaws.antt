@@ -1,16 +1,16 @@
 -- Channels that deliver in turn (check 23).
 --     one-channel, channel-same            two messages of one channel, and their processes
 --     turn-read, turn-quiet, turn-on       out of turn or in turn; in turn behind one that is in turn
---     broken-ext                           the same messages are broken alike
+--     broken-ext, broken-on                the same messages are broken alike, and with further ones
 --     turns-read, turns-quiet              check 23 is quiet just where the messages of each channel are in turn
 -- Assumes nothing.
 use mathlib.Core.Bool.{Bool, true, false, not, _&&_, _||_, true≢false}
 use mathlib.Core.Path.{_≡_, refl, ap, ap₂, _∙_}
-use Prim.Native.Nat.{ℕ, _<_, _≤_}
+use Prim.Native.Nat.{ℕ, _+_, _<_, _≤_}
 use native.Mathlib.Omega.{arith}
 use borrow.Author.Tests.{eq-eqb, eqb-false, eqb-true, le-ltb, ltb-false, ne-eqb}
 use lib.Dec.{eqb, ltb}
-use Rattle.tables.proofs.ListLaws.{and-left, and-right, anyBelow-ext, anyBelow-none, none-below, or-false-left, or-false-right}
+use Rattle.tables.proofs.ListLaws.{and-left, and-right, anyBelow-ext, anyBelow-found, anyBelow-none, found-below, none-below, or-false-left, or-false-right}
 use Rattle.tables.specs.Checks.{InTurn, brokenBelow, brokenChannel, outOfTurn, sameChannel, waits}
 use Rattle.tables.specs.Lists.{anyBelow}
 use Rattle.tables.specs.Table.{Message, Table, messageCount, messageOf}
@@ -90,6 +90,13 @@ broken-ext {m} {m′} {f} {g} size same =
     ap (λ (n : ℕ). brokenBelow n f) size
     ∙ anyBelow-ext (λ k. anyBelow k (pair f k)) (λ k. anyBelow k (pair g k)) m′ (λ k within.
     anyBelow-ext (pair f k) (pair g k) k (λ q before. ap₂ (λ (a b : Message). sameChannel a b && outOfTurn a b) (same q (omega arith)) (same k within)))
+
+-- a channel that is broken stays so with further messages
+pub broken-on : (message : ℕ → Message) {k m : ℕ} → k < m → brokenBelow (k + 1) message ≡ true → brokenBelow m message ≡ true
+unfolding brokenBelow
+broken-on message {k} {m} l broken =
+    let (j, before, out) = found-below (λ k. anyBelow k (pair message k)) (k + 1) broken in
+    anyBelow-found (λ k. anyBelow k (pair message k)) m j (omega (arith, before, l)) out
 
 module _ (t : Table) where
   pub turns-read : brokenChannel t ≡ false → (q k : ℕ) → q < k → k < messageCount t → sameChannel (messageOf t q) (messageOf t k) ≡ true

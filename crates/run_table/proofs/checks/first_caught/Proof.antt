@@ -1,22 +1,25 @@
--- `checks::first_caught` meets its contract: the loop leaves at the first message that a check catches.
+-- `checks::first_caught` meets its contract: the loop leaves at the first message that a check catches or that is out of turn.
 -- Assumes nothing.
+use borrow.Author.Needs.{needs}
 use native.Mathlib.Omega.{arith}
-use mathlib.Core.Path.{_∙_}
+use mathlib.Core.Path.{sym, _∙_}
 use Prim.Native.Nat.{_-_}
-use Rattle.run_table.proofs.FaultLaws.{Looked, looked-first, looked-none, looked-past}
-use Rattle.run_table.specs.EntryChecks.{messageChecks}
+use Rattle.run_table.proofs.OrderLaws.{Turned, here, turned-all, turned-broken, turned-fault, turned-more, turned-none}
 use Rattle.run_table.proofs.checks.first_caught.Statement.{statement}
 use Rattle.run_table.proofs.checks.first_caught.Tie as tie
 
 abbrev Inv-loop : tie.InvT-loop
-Inv-loop counts sends receipts n m k₀ k = Looked (messageChecks n counts sends receipts) m k 5
+Inv-loop counts sends receipts n m last₀ k₀ last k = Turned n m counts sends receipts last k
 
 abbrev μ-loop : tie.MeasureT-loop
-μ-loop counts sends receipts n m k₀ k = m - k
+μ-loop counts sends receipts n m last₀ k₀ last k = m - k
 
--- ---- the places: a turn of the loop, from where its message was looked at
+-- ---- the places: a turn of the loop, from where its message was looked at; where no check catches it, from where its turn was asked for
 abbrev turn : tie.After-fault-at Inv-loop μ-loop → tie.In-loop Inv-loop μ-loop
 turn c = c .before
+
+abbrev unfaulted : tie.After-behind-neighbour Inv-loop μ-loop → tie.Else1 Inv-loop μ-loop
+unfaulted c = c .before .before
 
 -- ---- the needs, in the code's course
 pub first-caught-spec : {M : Type 1} → statement M
@@ -25,15 +28,37 @@ first-caught-spec =
     (tie.spec
     Inv-loop
     μ-loop
-    (λ c. looked-none)
-    (λ c κs. omega arith)
+    (λ c. turned-none (c .before .before .before .pre))
+    (λ c κs. omega (arith, c .before .loop .inv .sized, c .loop-test .taken))
     -- a check catches message k
-    (λ c. looked-first (turn (c .before) .before .loop .inv) (λ _ none. c .if1 .taken (c .before .fault-at .ensures ∙ none)))
-    -- none does
-    (λ c. omega arith)
-    (λ c. omega arith)
     (λ c.
-    let turn = turn (c .before) in
-    looked-past (turn .before .loop .inv) (turn .loop-test .taken) (c .before .fault-at .ensures) (c .if1 .left))
-    -- none catches any
-    (λ c. looked-first (c .before .loop .inv) (λ l _. omega (arith, l, c .loop-test .left))))
+    let looked = c .before in
+    turned-fault (turn looked .before .loop .inv) (turn looked .loop-test .taken) (looked .fault-at .ensures) (c .if1 .taken))
+    -- none does
+    (λ c. search needs)
+    (λ c κs.
+    let quiet = c .before in
+    let looked = quiet .before in
+    let w = turn looked .before .loop .inv in
+    let taken = turn looked .loop-test .taken in
+    (omega (arith, taken, w .sized .few-messages), (here w taken (looked .fault-at .ensures) (quiet .if1 .left), w .lasts)))
+    -- it is out of turn
+    (λ c.
+    let asked = c .before .before in
+    let quiet = unfaulted asked in
+    let looked = quiet .before in
+    turned-broken (turn looked .before .loop .inv) (turn looked .loop-test .taken) (looked .fault-at .ensures) (quiet .if1 .left)
+    (sym (asked .behind-neighbour .ensures .0) ∙ c .if2 .taken))
+    -- it is not
+    (λ c.
+    let here = turn (unfaulted (c .before .before) .before) in
+    omega (arith, here .loop-test .taken, here .before .loop .inv .sized .few-messages))
+    (λ c. omega (arith, turn (unfaulted (c .before .before) .before) .loop-test .taken))
+    (λ c.
+    let asked = c .before .before in
+    let quiet = unfaulted asked in
+    let looked = quiet .before in
+    turned-more (turn looked .before .loop .inv) (turn looked .loop-test .taken) (looked .fault-at .ensures) (quiet .if1 .left)
+    (sym (asked .behind-neighbour .ensures .0) ∙ c .if2 .left) (asked .behind-neighbour .ensures .1))
+    -- none of any
+    (λ c. turned-all (c .before .loop .inv) (c .loop-test .left)))

@@ -1,4 +1,4 @@
--- `checks::first_fault` meets its contract: the loop looks at one message after another, from the first that a check catches on.
+-- `checks::first_fault` meets its contract: the loop looks at one message after another, from the first that a check catches, or that is out of turn, on.
 -- Assumes nothing.
 use native.Mathlib.Omega.{arith}
 use Prim.Native.Nat.{_-_}
@@ -8,12 +8,15 @@ use Rattle.run_table.proofs.checks.first_fault.Statement.{statement}
 use Rattle.run_table.proofs.checks.first_fault.Tie as tie
 
 abbrev Inv-loop : tie.InvT-loop
-Inv-loop counts sends receipts n m first₀ k₀ first k = Looked (messageChecks n counts sends receipts) m k first
+Inv-loop counts sends receipts n m from first₀ k₀ first k = Looked (messageChecks n counts sends receipts) m k first
 
 abbrev μ-loop : tie.MeasureT-loop
-μ-loop counts sends receipts n m first₀ k₀ first k = m - k
+μ-loop counts sends receipts n m from first₀ k₀ first k = m - k
 
--- ---- the places: a turn of the loop, from where its message was looked at
+-- ---- the places: the entry; a turn of the loop, from where its message was looked at
+abbrev entry : tie.After-shared-slice-known3 Inv-loop μ-loop → tie.Start Inv-loop μ-loop
+entry c = c .before .before .before
+
 abbrev turn : tie.After-fault-at Inv-loop μ-loop → tie.In-loop Inv-loop μ-loop
 turn c = c .before
 
@@ -24,8 +27,9 @@ first-fault-spec =
     (tie.spec
     Inv-loop
     μ-loop
-    (λ c κs. omega arith)
-    (λ c. record { within = c .first-caught .ensures .within; found = c .first-caught .ensures .quiet })
+    (λ c.
+    let first = entry c .pre .1 in
+    record { within = first .within; found = first .quiet })
     (λ c κs. omega arith)
     (λ c. omega arith)
     -- the first place stays, or is the message's
