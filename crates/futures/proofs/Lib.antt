@@ -1,4 +1,5 @@
 -- The laws of steps, futures and the sheet.
+--     OrderLaws      what check 24 says of the list of a receipt or a checkpoint
 --     StepLaws       what each step does
 --     FutureLaws     what a list of steps keeps of the run that it starts from
 --     HeldLaws       held lines, and how they move over the steps
@@ -12,6 +13,7 @@ pub mod FutureLaws
 pub mod HeldLaws
 pub mod KeptLaws
 pub mod NeedLaws
+pub mod OrderLaws
 pub mod StepLaws
 pub mod UnsavedLaws
 pub mod WitnessLaws

@@ -6,18 +6,20 @@
 --     Waiting, waits-for .. waiting-position           the positions that a receipt or a checkpoint may list
 --     rising                                           the order of a list that is rising
 --     receivedAt-listed .. receivedAt-receiver         a message after it
---     receipt-known .. receipt-quiet                   what it means that nothing catches it
+--     receipt-known .. receipt-quiet                   what it means that nothing catches it: 10, 13 and 24
+--     nothing-quiet                                    nothing catches one of no messages
 --     Receives, receipt-receives, checkpoint-receives  what both leave: the listed messages received, at no lower counts
 --     receives-messages .. receives-each               its messages; what holds of the listed ones, received, and of the old ones holds of all
 --     receipt-count .. checkpoint-count-here           the counts after a receipt, and after a checkpoint
 --     recovery-latest, recovery-length                 the recovery line
 --     putBack-after .. putBack-under, stays-sent       a message that is put back; one that stays
 --     rollback-processes .. rollback-fewer             the sizes and the counts after a rollback
---     rollback-from, rollback-each                     each message comes from one that stays
+--     rollback-from, rollback-each, rollback-pairs     each message comes from one that stays, and each two from two in their order
 --     rollback-place, rollback-message, rollback-order    where one that stays goes, in order
 --     step-cases                                       a step that is caught leaves the table as it is
 --     receipt-of-nothing                               one of no messages leaves the table
 --     send-step .. rollback-step                       any other leaves the table whose bytes its call answers
+--     Turn, waiting-turn .. put-back-turn              two messages of a channel stay in turn when received, and when put back
 --     send-well-formed .. step-well-formed             steps keep tables well formed
 --     send-limits .. rollback-limits                   when they keep tables within the limits
 --     rollback-line                                    a rollback leaves the recovery line where it is
@@ -25,8 +27,8 @@
 -- Assumes nothing.
 use mathlib.Core.Bool.{Bool, true, false, cond, not, _&&_, _||_, false≢true}
 use mathlib.Core.List.{List, [], _∷_, _++_, map}
-use mathlib.Core.Path.{_≡_, refl, ap, _∙_, subst, subst⁻¹}
-use Prim.Native.Nat.{ℕ, zero, suc, _+_, _-_, _≤_, _<_}
+use mathlib.Core.Path.{_≡_, refl, sym, ap, _∙_, subst, subst⁻¹}
+use Prim.Native.Nat.{ℕ, zero, suc, _+_, _-_, _≤_, _<_, suc-le-suc}
 use native.Mathlib.Decide.{decLt, ℕ-discrete}
 use native.Mathlib.Nat.{le-of-suc-le-suc, le-refl, not-suc-le-zero}
 use native.Mathlib.Omega.{arith}
@@ -38,12 +40,14 @@ use Rattle.consistency.proofs.CeilingLaws.{ceiling-at, set-latest, set-length}
 use Rattle.consistency.proofs.LineLaws.{latest-same}
 use Rattle.consistency.specs.Ceilings.{ceilingOf, lineOf, recoveryLine}
 use Rattle.consistency.specs.Lines.{AtOrBelow, Latest, Orphan, asLine}
+use Rattle.futures.proofs.OrderLaws.{OlderListed, none-passed, passes-none, undelivered-waits, waits-undelivered}
 use Rattle.futures.specs.Steps.{Step, afterCheckpoint, afterReceipt, afterRollback, afterSend, badPosition, checkpoint, notRising, notRisingAfter}
-use Rattle.futures.specs.Steps.{putBack, receiptChecks, receive, receivedAt, remaining, rollback, send, sendChecks, stays, step, unlessCaught, waitsFor}
+use Rattle.futures.specs.Steps.{passesOver, putBack, receiptChecks, receive, receivedAt, remaining, rollback, send, sendChecks, stays, step, unlessCaught, waitsFor}
 use Rattle.tables.proofs.CheckLaws.{passed, quiet-cons, quiet-none}
 use Rattle.tables.proofs.FormatLaws.{count-beyond, message-beyond}
 use Rattle.tables.proofs.ListLaws.{and-left, and-right, any-none, getD-tabulate, length-tabulate, or-false-left, or-false-right}
-use Rattle.tables.specs.Checks.{Check, GoodMessage, Limits, WellFormed, firstCaught}
+use Rattle.tables.proofs.TurnLaws.{one-channel}
+use Rattle.tables.specs.Checks.{Check, GoodMessage, InTurn, Limits, WellFormed, firstCaught, sameChannel, waits}
 use Rattle.tables.specs.Lists.{any}
 use Rattle.tables.specs.Table.{Message, Table, countOf, messageCount, messageOf, mostCheckpoints, mostMessages, noMessage, processCount}
 
@@ -111,26 +115,26 @@ pub record Waiting (t : Table) (i k : ℕ) : Type 0 where
 module _ (t : Table) (i k : ℕ) where
   pub waits-for : k < messageCount t → waitsFor i (messageOf t k) ≡ true → Waiting t i k
   unfolding waitsFor
-  waits-for l waits =
+  waits-for l e =
       let to-i = eqb (messageOf t k .receiver) i in
-      let none = eqb (messageOf t k .received) 0 in
+      let none = waits (messageOf t k) in
       record {
         a-message = l;
-        to-process = eqb-true (messageOf t k .receiver) i (and-left to-i none waits);
-        undelivered = eqb-true (messageOf t k .received) 0 (and-right to-i none waits);
+        to-process = eqb-true (messageOf t k .receiver) i (and-left to-i none e);
+        undelivered = waits-undelivered (messageOf t k) (and-right to-i none e);
       }
 
   pub good-position : badPosition t i k ≡ false → Waiting t i k
   unfolding badPosition
   good-position e =
       let beyond = leb (messageCount t) k in
-      let waits = waitsFor i (messageOf t k) in
-      waits-for (leb-false (messageCount t) k (or-false-left beyond (not waits) e)) (not-false waits (or-false-right beyond (not waits) e))
+      let here = waitsFor i (messageOf t k) in
+      waits-for (leb-false (messageCount t) k (or-false-left beyond (not here) e)) (not-false here (or-false-right beyond (not here) e))
 
   pub waiting-position : Waiting t i k → badPosition t i k ≡ false
   unfolding badPosition waitsFor
   waiting-position w =
-      rw (lt-leb (messageCount t) k (w .a-message), eq-eqb (messageOf t k .receiver) i (w .to-process), eq-eqb (messageOf t k .received) 0 (w .undelivered))
+      rw (lt-leb (messageCount t) k (w .a-message), eq-eqb (messageOf t k .receiver) i (w .to-process), undelivered-waits (messageOf t k) (w .undelivered))
 
 -- a test that no entry passes fails at every listed number
 listed-fails : (test : ℕ → Bool) (list : List ℕ) → any test list ≡ false → (k : ℕ) → any (eqb k) list ≡ true → test k ≡ false
@@ -193,11 +197,12 @@ module _ (t : Table) (i : ℕ) (list : List ℕ) where
     receivedAt-receiver = receivedAt-cases (λ m. m .receiver ≡ messageOf t k .receiver) (λ _. refl) refl
 
   module _ (quiet : firstCaught (receiptChecks t i list) ≡ 0) where
-    quiet-list : (leb (processCount t) i ≡ false) × ((any (badPosition t i) list || notRising list) ≡ false)
+    quiet-list : (leb (processCount t) i ≡ false) × ((any (badPosition t i) list || notRising list) ≡ false) × (any (passesOver t list) list ≡ false)
     unfolding receiptChecks
     quiet-list =
         let known = quiet-cons _ _ (omega arith) quiet in
-        (known .0, quiet-cons _ _ (omega arith) (known .1) .0)
+        let listed = quiet-cons _ _ (omega arith) (known .1) in
+        (known .0, listed .0, quiet-cons _ _ (omega arith) (listed .1) .0)
 
     pub receipt-known : i < processCount t
     receipt-known = leb-false (processCount t) i (quiet-list .0)
@@ -205,16 +210,31 @@ module _ (t : Table) (i : ℕ) (list : List ℕ) where
     pub receipt-positions : any (badPosition t i) list ≡ false
     receipt-positions = or-false-left (any (badPosition t i) list) (notRising list) (quiet-list .1)
 
+    pub receipt-rising : notRising list ≡ false
+    receipt-rising = or-false-right (any (badPosition t i) list) (notRising list) (quiet-list .1)
+
+    pub receipt-passes-none : any (passesOver t list) list ≡ false
+    receipt-passes-none = quiet-list .2
+
     pub receipt-waiting : (k : ℕ) → any (eqb k) list ≡ true → Waiting t i k
     receipt-waiting k listed = good-position t i k (listed-fails (badPosition t i) list receipt-positions k listed)
 
+    pub receipt-older : (k : ℕ) → any (eqb k) list ≡ true → OlderListed t list k
+    receipt-older k listed = passes-none t list k (listed-fails (passesOver t list) list receipt-passes-none k listed)
+
   pub receipt-quiet : i < processCount t → ((a : ℕ) → a < length list → Waiting t i (getD list a 0)) → notRising list ≡ false
-      → firstCaught (receiptChecks t i list) ≡ 0
+      → ((a : ℕ) → a < length list → OlderListed t list (getD list a 0)) → firstCaught (receiptChecks t i list) ≡ 0
   unfolding receiptChecks
-  receipt-quiet known waiting up =
+  receipt-quiet known waiting up older =
       let good : any (badPosition t i) list ≡ false = any-none (badPosition t i) list 0 (λ a l. waiting-position t i (getD list a 0) (waiting a l)) in
       let good-list : (any (badPosition t i) list || notRising list) ≡ false = rw good up in
-      passed _ _ 0 (lt-leb (processCount t) i known) (passed _ _ 0 good-list quiet-none)
+      let none : any (passesOver t list) list ≡ false = any-none (passesOver t list) list 0 (λ a l. none-passed t list (getD list a 0) (older a l)) in
+      passed _ _ 0 (lt-leb (processCount t) i known) (passed _ _ 0 good-list (passed _ _ 0 none quiet-none))
+
+-- nothing catches a receipt of nothing by a process of the table
+pub nothing-quiet : (t : Table) (i : ℕ) → i < processCount t → firstCaught (receiptChecks t i []) ≡ 0
+unfolding notRising
+nothing-quiet t i known = receipt-quiet t i [] known (λ a l. absurd (not-suc-le-zero l)) refl (λ a l. absurd (not-suc-le-zero l))
 
 -- What a receipt and a checkpoint leave: the messages of the receipt, as many processes, and no lower count.
 pub record Receives (t : Table) (i : ℕ) (list : List ℕ) (t′ : Table) : Type 0 where
@@ -370,6 +390,27 @@ module _ (l : List ℕ) where
           from-rest m rest k′ k′ (ap (λ (x : List Message). getD x k′ noMessage) (first-goes l m rest e))
           (found k′ (subst (λ (x : List Message). k′ < length x) (first-goes l m rest e) h))
 
+  -- what holds of each two messages, as they are put back, holds of each two that remain
+  remaining-pairs : (R : Message → Message → Type 0) (ms : List Message)
+      → ((q k : ℕ) → q < k → k < length ms → R (putBack l (getD ms q noMessage)) (putBack l (getD ms k noMessage)))
+      → (q k : ℕ) → q < k → k < length (remaining l ms) → R (getD (remaining l ms) q noMessage) (getD (remaining l ms) k noMessage)
+  unfolding remaining
+  remaining-pairs R [] each q k before h = absurd (not-suc-le-zero h)
+  remaining-pairs R (m ∷ rest) each q k before h =
+      go (stays l m) (remaining-pairs R rest (λ q k b h. each (suc q) (suc k) (suc-le-suc b) (suc-le-suc h))) q k before h
+    where
+      go : (b : Bool)
+          → ((q k : ℕ) → q < k → k < length (remaining l rest) → R (getD (remaining l rest) q noMessage) (getD (remaining l rest) k noMessage))
+          → (q k : ℕ) → q < k → k < length (cond b (putBack l m ∷ remaining l rest) (remaining l rest))
+          → R (getD (cond b (putBack l m ∷ remaining l rest) (remaining l rest)) q noMessage)
+          (getD (cond b (putBack l m ∷ remaining l rest) (remaining l rest)) k noMessage)
+      go true later q zero before h = absurd (not-suc-le-zero before)
+      go true later zero (suc k) before h =
+          let from = remaining-from rest k (le-of-suc-le-suc h) in
+          subst⁻¹ (R (putBack l m)) (from .3) (each zero (suc (from .0)) (omega arith) (suc-le-suc (from .1)))
+      go true later (suc q) (suc k) before h = later q k (le-of-suc-le-suc before) (le-of-suc-le-suc h)
+      go false later q k before h = later q k before h
+
   -- a message that stays stands behind those before it that stay
   module _ (ms : List Message) (k : ℕ) (h : k < length ms) (e : stays l (getD ms k noMessage) ≡ true) where
     remaining-split : remaining l ms ≡ remaining l (take k ms) ++ (putBack l (getD ms k noMessage) ∷ remaining l (drop (suc k) ms))
@@ -436,6 +477,12 @@ module _ (t : Table) where
       let k = from .0 in
       subst⁻¹ P (from .3) (putBack-cases (recoveryLine t) (messageOf t k) P (after k (from .1) (from .2)) (before k (from .1) (from .2)))
 
+  pub rollback-pairs : (R : Message → Message → Type 0)
+      → ((q k : ℕ) → q < k → k < messageCount t → R (putBack (recoveryLine t) (messageOf t q)) (putBack (recoveryLine t) (messageOf t k)))
+      → (q k : ℕ) → q < k → k < messageCount (afterRollback t) → R (messageOf (afterRollback t) q) (messageOf (afterRollback t) k)
+  unfolding afterRollback messageCount messageOf
+  rollback-pairs R each = remaining-pairs (recoveryLine t) R (t .messages) each
+
   module _ (k : ℕ) (h : k < messageCount t) (e : stays (recoveryLine t) (messageOf t k) ≡ true) where
     pub rollback-place : length (remaining (recoveryLine t) (take k (t .messages))) < messageCount (afterRollback t)
     unfolding afterRollback messageCount messageOf
@@ -499,6 +546,57 @@ module _ (t : Table) where
   unfolding step
   rollback-step = refl
 
+-- ---- messages of a channel stay in turn
+-- Two messages, the earlier one first, are in turn if they have one channel.
+abbrev Turn : Message → Message → Type 0
+Turn m later = sameChannel m later ≡ true → InTurn m later
+
+-- one that waits is in turn behind any that was sent no later
+waiting-turn : (m later : Message) → m .sent ≤ later .sent → later .received ≡ 0 → InTurn m later
+waiting-turn m later rise undelivered =
+    record { sends-rise = rise; received-first = λ d. absurd (omega (arith, d)); receipts-rise = λ d. absurd (omega (arith, d)) }
+
+module _ (m later : Message) (turn : Turn m later) where
+  -- received at one number: both, the earlier one, the later one behind one that waits no more
+  module _ (n : ℕ) where
+    both-received : Turn (withReceipt m n) (withReceipt later n)
+    unfolding sameChannel
+    both-received same = record { sends-rise = turn same .sends-rise; received-first = λ d. d; receipts-rise = λ _. le-refl n }
+
+    earlier-received : m .received ≡ 0 → Turn (withReceipt m n) later
+    unfolding sameChannel
+    earlier-received undelivered same =
+        let none : 0 < later .received → ⊥ = λ d. omega (arith, turn same .received-first d) in
+        waiting-turn (withReceipt m n) later (turn same .sends-rise) (omega (arith, none))
+
+    later-received : (sameChannel m later ≡ true → (0 < m .received) × (m .received ≤ n)) → Turn m (withReceipt later n)
+    unfolding sameChannel
+    later-received before same =
+        record { sends-rise = turn same .sends-rise; received-first = λ _. before same .0; receipts-rise = λ _. before same .1 }
+
+  -- put back behind a line: the later one; the earlier one, and then the later one was not received at or below the line
+  later-back : Turn m (withReceipt later 0)
+  unfolding sameChannel
+  later-back same = waiting-turn m (withReceipt later 0) (turn same .sends-rise) refl
+
+  module _ (l : List ℕ) where
+    earlier-back : asLine l (m .receiver) < m .received → later .received ≤ asLine l (later .receiver) → Turn (withReceipt m 0) later
+    unfolding sameChannel
+    earlier-back after before same =
+        let here : asLine l (m .receiver) ≡ asLine l (later .receiver) = ap (asLine l) (one-channel m later same .1) in
+        let none : 0 < later .received → ⊥ = λ d. omega (arith, turn same .receipts-rise d) in
+        waiting-turn (withReceipt m 0) later (turn same .sends-rise) (omega (arith, none))
+
+    put-back-turn : Turn (putBack l m) (putBack l later)
+    put-back-turn = go (decLt (asLine l (m .receiver)) (m .received)) (decLt (asLine l (later .receiver)) (later .received))
+      where
+        go : Dec (asLine l (m .receiver) < m .received) → Dec (asLine l (later .receiver) < later .received)
+            → Turn (putBack l m) (putBack l later)
+        go (yes a) (yes b) = rw (putBack-after l m a, putBack-after l later b) (both-received 0)
+        go (yes a) (no b) = rw (putBack-after l m a, putBack-before l later (omega arith)) (earlier-back a (omega arith))
+        go (no a) (yes b) = rw (putBack-before l m (omega arith), putBack-after l later b) later-back
+        go (no a) (no b) = rw (putBack-before l m (omega arith), putBack-before l later (omega arith)) turn
+
 -- ---- well formed tables
 -- a good message among as many processes, where no count is lower
 still-good : (t t′ : Table) (m : Message) → processCount t′ ≡ processCount t → ((p : ℕ) → countOf t p ≤ countOf t′ p) → GoodMessage t m
@@ -516,6 +614,7 @@ send-well-formed t j i w quiet = record {
   some-process = omega (arith, send-processes t j i, w .some-process);
   some-checkpoint = λ p l. omega (arith, same p, w .some-checkpoint p (omega (arith, send-processes t j i)));
   good-messages = send-each t j i (GoodMessage after) (λ k l. still-good t after (messageOf t k) (send-processes t j i) same (w .good-messages k l)) new;
+  in-turn = λ q k before l. turns q k before (omega (arith, send-messages t j i)) (decLt k (messageCount t));
 }
   where
     after : Table
@@ -535,6 +634,18 @@ send-well-formed t j i w quiet = record {
           received-within = omega arith;
         }
 
+    -- the new message waits, and was sent last
+    newest : (q : ℕ) → q < messageCount t → Turn (messageOf t q) (newMessage t j i)
+    newest q l channel =
+        let sender : countOf t (messageOf t q .sender) ≡ countOf t j = ap (countOf t) (one-channel (messageOf t q) (newMessage t j i) channel .0) in
+        waiting-turn (messageOf t q) (newMessage t j i) (omega (arith, w .good-messages q l .sent-below)) refl
+
+    turns : (q k : ℕ) → q < k → k ≤ messageCount t → Dec (k < messageCount t) → Turn (messageOf after q) (messageOf after k)
+    turns q k before l (yes b) = rw (send-message-old t j i q (omega arith), send-message-old t j i k b) (w .in-turn q k before b)
+    turns q k before l (no b) =
+        let last : k ≡ messageCount t = omega arith in
+        rw (send-message-old t j i q (omega arith), ap (messageOf after) last ∙ send-message-new t j i) (newest q (omega arith))
+
 -- a listed message is received at the count, and any other as before
 receives-well-formed : {t : Table} {i : ℕ} {list : List ℕ} {t′ : Table} → Receives t i list t′ → WellFormed t
     → firstCaught (receiptChecks t i list) ≡ 0 → WellFormed t′
@@ -542,6 +653,9 @@ receives-well-formed {t} {i} {list} {t′} r w quiet = record {
   some-process = omega (arith, r .same-processes, w .some-process);
   some-checkpoint = λ p l. omega (arith, r .counts-grow p, w .some-checkpoint p (omega (arith, r .same-processes)));
   good-messages = receives-each r (GoodMessage t′) listed good;
+  in-turn = λ q k before l.
+      let b : k < messageCount t = omega (arith, receives-messages r) in
+      rw (receives-message r q (omega arith), receives-message r k b) (turns q k (any (eqb q) list) (any (eqb k) list) refl refl before b);
 }
   where
     good : (k : ℕ) → k < messageCount t → GoodMessage t′ (messageOf t k)
@@ -557,12 +671,34 @@ receives-well-formed {t} {i} {list} {t′} r w quiet = record {
           subst⁻¹ (λ (q : ℕ). countOf t i ≤ countOf t′ q) (receipt-waiting t i list quiet k e .to-process) (r .counts-grow i);
     }
 
+    -- an earlier message of its channel that is not listed waits no more, and was received at the count at the latest
+    received-earlier : (q k : ℕ) → q < k → k < messageCount t → any (eqb q) list ≡ false → any (eqb k) list ≡ true
+        → sameChannel (messageOf t q) (messageOf t k) ≡ true → (0 < messageOf t q .received) × (messageOf t q .received ≤ countOf t i)
+    received-earlier q k before l a b channel =
+        let some : messageOf t q .received ≡ 0 → ⊥ = λ z. false≢true (sym a ∙ receipt-older t i list quiet k b q before channel z) in
+        let to-i : messageOf t q .receiver ≡ i = one-channel (messageOf t q) (messageOf t k) channel .1 ∙ receipt-waiting t i list quiet k b .to-process in
+        (omega (arith, some), omega (arith, w .good-messages q (omega arith) .received-within, ap (countOf t) to-i))
+
+    turns : (q k : ℕ) (x y : Bool) → any (eqb q) list ≡ x → any (eqb k) list ≡ y → q < k → k < messageCount t
+        → Turn (receivedAt t i list q) (receivedAt t i list k)
+    turns q k true true a b before l =
+        rw (receivedAt-listed t i list q a, receivedAt-listed t i list k b)
+        (both-received (messageOf t q) (messageOf t k) (w .in-turn q k before l) (countOf t i))
+    turns q k true false a b before l =
+        rw (receivedAt-listed t i list q a, receivedAt-unlisted t i list k b)
+        (earlier-received (messageOf t q) (messageOf t k) (w .in-turn q k before l) (countOf t i) (receipt-waiting t i list quiet q a .undelivered))
+    turns q k false true a b before l =
+        rw (receivedAt-unlisted t i list q a, receivedAt-listed t i list k b)
+        (later-received (messageOf t q) (messageOf t k) (w .in-turn q k before l) (countOf t i) (received-earlier q k before l a b))
+    turns q k false false a b before l = rw (receivedAt-unlisted t i list q a, receivedAt-unlisted t i list k b) (w .in-turn q k before l)
+
 -- a message that remains was sent below the line, and is undelivered or was received at or below it
 pub rollback-well-formed : (t : Table) → WellFormed t → WellFormed (afterRollback t)
 rollback-well-formed t w = record {
   some-process = omega (arith, rollback-processes t, w .some-process);
   some-checkpoint = λ p l. omega (arith, rollback-count t p (omega (arith, rollback-processes t)));
   good-messages = rollback-each t (GoodMessage (afterRollback t)) (λ k l e. good k l e 0 (omega arith)) (λ k l e. good k l e (messageOf t k .received));
+  in-turn = rollback-pairs t Turn (λ q k before l. put-back-turn (messageOf t q) (messageOf t k) (w .in-turn q k before l) (recoveryLine t));
 }
   where
     good : (k : ℕ) → k < messageCount t → stays (recoveryLine t) (messageOf t k) ≡ true → (n : ℕ)

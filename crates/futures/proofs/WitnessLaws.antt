@@ -24,11 +24,11 @@ use Rattle.consistency.specs.Lines.{asLine}
 use Rattle.consistency.specs.Lowering.{lineUnder}
 use Rattle.futures.proofs.KeptLaws.{Across, HolderWith, keeps-checkpoint, keeps-message}
 use Rattle.futures.proofs.StepLaws.{checkpoint-count-here, checkpoint-count-other, checkpoint-receives, checkpoint-step}
-use Rattle.futures.proofs.StepLaws.{receipt-of-nothing, receipt-quiet}
+use Rattle.futures.proofs.StepLaws.{nothing-quiet, receipt-of-nothing}
 use Rattle.futures.specs.Futures.{CheckpointNeeded, FollowedTo, Future, MessageNeeded, NeedsCheckpoint, NeedsMessage, StepKeeps, StillThere, endOf}
 use Rattle.futures.specs.Futures.{moved, placeOf}
 use Rattle.futures.specs.Sheet.{holderLine, keepsCheckpoint, keepsMessage}
-use Rattle.futures.specs.Steps.{afterCheckpoint, checkpoint, notRising, step}
+use Rattle.futures.specs.Steps.{afterCheckpoint, checkpoint, step}
 use Rattle.tables.specs.Checks.{WellFormed}
 use Rattle.tables.specs.Lists.{any}
 use Rattle.tables.specs.Table.{Message, Table, countOf, messageCount, messageOf, noMessage, processCount}
@@ -41,8 +41,7 @@ othersCheckpoint holds (suc n) = cond (holds n) (othersCheckpoint holds n) (chec
 -- ---- one such checkpoint
 module _ (t : Table) (i : ℕ) (known : i < processCount t) where
   alone : step t (checkpoint i []) ≡ afterCheckpoint t i []
-  unfolding notRising
-  alone = checkpoint-step t i [] (receipt-quiet t i [] known (λ a l. absurd (not-suc-le-zero l)) refl)
+  alone = checkpoint-step t i [] (nothing-quiet t i known)
 
   alone-messages : afterCheckpoint t i [] .messages ≡ t .messages
   alone-messages = checkpoint-receives t i [] .messages-are ∙ ap (λ (x : Table). x .messages) (receipt-of-nothing t i)
