@@ -1,5 +1,6 @@
 -- Laws of the sheet's lists: they hold exactly what passes, in order and without repeats.
 --     listed-append, listed-map             membership in lists that are put together
+--     listed-any                            a search for a listed number
 --     select-listed, rows-listed            the numbers that pass a test; lists one after another
 --     ordered-append, select-ordered, rows-ordered, ordered-once    their order, without repeats
 --     keeps-checkpoint, keeps-message       the two tests of the sheet, in words of numbers and lines
@@ -23,8 +24,8 @@ use Rattle.consistency.specs.Lines.{Line, asLine}
 use Rattle.futures.proofs.FutureLaws.{known-process}
 use Rattle.futures.specs.Demand3.{Listed}
 use Rattle.futures.specs.Sheet.{Checkpoint, crosses, holderLine, keepsCheckpoint, keepsMessage, keptCheckpoints, keptMessages}
-use Rattle.tables.proofs.ListLaws.{and-left, and-right, anyBelow-found, found-below, one, select-rows}
-use Rattle.tables.specs.Lists.{anyBelow, rows, select}
+use Rattle.tables.proofs.ListLaws.{and-left, and-right, any-some, anyBelow-found, found-below, one, select-rows}
+use Rattle.tables.specs.Lists.{any, anyBelow, rows, select}
 use Rattle.tables.specs.Table.{Message, Table, countOf, messageCount, messageOf, processCount}
 
 -- ---- membership
@@ -70,6 +71,11 @@ module _ {A : Type 0} where
             let n = h .0 - length l in
             let place : length l + n ≡ h .0 = omega arith in
             inr (n, omega (arith, h .1, length-append l l′), sym (getD-append-add l l′ n x) ∙ ap (λ (k : ℕ). getD (l ++ l′) k x) place ∙ h .2)
+
+-- a search finds a number that is listed
+pub listed-any : (k : ℕ) (l : List ℕ) → Listed k l → any (eqb k) l ≡ true
+unfolding Listed
+listed-any k l h = any-some (eqb k) l k (h .0) (h .1) (eq-eqb k (getD l (h .0) k) (sym (h .2)))
 
 module _ {A B : Type 0} (f : A → B) (l : List A) where
   pub listed-map : (x : A) → Listed x l → Listed (f x) (map f l)

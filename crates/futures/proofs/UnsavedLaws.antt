@@ -1,11 +1,11 @@
 -- Messages that are unsaved.
 --     receipts-hold    what is claimed of them holds in every well formed table
 -- Assumes nothing.
-use mathlib.Core.Bool.{true}
+use mathlib.Core.Bool.{Bool, true, false, _&&_, false≢true}
 use mathlib.Core.List.{List, [], _∷_}
 use mathlib.Core.Path.{_≡_, refl, sym, ap, _∙_, subst, subst⁻¹}
-use Prim.Native.Nat.{ℕ, zero, suc, _<_, _≤_}
-use native.Mathlib.Nat.{le-of-suc-le-suc, not-suc-le-zero}
+use Prim.Native.Nat.{ℕ, _+_, _-_, _<_, _≤_}
+use native.Mathlib.Nat.{le-refl}
 use native.Mathlib.Omega.{arith}
 use borrow.Author.Tests.{eq-eqb, ne-eqb}
 use lib.Dec.{eqb}
@@ -13,53 +13,116 @@ use lib.ListN.{length, getD, take}
 use Rattle.consistency.specs.Ceilings.{recoveryLine}
 use Rattle.consistency.specs.Lines.{asLine}
 use Rattle.futures.proofs.FutureLaws.{checkpoint-grown}
+use Rattle.futures.proofs.KeptLaws.{Ordered, listed-any, listed-at, select-listed, select-ordered}
+use Rattle.futures.proofs.OrderLaws.{OlderListed, channel-on, neighbours-rise, undelivered-waits, waits-undelivered}
 use Rattle.futures.proofs.StepLaws.{Waiting, checkpoint-count-here, checkpoint-step, putBack-after, receipt-count, receipt-known, receipt-of-nothing}
-use Rattle.futures.proofs.StepLaws.{receipt-quiet, receipt-receives, receive-step, receivedAt-listed, receives-message, receives-messages}
+use Rattle.futures.proofs.StepLaws.{receipt-older, receipt-quiet, receipt-receives, receive-step, receivedAt-listed, receives-message, receives-messages}
 use Rattle.futures.proofs.StepLaws.{recovery-latest, rollback-count, rollback-each, rollback-message, step-cases, waits-for, withReceipt}
 use Rattle.futures.specs.Futures.{FollowedTo, StepKeeps, StillThere, endOf, moved, placeOf}
 use Rattle.futures.specs.Sheet.{crosses, holderLine, keepsMessage}
-use Rattle.futures.specs.Steps.{afterReceipt, afterRollback, checkpoint, notRising, notRisingAfter, receiptChecks, receive, remaining}
+use Rattle.futures.specs.Steps.{afterCheckpoint, afterReceipt, afterRollback, checkpoint, notRising, receiptChecks, receive, remaining}
 use Rattle.futures.specs.Steps.{rollback, stays, step, waitsFor}
-use Rattle.futures.specs.Unsaved.{Receipts, Unsaved}
-use Rattle.tables.specs.Checks.{WellFormed, firstCaught}
+use Rattle.futures.specs.Unsaved.{Receipts, Unsaved, waitingUpTo}
+use Rattle.tables.proofs.ListLaws.{and-left, and-right}
+use Rattle.tables.proofs.TurnLaws.{channel-same, one-channel}
+use Rattle.tables.specs.Checks.{WellFormed, firstCaught, sameChannel, waits}
 use Rattle.tables.specs.Lists.{any, anyBelow}
 use Rattle.tables.specs.Table.{Message, Table, countOf, messageCount, messageOf, processCount}
 
-module _ (t : Table) (w : WellFormed t) where
-  -- ---- a message that waits, received alone
-  module _ (i k : ℕ) (l : k < messageCount t) (waits : waitsFor i (messageOf t k) ≡ true) where
-    abbrev alone : List ℕ
-    alone = k ∷ []
+-- ---- the waiting messages of a channel, up to one
+module _ (t : Table) (k : ℕ) where
+  abbrev together : List ℕ
+  together = waitingUpTo t k
 
+  abbrev test : ℕ → Bool
+  test q = sameChannel (messageOf t q) (messageOf t k) && waits (messageOf t q)
+
+  abbrev UpTo : ℕ → Type 0
+  UpTo q = (q ≤ k) × (sameChannel (messageOf t q) (messageOf t k) ≡ true) × (messageOf t q .received ≡ 0)
+
+  entry : (a : ℕ) → a < length together → UpTo (getD together a 0)
+  unfolding waitingUpTo
+  entry a l =
+      let q = getD together a 0 in
+      let m = messageOf t q in
+      let passes = select-listed test (k + 1) q .0 (listed-at together a 0 l) in (
+        omega (arith, passes .0),
+        and-left (sameChannel m (messageOf t k)) (waits m) (passes .1),
+        waits-undelivered m (and-right (sameChannel m (messageOf t k)) (waits m) (passes .1)),
+      )
+
+  listed-together : (q : ℕ) → q ≤ k → sameChannel (messageOf t q) (messageOf t k) ≡ true → messageOf t q .received ≡ 0 → any (eqb q) together ≡ true
+  unfolding waitingUpTo
+  listed-together q up-to same undelivered =
+      let passes : test q ≡ true = rw (same, undelivered-waits (messageOf t q) undelivered) in
+      listed-any q together (select-listed test (k + 1) q .1 (omega arith, passes))
+
+  together-rises : notRising together ≡ false
+  unfolding waitingUpTo Ordered
+  together-rises = neighbours-rise together (λ a pos l. select-ordered test (k + 1) (a - 1) a 0 (omega arith) l)
+
+module _ (t : Table) (w : WellFormed t) where
+  -- ---- a message that waits, received with those of its channel that wait before it
+  module _ (i k : ℕ) (l : k < messageCount t) (here : waitsFor i (messageOf t k) ≡ true) where
     waiting : Waiting t i k
-    waiting = waits-for t i k l waits
+    waiting = waits-for t i k l here
 
     known : i < processCount t
     known = subst (λ (p : ℕ). p < processCount t) (waiting .to-process) (w .good-messages k l .receiver-known)
 
-    taken : step t (receive i alone) ≡ afterReceipt t i alone
-    unfolding notRising notRisingAfter
-    taken = receive-step t i alone (receipt-quiet t i alone known (λ a b. each a b) refl)
+    taken : step t (receive i (together t k)) ≡ afterReceipt t i (together t k)
+    taken = receive-step t i (together t k) (receipt-quiet t i (together t k) known each (together-rises t k) older)
       where
-        each : (a : ℕ) → a < length alone → Waiting t i (getD alone a 0)
-        each zero b = waiting
-        each (suc a) b = absurd (not-suc-le-zero (le-of-suc-le-suc b))
+        each : (a : ℕ) → a < length (together t k) → Waiting t i (getD (together t k) a 0)
+        each a b =
+            let q = getD (together t k) a 0 in
+            record {
+              a-message = omega (arith, l, entry t k a b .0);
+              to-process = one-channel (messageOf t q) (messageOf t k) (entry t k a b .1) .1 ∙ waiting .to-process;
+              undelivered = entry t k a b .2;
+            }
 
-    unsaved : Unsaved (afterReceipt t i alone) k
-    unfolding Unsaved any
+        older : (a : ℕ) → a < length (together t k) → OlderListed t (together t k) (getD (together t k) a 0)
+        older a b q before same undelivered =
+            let n = getD (together t k) a 0 in
+            listed-together t k q (omega (arith, entry t k a b .0))
+            (channel-on (messageOf t q) (messageOf t n) (messageOf t k) same (entry t k a b .1)) undelivered
+
+    unsaved : Unsaved (afterReceipt t i (together t k)) k
+    unfolding Unsaved
     unsaved =
-        let r = receipt-receives t i alone in
-        let listed : any (eqb k) alone ≡ true = rw (eq-eqb k k refl) in
-        let is : messageOf (afterReceipt t i alone) k ≡ withReceipt (messageOf t k) (countOf t i) =
-        receives-message r k l ∙ receivedAt-listed t i alone k listed in (
+        let r = receipt-receives t i (together t k) in
+        let m = messageOf t k in
+        let listed = listed-together t k k (le-refl k) (channel-same m m refl refl) (waiting .undelivered) in
+        let is : messageOf (afterReceipt t i (together t k)) k ≡ withReceipt m (countOf t i) =
+        receives-message r k l ∙ receivedAt-listed t i (together t k) k listed in (
           omega (arith, receives-messages r),
-          subst⁻¹ (λ (m : Message). m .received ≡ countOf (afterReceipt t i alone) (m .receiver)) is
-              (ap (countOf t) (sym (waiting .to-process)) ∙ sym (receipt-count t i alone (messageOf t k .receiver))),
+          subst⁻¹ (λ (x : Message). x .received ≡ countOf (afterReceipt t i (together t k)) (x .receiver)) is
+              (ap (countOf t) (sym (waiting .to-process)) ∙ sym (receipt-count t i (together t k) (m .receiver))),
         )
 
-    received-alone : Unsaved (endOf t (receive i alone ∷ [])) k
+    received-in-turn : Unsaved (endOf t (receive i (waitingUpTo t k) ∷ [])) k
     unfolding endOf
-    received-alone = subst⁻¹ (λ (x : Table). Unsaved x k) taken unsaved
+    received-in-turn = subst⁻¹ (λ (x : Table). Unsaved x k) taken unsaved
+
+  -- ---- received alone, it would pass over an older one
+  module _ (i q k : ℕ) (before : q < k) (same : sameChannel (messageOf t q) (messageOf t k) ≡ true) (older : waits (messageOf t q) ≡ true) where
+    abbrev alone : List ℕ
+    alone = k ∷ []
+
+    caught : firstCaught (receiptChecks t i alone) ≡ 0 → ⊥
+    unfolding any
+    caught quiet =
+        let here : any (eqb k) alone ≡ true = rw (eq-eqb k k refl) in
+        let unlisted : any (eqb q) alone ≡ false = rw (ne-eqb q k (λ e. omega arith)) in
+        false≢true (sym unlisted ∙ receipt-older t i alone quiet k here q before same (waits-undelivered (messageOf t q) older))
+
+    alone-leaves : (step t (receive i alone) ≡ t) × (step t (checkpoint i alone) ≡ t)
+    unfolding step
+    alone-leaves = (
+      step-cases (receiptChecks t i alone) (afterReceipt t i alone) t (λ x. x ≡ t) (λ quiet. absurd (caught quiet)) refl,
+      step-cases (receiptChecks t i alone) (afterCheckpoint t i alone) t (λ x. x ≡ t) (λ quiet. absurd (caught quiet)) refl,
+    )
 
   -- ---- a receipt loses nothing, and one of nothing changes nothing
   none-lost : (i : ℕ) (list : List ℕ) → ((p c : ℕ) → StillThere t (receive i list ∷ []) p c)
@@ -121,7 +184,8 @@ module _ (t : Table) (w : WellFormed t) where
 pub receipts-hold : (t : Table) → WellFormed t → Receipts t
 receipts-hold t w =
     record {
-      received = received-alone t w;
+      received = received-in-turn t w;
+      passed-over = alone-leaves t w;
       nothing-lost = none-lost t w;
       of-nothing = none-received t w;
       saved = saved-as-it-is t w;
