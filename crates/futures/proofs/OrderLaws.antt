@@ -17,7 +17,7 @@ use Rattle.futures.specs.Steps.{notRising, notRisingAfter, passesOver}
 use Rattle.tables.proofs.ListLaws.{anyBelow-found, anyBelow-none, none-below}
 use Rattle.tables.proofs.TurnLaws.{channel-same, one-channel}
 use Rattle.tables.specs.Checks.{sameChannel, waits}
-use Rattle.tables.specs.Lists.{any, anyBelow}
+use Rattle.tables.specs.Lists.{any}
 use Rattle.tables.specs.Table.{Message, Table, messageOf}
 
 module _ (m : Message) where

@@ -25,7 +25,7 @@
 --     rollback-line                                    a rollback leaves the recovery line where it is
 --     line-never-back                                  no step puts it back
 -- Assumes nothing.
-use mathlib.Core.Bool.{Bool, true, false, cond, not, _&&_, _||_, false≢true}
+use mathlib.Core.Bool.{Bool, true, false, cond, not, _||_, false≢true}
 use mathlib.Core.List.{List, [], _∷_, _++_, map}
 use mathlib.Core.Path.{_≡_, refl, sym, ap, _∙_, subst, subst⁻¹}
 use Prim.Native.Nat.{ℕ, zero, suc, _+_, _-_, _≤_, _<_, suc-le-suc}
@@ -42,7 +42,8 @@ use Rattle.consistency.specs.Ceilings.{ceilingOf, lineOf, recoveryLine}
 use Rattle.consistency.specs.Lines.{AtOrBelow, Latest, Orphan, asLine}
 use Rattle.futures.proofs.OrderLaws.{OlderListed, none-passed, passes-none, undelivered-waits, waits-undelivered}
 use Rattle.futures.specs.Steps.{Step, afterCheckpoint, afterReceipt, afterRollback, afterSend, badPosition, checkpoint, notRising, notRisingAfter}
-use Rattle.futures.specs.Steps.{passesOver, putBack, receiptChecks, receive, receivedAt, remaining, rollback, send, sendChecks, stays, step, unlessCaught, waitsFor}
+use Rattle.futures.specs.Steps.{passesOver, putBack, receiptChecks, receive, receivedAt, remaining, rollback, send, sendChecks, stays, step}
+use Rattle.futures.specs.Steps.{unlessCaught, waitsFor}
 use Rattle.tables.proofs.CheckLaws.{passed, quiet-cons, quiet-none}
 use Rattle.tables.proofs.FormatLaws.{count-beyond, message-beyond}
 use Rattle.tables.proofs.ListLaws.{and-left, and-right, any-none, getD-tabulate, length-tabulate, or-false-left, or-false-right}

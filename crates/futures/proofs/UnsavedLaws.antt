@@ -16,8 +16,9 @@ use Rattle.futures.proofs.FutureLaws.{checkpoint-grown}
 use Rattle.futures.proofs.KeptLaws.{Ordered, listed-any, listed-at, select-listed, select-ordered}
 use Rattle.futures.proofs.OrderLaws.{OlderListed, channel-on, neighbours-rise, undelivered-waits, waits-undelivered}
 use Rattle.futures.proofs.StepLaws.{Waiting, checkpoint-count-here, checkpoint-step, putBack-after, receipt-count, receipt-known, receipt-of-nothing}
-use Rattle.futures.proofs.StepLaws.{receipt-older, receipt-quiet, receipt-receives, receive-step, receivedAt-listed, receives-message, receives-messages}
-use Rattle.futures.proofs.StepLaws.{recovery-latest, rollback-count, rollback-each, rollback-message, step-cases, waits-for, withReceipt}
+use Rattle.futures.proofs.StepLaws.{receipt-older, receipt-quiet, receipt-receives, receive-step, receivedAt-listed, receives-message}
+use Rattle.futures.proofs.StepLaws.{receives-messages, recovery-latest, rollback-count, rollback-each, rollback-message, step-cases, waits-for}
+use Rattle.futures.proofs.StepLaws.{withReceipt}
 use Rattle.futures.specs.Futures.{FollowedTo, StepKeeps, StillThere, endOf, moved, placeOf}
 use Rattle.futures.specs.Sheet.{crosses, holderLine, keepsMessage}
 use Rattle.futures.specs.Steps.{afterCheckpoint, afterReceipt, afterRollback, checkpoint, notRising, receiptChecks, receive, remaining}
@@ -51,7 +52,8 @@ module _ (t : Table) (k : ℕ) where
         waits-undelivered m (and-right (sameChannel m (messageOf t k)) (waits m) (passes .1)),
       )
 
-  listed-together : (q : ℕ) → q ≤ k → sameChannel (messageOf t q) (messageOf t k) ≡ true → messageOf t q .received ≡ 0 → any (eqb q) together ≡ true
+  listed-together : (q : ℕ) → q ≤ k → sameChannel (messageOf t q) (messageOf t k) ≡ true → messageOf t q .received ≡ 0
+      → any (eqb q) together ≡ true
   unfolding waitingUpTo
   listed-together q up-to same undelivered =
       let passes : test q ≡ true = rw (same, undelivered-waits (messageOf t q) undelivered) in

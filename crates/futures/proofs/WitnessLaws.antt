@@ -30,7 +30,6 @@ use Rattle.futures.specs.Futures.{moved, placeOf}
 use Rattle.futures.specs.Sheet.{holderLine, keepsCheckpoint, keepsMessage}
 use Rattle.futures.specs.Steps.{afterCheckpoint, checkpoint, step}
 use Rattle.tables.specs.Checks.{WellFormed}
-use Rattle.tables.specs.Lists.{any}
 use Rattle.tables.specs.Table.{Message, Table, countOf, messageCount, messageOf, noMessage, processCount}
 
 -- Each process below n outside a set checkpoints once, receiving nothing.

@@ -9,17 +9,18 @@
 use mathlib.Core.Bool.{Bool, true, false, cond, _||_, or-true}
 use mathlib.Core.List.{List, [], _∷_, _++_, append-assoc}
 use mathlib.Core.Path.{_≡_, refl, sym, ap, ap₂, _∙_}
-use Prim.Native.Nat.{ℕ, zero, suc, _+_, _-_, _*_, _≤_, _<_, zero-le, suc-le-suc}
+use Prim.Native.Nat.{ℕ, zero, suc, _+_, _-_, _*_, _≤_, _<_, zero-le}
 use native.Mathlib.Decide.{ℕ-discrete}
 use native.Mathlib.Numerals.{add-one}
 use native.Mathlib.Omega.{arith}
 use borrow.Author.Count.{below-more, below-none}
-use borrow.Author.Tests.{eq-eqb, lt-leb, ne-eqb}
+use borrow.Author.Tests.{eq-eqb, ne-eqb}
 use lib.Dec.{eqb}
 use lib.ListN.{length, getD, set, take, length-append}
 use lib.Seq.{set-append-left, set-append-seam, take-all, take-suc}
+use Rattle.futures.proofs.OrderLaws.{neighbours-rise}
 use Rattle.futures.proofs.StepLaws.{Waiting, good-position, rising, waiting-position}
-use Rattle.futures.specs.Steps.{badPosition, notRising, notRisingAfter}
+use Rattle.futures.specs.Steps.{badPosition, notRising}
 use Rattle.tables.proofs.CodingLaws.{even-number, odd-number}
 use Rattle.tables.proofs.ListLaws.{any-last, any-none, any-some, none-of, or-none, tabulate-more}
 use Rattle.table_writer.proofs.PlaceLaws.{number-within}
@@ -45,21 +46,6 @@ pub record Rising (list : List ℕ) (a : ℕ) : Type 0 where
 
 pub rising-none : (list : List ℕ) → Rising list 1
 rising-none list = record { started = omega arith; rises = λ b l pos. absurd (omega arith) }
-
-follows-none : (x : ℕ) (rest : List ℕ) → ((a : ℕ) → a < length rest → getD (x ∷ rest) a 0 < getD rest a 0) → notRisingAfter x rest ≡ false
-unfolding notRisingAfter
-follows-none x [] h = refl
-follows-none x (y ∷ rest) h = rw (lt-leb y x (h zero (suc-le-suc zero-le))) (follows-none y rest (λ a l. h (suc a) (suc-le-suc l)))
-
--- a list of which each entry rises above the one before it
-neighbours-rise : (list : List ℕ) → ((a : ℕ) → 0 < a → a < length list → getD list (a - 1) 0 < getD list a 0) → notRising list ≡ false
-unfolding notRising
-neighbours-rise [] h = refl
-neighbours-rise (x ∷ rest) h =
-    follows-none x rest
-    (λ a l.
-    let place : suc a - 1 ≡ a = omega arith in
-    rw place at (h (suc a) (omega arith) (suc-le-suc l)))
 
 module _ {list : List ℕ} {a : ℕ} (w : Rising list a) where
   pub rises-all : length list ≤ a → false ≡ notRising list
