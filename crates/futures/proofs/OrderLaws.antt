@@ -1,20 +1,20 @@
 -- Laws of the order of a channel: what check 24 says of a list of positions.
 --     waits-undelivered, undelivered-waits    a message that waits
 --     channel-on                              of three messages, the first and the last have one channel
---     OlderListed                             each older message of a channel that waits is listed
---     passes-none, none-passed, passed-over   a list passes over none just where they are listed; it passes over one that is not
+--     Passed, passes-over, passed-over        a list passes over an older message just where one waits that is not listed
+--     OlderListed, passes-none, none-passed   it passes over none just where each that waits is listed
 --     neighbours-rise                         a list of which each entry rises above the one before it
 -- Assumes nothing.
-use mathlib.Core.Bool.{Bool, true, false, not, _&&_}
+use mathlib.Core.Bool.{Bool, true, false, not, _&&_, true≢false}
 use mathlib.Core.List.{List, [], _∷_}
-use mathlib.Core.Path.{_≡_, refl, _∙_}
+use mathlib.Core.Path.{_≡_, refl, sym, _∙_}
 use Prim.Native.Nat.{ℕ, zero, suc, _-_, _<_, zero-le, suc-le-suc}
 use native.Mathlib.Omega.{arith}
-use borrow.Author.Tests.{eq-eqb, eqb-true, lt-leb, not-false}
+use borrow.Author.Tests.{eq-eqb, eqb-true, lt-leb, not-true}
 use lib.Dec.{eqb}
 use lib.ListN.{length, getD}
 use Rattle.futures.specs.Steps.{notRising, notRisingAfter, passesOver}
-use Rattle.tables.proofs.ListLaws.{anyBelow-found, anyBelow-none, none-below}
+use Rattle.tables.proofs.ListLaws.{and-left, and-right, anyBelow-found, found-below}
 use Rattle.tables.proofs.TurnLaws.{channel-same, one-channel}
 use Rattle.tables.specs.Checks.{sameChannel, waits}
 use Rattle.tables.specs.Lists.{any}
@@ -36,41 +36,59 @@ channel-on a b c first then =
     channel-same a c (ab .0 ∙ bc .0) (ab .1 ∙ bc .1)
 
 -- ---- check 24
+-- The older message at position q, of the channel of position k, waits and is not listed.
+pub record Passed (t : Table) (list : List ℕ) (k q : ℕ) : Type 0 where
+  pub older : q < k
+  pub channel : sameChannel (messageOf t q) (messageOf t k) ≡ true
+  pub undelivered : messageOf t q .received ≡ 0
+  pub unlisted : any (eqb q) list ≡ false
+
 -- Each older message of the channel of position k that waits is listed.
 abbrev pub OlderListed : Table → List ℕ → ℕ → Type 0
 OlderListed t list k =
     (q : ℕ) → q < k → sameChannel (messageOf t q) (messageOf t k) ≡ true → messageOf t q .received ≡ 0 → any (eqb q) list ≡ true
 
 module _ (t : Table) (list : List ℕ) (k : ℕ) where
-  abbrev passed : ℕ → Bool
-  passed q = (sameChannel (messageOf t q) (messageOf t k) && waits (messageOf t q)) && not (any (eqb q) list)
+  pub passes-over : passesOver t list k ≡ true → (q : ℕ) × Passed t list k q
+  unfolding passesOver
+  passes-over e =
+      let found = found-below _ k e in
+      let q = found .0 in
+      let same = sameChannel (messageOf t q) (messageOf t k) in
+      let waiting = waits (messageOf t q) in
+      let other = not (any (eqb q) list) in
+      let both : (same && waiting) ≡ true = and-left (same && waiting) other (found .2) in (
+        q,
+        record {
+          older = found .1;
+          channel = and-left same waiting both;
+          undelivered = waits-undelivered (messageOf t q) (and-right same waiting both);
+          unlisted = not-true (any (eqb q) list) (and-right (same && waiting) other (found .2));
+        },
+      )
+
+  pub passed-over : (q : ℕ) → Passed t list k q → passesOver t list k ≡ true
+  unfolding passesOver
+  passed-over q p =
+      anyBelow-found _ k q (p .older) (rw (p .channel, undelivered-waits (messageOf t q) (p .undelivered), p .unlisted))
 
   pub passes-none : passesOver t list k ≡ false → OlderListed t list k
-  unfolding passesOver
-  passes-none quiet q older same undelivered =
-      let here : passed q ≡ false = none-below passed k quiet q older in
-      not-false (any (eqb q) list) (rw (same, undelivered-waits (messageOf t q) undelivered) at here)
+  passes-none quiet q older channel undelivered = go (any (eqb q) list) refl
+    where
+      go : (b : Bool) → any (eqb q) list ≡ b → b ≡ true
+      go true e = refl
+      go false e =
+          let p : Passed t list k q = record { older = older; channel = channel; undelivered = undelivered; unlisted = e } in
+          absurd (true≢false (sym (passed-over q p) ∙ quiet))
 
   pub none-passed : OlderListed t list k → passesOver t list k ≡ false
-  unfolding passesOver
-  none-passed listed =
-      anyBelow-none passed k
-      (λ q older.
-      go q (sameChannel (messageOf t q) (messageOf t k)) (waits (messageOf t q))
-      (λ same waiting. listed q older same (waits-undelivered (messageOf t q) waiting)) refl refl)
+  none-passed listed = go (passesOver t list k) refl
     where
-      go : (q : ℕ) (c w : Bool)
-          → (sameChannel (messageOf t q) (messageOf t k) ≡ true → waits (messageOf t q) ≡ true → any (eqb q) list ≡ true)
-          → sameChannel (messageOf t q) (messageOf t k) ≡ c → waits (messageOf t q) ≡ w → ((c && w) && not (any (eqb q) list)) ≡ false
-      go q true true is same waiting = rw (is same waiting)
-      go q true false is same waiting = refl
-      go q false w is same waiting = refl
-
-  pub passed-over : (q : ℕ) → q < k → sameChannel (messageOf t q) (messageOf t k) ≡ true → messageOf t q .received ≡ 0
-      → any (eqb q) list ≡ false → passesOver t list k ≡ true
-  unfolding passesOver
-  passed-over q older same undelivered unlisted =
-      anyBelow-found passed k q older (rw (same, undelivered-waits (messageOf t q) undelivered, unlisted))
+      go : (b : Bool) → passesOver t list k ≡ b → b ≡ false
+      go true e =
+          let p = passes-over e .1 in
+          absurd (true≢false (sym (listed _ (p .older) (p .channel) (p .undelivered)) ∙ p .unlisted))
+      go false e = refl
 
 -- ---- a list that rises
 follows-none : (x : ℕ) (rest : List ℕ) → ((a : ℕ) → a < length rest → getD (x ∷ rest) a 0 < getD rest a 0) → notRisingAfter x rest ≡ false
