@@ -2,9 +2,9 @@
 --     receipts-hold    what is claimed of them holds in every well formed table
 -- Assumes nothing.
 use mathlib.Core.Bool.{Bool, true, false, _&&_, false≢true}
-use mathlib.Core.List.{List, [], _∷_}
+use mathlib.Core.List.{List, [], _∷_, _++_}
 use mathlib.Core.Path.{_≡_, refl, sym, ap, _∙_, subst, subst⁻¹}
-use Prim.Native.Nat.{ℕ, _+_, _-_, _<_, _≤_}
+use Prim.Native.Nat.{ℕ, _+_, _-_, _<_, _≤_, zero-le}
 use native.Mathlib.Nat.{le-refl}
 use native.Mathlib.Omega.{arith}
 use borrow.Author.Tests.{eq-eqb, ne-eqb}
@@ -24,10 +24,10 @@ use Rattle.futures.specs.Sheet.{crosses, holderLine, keepsMessage}
 use Rattle.futures.specs.Steps.{afterCheckpoint, afterReceipt, afterRollback, checkpoint, notRising, receiptChecks, receive, remaining}
 use Rattle.futures.specs.Steps.{rollback, stays, step, waitsFor}
 use Rattle.futures.specs.Unsaved.{Receipts, Unsaved, waitingUpTo}
-use Rattle.tables.proofs.ListLaws.{and-left, and-right}
+use Rattle.tables.proofs.ListLaws.{and-left, and-right, select-gap, select-more}
 use Rattle.tables.proofs.TurnLaws.{channel-same, one-channel}
 use Rattle.tables.specs.Checks.{WellFormed, firstCaught, sameChannel, waits}
-use Rattle.tables.specs.Lists.{any, anyBelow}
+use Rattle.tables.specs.Lists.{any, anyBelow, select}
 use Rattle.tables.specs.Table.{Message, Table, countOf, messageCount, messageOf, processCount}
 
 -- ---- the waiting messages of a channel, up to one
@@ -62,6 +62,22 @@ module _ (t : Table) (k : ℕ) where
   together-rises : notRising together ≡ false
   unfolding waitingUpTo Ordered
   together-rises = neighbours-rise together (λ a pos l. select-ordered test (k + 1) (a - 1) a 0 (omega arith) l)
+
+  -- none but k itself, where no older one waits
+  together-alone : waits (messageOf t k) ≡ true
+      → ((q : ℕ) → q < k → sameChannel (messageOf t q) (messageOf t k) ≡ true → waits (messageOf t q) ≡ true → ⊥)
+      → together ≡ k ∷ []
+  unfolding waitingUpTo select
+  together-alone waiting none =
+      let m = messageOf t k in
+      let here : test k ≡ true = rw (channel-same m m refl refl, waiting) in
+      select-more test k here ∙ ap (λ (l : List ℕ). l ++ (k ∷ [])) (select-gap test 0 k zero-le (λ q _ before. older q before (test q) refl))
+    where
+      older : (q : ℕ) → q < k → (b : Bool) → test q ≡ b → b ≡ false
+      older q before true e =
+          let same = sameChannel (messageOf t q) (messageOf t k) in
+          absurd (none q before (and-left same (waits (messageOf t q)) e) (and-right same (waits (messageOf t q)) e))
+      older q before false e = refl
 
 module _ (t : Table) (w : WellFormed t) where
   -- ---- a message that waits, received with those of its channel that wait before it
@@ -106,6 +122,12 @@ module _ (t : Table) (w : WellFormed t) where
     received-in-turn : Unsaved (endOf t (receive i (waitingUpTo t k) ∷ [])) k
     unfolding endOf
     received-in-turn = subst⁻¹ (λ (x : Table). Unsaved x k) taken unsaved
+
+    received-first : ((q : ℕ) → q < k → sameChannel (messageOf t q) (messageOf t k) ≡ true → waits (messageOf t q) ≡ true → ⊥)
+        → Unsaved (endOf t (receive i (k ∷ []) ∷ [])) k
+    received-first none =
+        subst (λ (list : List ℕ). Unsaved (endOf t (receive i list ∷ [])) k)
+        (together-alone t k (undelivered-waits (messageOf t k) (waiting .undelivered)) none) received-in-turn
 
   -- ---- received alone, it would pass over an older one
   module _ (i q k : ℕ) (before : q < k) (same : sameChannel (messageOf t q) (messageOf t k) ≡ true) (older : waits (messageOf t q) ≡ true) where
@@ -187,6 +209,7 @@ pub receipts-hold : (t : Table) → WellFormed t → Receipts t
 receipts-hold t w =
     record {
       received = received-in-turn t w;
+      received-alone = received-first t w;
       passed-over = alone-leaves t w;
       nothing-lost = none-lost t w;
       of-nothing = none-received t w;

@@ -21,15 +21,19 @@ Unsaved t k = (k < messageCount t) × (messageOf t k .received ≡ countOf t (me
 unfoldable pub waitingUpTo : Table → ℕ → List ℕ
 waitingUpTo t k = select (λ q. sameChannel (messageOf t q) (messageOf t k) && waits (messageOf t q)) (k + 1)
 
--- A message that waits for a process is received in some future, after the older ones of its channel that wait, and is
--- there at its end, unsaved. Where an older one of its channel waits, a receipt or a checkpoint of it alone leaves the
--- table. A receipt keeps every checkpoint, and every message at its position; one of nothing leaves the table. An
--- unsaved message stays as it is in a checkpoint of its receiver, and lies below the count then: it is saved. A
--- rollback leaves none; one whose send remains is there after it, undelivered. The sheet keeps one just where it
+-- A message that waits for a process is received in some future, with the older ones of its channel that wait, and is
+-- there at its end, unsaved; alone, where no older one waits. Where one does, a receipt or a checkpoint of it alone
+-- leaves the table. A receipt keeps every checkpoint, and every message at its position; one of nothing leaves the
+-- table. An unsaved message stays as it is in a checkpoint of its receiver, and lies below the count then: it is saved.
+-- A rollback leaves none; one whose send remains is there after it, undelivered. The sheet keeps one just where it
 -- crosses the line of some single holder.
 pub record Receipts (t : Table) : Type 0 where
   pub received : (i k : ℕ) → k < messageCount t → waitsFor i (messageOf t k) ≡ true
       → Unsaved (endOf t (receive i (waitingUpTo t k) ∷ [])) k
+  pub received-alone : (i k : ℕ) → k < messageCount t → waitsFor i (messageOf t k) ≡ true
+      → ((q : ℕ) → q < k → sameChannel (messageOf t q) (messageOf t k) ≡ true
+      → waits (messageOf t q) ≡ true → ⊥)
+      → Unsaved (endOf t (receive i (k ∷ []) ∷ [])) k
   pub passed-over : (i q k : ℕ) → q < k → sameChannel (messageOf t q) (messageOf t k) ≡ true
       → waits (messageOf t q) ≡ true
       → (step t (receive i (k ∷ [])) ≡ t) × (step t (checkpoint i (k ∷ [])) ≡ t)
