@@ -1,5 +1,5 @@
 -- The laws of steps, futures and the sheet.
---     OrderLaws      what check 24 says of the list of a receipt or a checkpoint
+--     OrderLaws      the list of a receipt or a checkpoint: what it passes over, and how it rises
 --     StepLaws       what each step does
 --     FutureLaws     what a list of steps keeps of the run that it starts from
 --     HeldLaws       held lines, and how they move over the steps

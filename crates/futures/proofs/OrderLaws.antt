@@ -1,4 +1,4 @@
--- Laws of the order of a channel: what check 24 says of a list of positions.
+-- Laws of a list of positions: which older messages of a channel it passes over (check 24), and how it rises.
 --     waits-undelivered, undelivered-waits    a message that waits
 --     channel-on                              of three messages, the first and the last have one channel
 --     Passed, passes-over, passed-over        a list passes over an older message just where one waits that is not listed
@@ -90,7 +90,7 @@ module _ (t : Table) (list : List ℕ) (k : ℕ) where
           absurd (true≢false (sym (listed _ (p .older) (p .channel) (p .undelivered)) ∙ p .unlisted))
       go false e = refl
 
--- ---- a list that rises
+-- ---- a list of which each entry rises above the one before it
 follows-none : (x : ℕ) (rest : List ℕ) → ((a : ℕ) → a < length rest → getD (x ∷ rest) a 0 < getD rest a 0) → notRisingAfter x rest ≡ false
 unfolding notRisingAfter
 follows-none x [] h = refl
