@@ -77,7 +77,8 @@ module _ {channel : ℕ → ℕ} {k : ℕ} {last : List ℕ} (w : Lasts channel 
   unfolding lastIn
   lasts-more = record { size = length-set last c (k + 1) ∙ w .size; places = λ c′ inside. rw (add-one k) (go c′ inside (ℕ-discrete c′ c)) }
     where
-      go : (c′ : ℕ) → c′ < 1024 → Dec (c′ ≡ c) → getD (set last c (suc k)) c′ 0 ≡ cond (eqb (channel k) c′) (suc k) (lastIn channel k c′)
+      go : (c′ : ℕ) → c′ < 1024 → Dec (c′ ≡ c)
+          → getD (set last c (suc k)) c′ 0 ≡ cond (eqb (channel k) c′) (suc k) (lastIn channel k c′)
       go c′ inside (yes same) =
           rw (same, eq-eqb (channel k) c (sym is-channel)) (getD-set-same last c (suc k) 0 (omega (arith, small, w .size)))
       go c′ inside (no other) =

@@ -53,7 +53,7 @@ sendCallChecks table from to =
     onTable table (sendChecks (decode table) from to
     ++ (record { caught = leb mostMessages (messageCount (decode table)); number = 14 } ∷ []))
 
--- A receipt: the table's; 10 and 13.
+-- A receipt: the table's; 10, 13 and 24.
 unfoldable pub receiptCallChecks : List ℕ → ℕ → List ℕ → List Check
 receiptCallChecks table process list = onTable table (receiptChecks (decode table) process list)
 

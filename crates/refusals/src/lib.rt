@@ -4,6 +4,7 @@ use chosen_ceilings::above_counts;
 use marks::marks_size;
 use named_checkpoints::not_below_counts;
 use named_checkpoints::unknown_process;
+use passed_over::passes_over;
 use process_set::has_high_bit;
 use run_table::checks::check;
 use steps::receipts::bad_position;
@@ -111,7 +112,7 @@ pub fn send_refusal(table: &[u8], from: u16, to: u16) -> u32
     0
 }
 
-// A receipt: the table's checks, 10, 13.
+// A receipt: the table's checks, 10, 13, 24.
 pub fn receipt_refusal(table: &[u8], process: u16, list: &[u16]) -> u32
     ensures { λ r. ⌜ r ≡ firstCaught (receiptCallChecks (now (table .entry)) process (now (list .entry))) ⌝ }
 {
@@ -128,10 +129,13 @@ pub fn receipt_refusal(table: &[u8], process: u16, list: &[u16]) -> u32
     if not_rising(list) {
         return 13;
     }
+    if passes_over(table, process, list) {
+        return 24;
+    }
     0
 }
 
-// A checkpoint: the table's checks, 10, 13, 14.
+// A checkpoint: the table's checks, 10, 13, 24, 14.
 pub fn checkpoint_refusal(table: &[u8], process: u16, list: &[u16]) -> u32
     ensures { λ r. ⌜ r ≡ firstCaught (checkpointCallChecks (now (table .entry)) process (now (list .entry))) ⌝ }
 {

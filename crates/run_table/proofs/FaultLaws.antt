@@ -2,7 +2,8 @@
 -- checking order, whatever the numbers are.
 --     Past, past-none .. past-all    one check after another: the place of the first that catches
 --     none-caught, quiet-at          where none catches
---     place-within, number-there     it is no further than the list's end, and the refusal is the number that stands there; behind the last, that of a check that catches
+--     place-within, number-there     it is no further than the list's end, and the refusal is the number that stands there, with one that
+--                                    catches behind the last
 --     Looked, looked-none .. looked-all    the loop over the messages
 -- Assumes nothing.
 use mathlib.Core.Bool.{Bool, true, false, cond, _||_}

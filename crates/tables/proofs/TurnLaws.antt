@@ -10,7 +10,8 @@ use Prim.Native.Nat.{ℕ, _+_, _<_, _≤_}
 use native.Mathlib.Omega.{arith}
 use borrow.Author.Tests.{eq-eqb, eqb-false, eqb-true, le-ltb, ltb-false, ne-eqb}
 use lib.Dec.{eqb, ltb}
-use Rattle.tables.proofs.ListLaws.{and-left, and-right, anyBelow-ext, anyBelow-found, anyBelow-none, found-below, none-below, or-false-left, or-false-right}
+use Rattle.tables.proofs.ListLaws.{and-left, and-right, anyBelow-ext, anyBelow-found, anyBelow-none, found-below, none-below, or-false-left}
+use Rattle.tables.proofs.ListLaws.{or-false-right}
 use Rattle.tables.specs.Checks.{InTurn, brokenBelow, brokenChannel, outOfTurn, sameChannel, waits}
 use Rattle.tables.specs.Lists.{anyBelow}
 use Rattle.tables.specs.Table.{Message, Table, messageCount, messageOf}

@@ -68,7 +68,19 @@ receipt-refusal-spec =
     own-caught _ _ (accepted (judged (known good)))
     (passed _ _ _ (past-ten (known good))
     (stopped _ _ (second-of _ _ (sym (good .before .bad-position .ensures) ∙ good .if3 .left) (sym (c .before .not-rising .ensures) ∙ c .if4 .taken)))))
+    -- 24
+    (λ c κs.
+    let good = waiting c in
+    (accepted (judged (known good)), (sym (good .before .bad-position .ensures) ∙ good .if3 .left, sym (c .before .not-rising .ensures) ∙ c .if4 .left)))
+    (λ c.
+    let rising = c .before .before in
+    let here = known (waiting rising) in
+    own-caught _ _ (accepted (judged here))
+    (passed _ _ _ (past-ten here) (passed _ _ _ (past-thirteen rising) (stopped _ _ (sym (c .before .passes-over .ensures) ∙ c .if5 .taken)))))
     -- none
     (λ c.
-    let here = known (waiting c) in
-    own-caught _ _ (accepted (judged here)) (passed _ _ _ (past-ten here) (passed _ _ _ (past-thirteen c) quiet-none))))
+    let rising = c .before .before in
+    let here = known (waiting rising) in
+    own-caught _ _ (accepted (judged here))
+    (passed _ _ _ (past-ten here)
+    (passed _ _ _ (past-thirteen rising) (passed _ _ _ (sym (c .before .passes-over .ensures) ∙ c .if5 .left) quiet-none)))))

@@ -4,7 +4,7 @@ use borrow.Author.Needs.{needs}
 use native.Mathlib.Omega.{arith}
 use mathlib.Core.Path.{sym, _∙_}
 use Prim.Native.Nat.{_-_}
-use Rattle.run_table.proofs.OrderLaws.{Turned, here, turned-all, turned-broken, turned-fault, turned-more, turned-none}
+use Rattle.run_table.proofs.ThroughLaws.{Turned, here, turned-all, turned-broken, turned-fault, turned-more, turned-none}
 use Rattle.run_table.proofs.checks.first_caught.Statement.{statement}
 use Rattle.run_table.proofs.checks.first_caught.Tie as tie
 
