@@ -10,8 +10,8 @@ use Rattle.consistency.proofs.CeilingLaws.{ceiling-checked}
 use Rattle.marking.proofs.SameLine.{same-line}
 use Rattle.marking.specs.Procedure.{EndsWith}
 use Rattle.tables.proofs.AcceptLaws.{facts}
-use Rattle.tables.specs.Checks.{badCount, badLength, badProcessCount, badReceipt, badSend, firstCaught, outside, tableChecks, tableRefusal}
-use Rattle.tables.specs.Checks.{toItself, tooManyMessages, tooShort, unknownProcess}
+use Rattle.tables.specs.Checks.{badCount, badLength, badProcessCount, badReceipt, badSend, brokenBelow, brokenChannel, firstCaught, outOfTurn, outside}
+use Rattle.tables.specs.Checks.{sameChannel, tableChecks, tableRefusal, toItself, tooManyMessages, tooShort, unknownProcess, waits}
 use Rattle.tables.specs.Format.{checkpointAt, countAt, countsPart, decode, encode, entriesOf, messageAt, messagesIn, processAt, processesIn}
 use Rattle.tables.specs.Format.{receiptsPart, sendsPart}
 use Rattle.tables.specs.Lists.{any, anyBelow, rows, select, sum, tabulate}
@@ -20,8 +20,8 @@ use Rattle.tables.specs.Table.{countOf, messageCount, messageOf, processCount}
 use Rattle.consistency.specs.Ceilings.{aboveCounts, ceilingOf, lineOf, recoveryLine, single}
 use Rattle.consistency.specs.Lowering.{isOrphan, lineUnder, lower, pass, passes}
 use Rattle.process_set.specs.Sets.{highBit, member}
-use Rattle.futures.specs.Steps.{afterCheckpoint, afterReceipt, afterRollback, badPosition, notRising, notRisingAfter, putBack, receiptChecks, receivedAt}
-use Rattle.futures.specs.Steps.{remaining, stays, waitsFor}
+use Rattle.futures.specs.Steps.{afterCheckpoint, afterReceipt, afterRollback, badPosition, notRising, notRisingAfter, passesOver, putBack, receiptChecks}
+use Rattle.futures.specs.Steps.{receivedAt, remaining, stays, waitsFor}
 use Rattle.futures.specs.Sheet.{crosses, holderLine, keepsCheckpoint, keepsMessage, keptCheckpoints, keptMessages, sheet}
 use Rattle.keeper.specs.Answers.{answer, unless}
 use Rattle.keeper.specs.Calls.{checkpointAnswer, keepSheetAnswer, lineAnswer, lineOfSetAnswer, lineUnderAnswer, markedLineAnswer, receiptAnswer}
@@ -37,53 +37,57 @@ use Rattle.keeper.specs.Cases.{ZigzagExample, figureOne, oneInterval, st
 use Rattle.keeper.specs.Cases.{crossing, full, oneMessage, receiptCases, sameBytes, savedA, tableA, tableB, tableC, tableD, tenMarks, unsavedA}
 
 pub marked-cases : allHold markedCases ≡ true
-unfolding firstCaught outside tooShort badProcessCount tooManyMessages badLength badCount unknownProcess toItself badSend badReceipt tableChecks
-    tableRefusal processesIn messagesIn countsPart sendsPart receiptsPart countAt processAt checkpointAt messageAt decode entriesOf encode u16At
-    u16Bytes u16s tabulate any anyBelow processCount messageCount countOf messageOf ceilingOf lineOf recoveryLine single isOrphan lower pass passes
-    sum lineUnder member highBit stays putBack remaining afterRollback holderLine keepsCheckpoint crosses keepsMessage select rows keptCheckpoints
-    keptMessages sheet unless answer lineAnswer recoveryLineAnswer lineOfSetChecks lineOfSetAnswer keepSheetChecks keepSheetAnswer rollbackAnswer tableA tableB
-    tableC tableD lateReceipt lateSend answerOf sameBytes sameAnswer allHold markedCases
+unfolding firstCaught outside tooShort badProcessCount tooManyMessages badLength badCount unknownProcess toItself badSend badReceipt sameChannel waits
+    outOfTurn brokenBelow brokenChannel tableChecks tableRefusal processesIn messagesIn countsPart sendsPart receiptsPart countAt processAt
+    checkpointAt messageAt decode entriesOf encode u16At u16Bytes u16s tabulate any anyBelow processCount messageCount countOf messageOf ceilingOf
+    lineOf recoveryLine single isOrphan lower pass passes sum lineUnder member highBit stays putBack remaining afterRollback holderLine
+    keepsCheckpoint crosses keepsMessage select rows keptCheckpoints keptMessages sheet unless answer lineAnswer recoveryLineAnswer lineOfSetChecks
+    lineOfSetAnswer keepSheetChecks keepSheetAnswer rollbackAnswer tableA tableB tableC tableD lateReceipt lateSend answerOf sameBytes sameAnswer
+    allHold markedCases
 marked-cases = refl
 
 pub ceiling-cases : allHold ceilingCases ≡ true
-unfolding firstCaught outside tooShort badProcessCount tooManyMessages badLength badCount unknownProcess toItself badSend badReceipt tableChecks
-    tableRefusal processesIn messagesIn countsPart sendsPart receiptsPart countAt processAt checkpointAt messageAt decode u16At u16Bytes u16s
-    tabulate any anyBelow processCount messageCount countOf messageOf isOrphan lower pass passes sum lineUnder unless answer lineAnswer tableA
-    tableB tableD lateReceipt answerOf sameBytes sameAnswer allHold aboveCounts lineUnderChecks lineUnderAnswer ceilingCases
+unfolding firstCaught outside tooShort badProcessCount tooManyMessages badLength badCount unknownProcess toItself badSend badReceipt sameChannel waits
+    outOfTurn brokenBelow brokenChannel tableChecks tableRefusal processesIn messagesIn countsPart sendsPart receiptsPart countAt processAt
+    checkpointAt messageAt decode u16At u16Bytes u16s tabulate any anyBelow processCount messageCount countOf messageOf isOrphan lower pass passes sum
+    lineUnder unless answer lineAnswer tableA tableB tableD lateReceipt answerOf sameBytes sameAnswer allHold aboveCounts lineUnderChecks
+    lineUnderAnswer ceilingCases
 ceiling-cases = refl
 
 pub marking-cases : allHold markingCases ≡ true
-unfolding firstCaught outside tooShort badProcessCount tooManyMessages badLength badCount unknownProcess toItself badSend badReceipt tableChecks
-    tableRefusal processesIn messagesIn countsPart sendsPart receiptsPart countAt processAt checkpointAt messageAt decode u16At u16Bytes u16s
-    tabulate any anyBelow processCount messageCount countOf messageOf isOrphan lower pass passes sum lineUnder unless answer lineAnswer tableA
-    tableB tableD nineMarks tenMarks lateReceipt answerOf sameBytes sameAnswer allHold aboveCounts lineUnderChecks marksSize markedLineChecks
-    markedLineAnswer markingCases
+unfolding firstCaught outside tooShort badProcessCount tooManyMessages badLength badCount unknownProcess toItself badSend badReceipt sameChannel waits
+    outOfTurn brokenBelow brokenChannel tableChecks tableRefusal processesIn messagesIn countsPart sendsPart receiptsPart countAt processAt
+    checkpointAt messageAt decode u16At u16Bytes u16s tabulate any anyBelow processCount messageCount countOf messageOf isOrphan lower pass passes sum
+    lineUnder unless answer lineAnswer tableA tableB tableD nineMarks tenMarks lateReceipt answerOf sameBytes sameAnswer allHold aboveCounts
+    lineUnderChecks marksSize markedLineChecks markedLineAnswer markingCases
 marking-cases = refl
 
 pub receipt-cases : allHold receiptCases ≡ true
-unfolding firstCaught outside tooShort badProcessCount tooManyMessages badLength badCount unknownProcess toItself badSend badReceipt tableChecks
-    tableRefusal processesIn messagesIn countsPart sendsPart receiptsPart countAt processAt checkpointAt messageAt decode entriesOf encode u16At
-    u16Bytes u16s tabulate any anyBelow processCount messageCount countOf messageOf ceilingOf lineOf recoveryLine single isOrphan lower pass passes
-    sum lineUnder member highBit stays putBack remaining afterRollback holderLine keepsCheckpoint crosses keepsMessage select rows keptCheckpoints
-    keptMessages sheet unless answer lineAnswer lineOfSetChecks lineOfSetAnswer keepSheetChecks keepSheetAnswer rollbackAnswer aboveCounts
-    lineUnderChecks marksSize markedLineChecks markedLineAnswer waitsFor badPosition notRisingAfter notRising receiptChecks receivedAt afterReceipt
-    afterCheckpoint receiptCallChecks checkpointCallChecks receiptAnswer checkpointAnswer tableA lateReceipt unsavedA savedA crossing oneMessage full
-    answerOf sameBytes sameAnswer allHold receiptCases
+unfolding firstCaught outside tooShort badProcessCount tooManyMessages badLength badCount unknownProcess toItself badSend badReceipt sameChannel waits
+    outOfTurn brokenBelow brokenChannel tableChecks tableRefusal processesIn messagesIn countsPart sendsPart receiptsPart countAt processAt
+    checkpointAt messageAt decode entriesOf encode u16At u16Bytes u16s tabulate any anyBelow processCount messageCount countOf messageOf ceilingOf
+    lineOf recoveryLine single isOrphan lower pass passes sum lineUnder member highBit stays putBack remaining afterRollback holderLine
+    keepsCheckpoint crosses keepsMessage select rows keptCheckpoints keptMessages sheet unless answer lineAnswer lineOfSetChecks lineOfSetAnswer
+    keepSheetChecks keepSheetAnswer rollbackAnswer aboveCounts lineUnderChecks marksSize markedLineChecks markedLineAnswer waitsFor badPosition
+    notRisingAfter notRising passesOver receiptChecks receivedAt afterReceipt afterCheckpoint receiptCallChecks checkpointCallChecks receiptAnswer
+    checkpointAnswer tableA lateReceipt unsavedA savedA crossing oneMessage full answerOf sameBytes sameAnswer allHold receiptCases
 receipt-cases = refl
 
 pub standing-cases : allHold standingCases ≡ true
-unfolding firstCaught outside tooShort badProcessCount tooManyMessages badLength badCount unknownProcess toItself badSend badReceipt tableChecks
-    tableRefusal processesIn messagesIn countsPart sendsPart receiptsPart countAt processAt checkpointAt messageAt decode u16At u16Bytes u16s
-    tabulate any anyBelow processCount messageCount countOf messageOf isOrphan lower pass passes sum lineUnder unless answer notRisingAfter notRising
-    unknownNamed notBelowCounts putNamed namedCeiling namedLine misses standTogetherChecks standingBytes standTogetherAnswer tableA tableD lateReceipt
-    unsavedA crossing figureOne oneInterval answerOf sameBytes sameAnswer allHold standingCases
+unfolding firstCaught outside tooShort badProcessCount tooManyMessages badLength badCount unknownProcess toItself badSend badReceipt sameChannel waits
+    outOfTurn brokenBelow brokenChannel tableChecks tableRefusal processesIn messagesIn countsPart sendsPart receiptsPart countAt processAt
+    checkpointAt messageAt decode u16At u16Bytes u16s tabulate any anyBelow processCount messageCount countOf messageOf isOrphan lower pass passes sum
+    lineUnder unless answer notRisingAfter notRising unknownNamed notBelowCounts putNamed namedCeiling namedLine misses standTogetherChecks
+    standingBytes standTogetherAnswer tableA tableD lateReceipt unsavedA crossing figureOne oneInterval answerOf sameBytes sameAnswer allHold
+    standingCases
 standing-cases = refl
 
 -- by the theorem: the procedure ends, and with the computed line
 pub marking-example : MarkingExample
-unfolding firstCaught outside tooShort badProcessCount tooManyMessages badLength badCount unknownProcess toItself badSend badReceipt tableChecks
-    tableRefusal processesIn messagesIn countsPart sendsPart receiptsPart countAt processAt checkpointAt messageAt decode u16At u16Bytes u16s
-    tabulate any anyBelow processCount messageCount countOf messageOf isOrphan lower pass passes sum lineUnder tableA aboveCounts MarkingExample
+unfolding firstCaught outside tooShort badProcessCount tooManyMessages badLength badCount unknownProcess toItself badSend badReceipt sameChannel waits
+    outOfTurn brokenBelow brokenChannel tableChecks tableRefusal processesIn messagesIn countsPart sendsPart receiptsPart countAt processAt
+    checkpointAt messageAt decode u16At u16Bytes u16s tabulate any anyBelow processCount messageCount countOf messageOf isOrphan lower pass passes sum
+    lineUnder tableA aboveCounts MarkingExample
 marking-example =
     let ceilings : List ℕ = 2 ∷ 2 ∷ [] in
     let agrees = same-line (decode tableA) (facts tableA refl .well-formed) ceilings (ceiling-checked (decode tableA) ceilings refl refl) in

@@ -80,7 +80,7 @@ module _ {table : List ℕ} where
   module _ (i : ℕ) (list : List ℕ) (q : QuietCall table (receiptCallChecks table i list)) where
     receipt-quiet : firstCaught (receiptChecks (decode table) i list) ≡ 0
     unfolding receiptCallChecks receiptChecks tableChecks caughtBy
-    receipt-quiet = passed _ _ 0 (quiet-by q 10) (passed _ _ 0 (quiet-by q 13) quiet-none)
+    receipt-quiet = passed _ _ 0 (quiet-by q 10) (passed _ _ 0 (quiet-by q 13) (passed _ _ 0 (quiet-by q 24) quiet-none))
 
     pub can-receive : CanReceive table i list
     can-receive = record {
