@@ -5,7 +5,7 @@
 use std::collections::{BTreeSet, HashSet};
 
 use crate::lines::line_of_run;
-use crate::steps::{do_fall_back, do_receive, do_save, do_send};
+use crate::steps::{do_fall_back, do_receive, do_save, do_send, passes_over};
 use crate::table::Table;
 
 /// A table that some list of steps reached, with what became of the states and
@@ -77,9 +77,10 @@ impl Reached {
 
     /// Every table one step further. "A send names any two processes, a save
     /// any process and any list of positions", and "Futures gain the receiving
-    /// step", which "takes a process and a list as a save does". Steps that 10,
-    /// 11 or 13 catch leave the table as it is, and so does a receipt of nothing:
-    /// they lead nowhere new and are left out.
+    /// step", which "takes a process and a list as a save does". "Futures receive
+    /// only in that order", the one in which a channel's messages were sent. Steps
+    /// that 10, 11, 13 or 24 catch leave the table as it is, and so does a receipt
+    /// of nothing: they lead nowhere new and are left out.
     fn one_step_on(&self, steps: Steps) -> Vec<Reached> {
         let n = self.table.processes();
         let mut all = vec![self.after_fall_back()];
@@ -95,6 +96,9 @@ impl Reached {
                     .filter(|&at| (choice >> at) & 1 == 1)
                     .map(|at| waiting[at])
                     .collect();
+                if passes_over(&self.table, &list) {
+                    continue;
+                }
                 all.push(self.after_save(i, &list));
                 if steps == Steps::All && !list.is_empty() {
                     all.push(self.after_receipt(i, &list));
@@ -187,7 +191,7 @@ pub fn ends(table: &Table, depth: usize, steps: Steps) -> HashSet<Table> {
 #[cfg(test)]
 mod tests {
     use super::*;
-    use crate::table::Message;
+    use crate::table::{out_of_turn_in_pairs, Message};
 
     /// Example A of the scope document.
     fn example_a() -> Table {
@@ -243,6 +247,30 @@ mod tests {
         assert_eq!(after.table, table);
         assert_eq!(after.message_at, [Some(0)]);
         assert_eq!(after.state_there, vec![vec![true, true], vec![true]]);
+    }
+
+    /// Messages 0 and 1 are of one channel, 2 is of another. Of the lists of a
+    /// save or receipt by process 1 none has message 1 without message 0: that
+    /// leaves 6 of 8, one of which is empty.
+    #[test]
+    fn a_channel_is_received_in_turn() {
+        let table = Table {
+            counts: vec![1, 1, 1],
+            messages: vec![
+                Message::new((0, 0), (1, 0)),
+                Message::new((0, 0), (1, 0)),
+                Message::new((2, 0), (1, 0)),
+            ],
+        };
+        // One fall back, six sends, one save each by 0 and 2.
+        for (steps, tried) in [(Steps::All, 9 + 6 + 5), (Steps::WithoutReceipts, 9 + 6)] {
+            assert_eq!(Reached::first(&table).one_step_on(steps).len(), tried);
+        }
+        for steps in [Steps::All, Steps::WithoutReceipts] {
+            for end in ends(&table, 3, steps) {
+                assert!(!out_of_turn_in_pairs(&end.messages), "{end:?}");
+            }
+        }
     }
 
     #[test]

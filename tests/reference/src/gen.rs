@@ -2,11 +2,14 @@
 //! them up to a size; and ceilings and names of states for a table. The same
 //! seed always gives the same table.
 
+use std::cmp::Reverse;
+use std::collections::BTreeMap;
+
 use crate::lines::line_by_work_list;
 use crate::steps::{do_fall_back, do_receive, do_save, do_send};
 use crate::table::{
-    count, messages, processes, receiver, sender, Message, Table, MOST_MESSAGES, MOST_PROCESSES,
-    MOST_STATES, TABLE_CHECKS,
+    count, messages, out_of_turn_in_pairs, processes, receiver, sender, Message, Table,
+    MOST_MESSAGES, MOST_PROCESSES, MOST_STATES, TABLE_CHECKS,
 };
 
 // ---------------------------------------------------------------------------
@@ -62,6 +65,132 @@ impl Rng {
 }
 
 // ---------------------------------------------------------------------------
+// Channels in order.
+
+/// The positions of each channel, rising, by sender and then receiver.
+pub fn channels(messages: &[Message]) -> Vec<Vec<usize>> {
+    let mut all: BTreeMap<(usize, usize), Vec<usize>> = BTreeMap::new();
+    for (k, message) in messages.iter().enumerate() {
+        let channel = (message.sender, message.receiver);
+        all.entry(channel).or_default().push(k);
+    }
+    all.into_values().collect()
+}
+
+/// Puts the messages of each channel in turn: its send numbers rise from position
+/// to position, and so do its receipt numbers, those that wait last. Each channel
+/// has the numbers that it had, and keeps its positions.
+pub fn put_in_turn(messages: &mut [Message]) {
+    for positions in channels(messages) {
+        let mut sends: Vec<u32> = positions.iter().map(|&k| messages[k].sent).collect();
+        let mut receipts: Vec<u32> = positions.iter().map(|&k| messages[k].received).collect();
+        sends.sort_unstable();
+        receipts.sort_unstable_by_key(|&received| (received == 0, received));
+        for (at, &k) in positions.iter().enumerate() {
+            messages[k].sent = sends[at];
+            messages[k].received = receipts[at];
+        }
+    }
+}
+
+/// Of the positions waiting for a process, rising, as many of each channel as
+/// were chosen, the oldest ones, so that none is passed over.
+pub fn oldest_as_many(table: &Table, waiting: &[usize], chosen: &[usize]) -> Vec<usize> {
+    let mut many = vec![0; table.processes()];
+    for &k in chosen {
+        many[table.messages[k].sender] += 1;
+    }
+    let mut list = waiting.to_vec();
+    list.retain(|&k| {
+        let left = &mut many[table.messages[k].sender];
+        let taken = *left > 0;
+        *left -= usize::from(taken);
+        taken
+    });
+    list
+}
+
+/// A way in which a later message of a channel breaks its order.
+#[derive(Clone, Copy, Debug, PartialEq, Eq)]
+pub enum Fault {
+    /// Its send number is smaller.
+    Sent,
+    /// It is received while the earlier one waits.
+    Waiting,
+    /// Both are received, and its receipt number is smaller.
+    Received,
+}
+
+impl Fault {
+    /// All the ways.
+    pub const ALL: [Fault; 3] = [Fault::Sent, Fault::Waiting, Fault::Received];
+}
+
+/// Breaks the order of one channel of an accepted table in this way, and in no
+/// other: of two messages which already are of one channel, or become so. `None`
+/// for a table of fewer than two messages, or where the counts do not have two
+/// numbers for it.
+pub fn put_out_of_turn(rng: &mut Rng, table: &Table, fault: Fault) -> Option<Table> {
+    let mut broken = table.clone();
+    let m = table.messages.len();
+    if m < 2 {
+        return None;
+    }
+    let mut many = channels(&table.messages);
+    many.retain(|positions| positions.len() > 1);
+    if many.is_empty() || rng.chance(1, 4) {
+        let later = rng.between(1, m - 1);
+        let earlier = rng.between(0, later - 1);
+        broken.messages[later] = broken.messages[earlier];
+        put_in_turn(&mut broken.messages);
+        many = channels(&broken.messages);
+        many.retain(|positions| positions.contains(&earlier));
+    }
+    let positions = &many[rng.between(0, many.len() - 1)];
+    let at = rng.between(1, positions.len() - 1);
+    let later = positions[at];
+    let earlier = positions[rng.between(0, at - 1)];
+    let Message {
+        sender, receiver, ..
+    } = broken.messages[later];
+    let last = table.counts[sender] as usize - 1;
+    let count = table.counts[receiver] as usize;
+    let messages = &mut broken.messages;
+    match fault {
+        Fault::Sent => {
+            if last == 0 {
+                return None;
+            }
+            let sent = rng.between(1, last);
+            messages[earlier].sent = sent as u32;
+            messages[later].sent = rng.between(0, sent - 1) as u32;
+        }
+        Fault::Waiting => {
+            if messages[later].waiting() {
+                let before = positions[..at].iter().map(|&k| messages[k].received);
+                let least = before.max().unwrap_or(0).max(1);
+                messages[later].received = rng.between(least as usize, count) as u32;
+            }
+            messages[earlier].received = 0;
+        }
+        Fault::Received => {
+            if count == 1 {
+                return None;
+            }
+            for &k in &positions[..at] {
+                if messages[k].waiting() {
+                    messages[k].received = count as u32;
+                }
+            }
+            let received = rng.between(1, count - 1);
+            messages[later].received = received as u32;
+            messages[earlier].received = rng.between(received + 1, count) as u32;
+        }
+    }
+    Some(broken)
+}
+
+// ---------------------------------------------------------------------------
 // Accepted tables by chance. Each kind is made with unsaved messages, and as it
 // was before document 02, §4, without them.
 
@@ -69,7 +198,7 @@ impl Rng {
 /// ends soon after the m-th message, or after a bounded number of steps. Half
 /// of the histories fall back now and then. Follows "Send from j to i", "Save
 /// by i" and "Fall back" of the section on steps, and document 02, §4: "A step
-/// that receives is added".
+/// that receives is added". It receives each channel's messages in the order sent.
 pub fn history(rng: &mut Rng, n: usize, m: usize) -> Table {
     let receive_share = rng.between(5, 70);
     history_with(rng, n, m, receive_share)
@@ -105,8 +234,10 @@ fn history_with(rng: &mut Rng, n: usize, m: usize, receive_share: usize) -> Tabl
             let i = rng.between(0, n - 1);
             let receives = receive_share > 0 && rng.chance(receive_share, 100);
             if receives || table.counts[i] < MOST_STATES {
-                let mut list = table.waiting_for(i);
-                list.retain(|_| rng.chance(take_share, 100));
+                let waiting = table.waiting_for(i);
+                let mut chosen = waiting.clone();
+                chosen.retain(|_| rng.chance(take_share, 100));
+                let list = oldest_as_many(&table, &waiting, &chosen);
                 if receives {
                     do_receive(&mut table, i, &list);
                 } else {
@@ -139,7 +270,8 @@ pub fn saved_arbitrary(rng: &mut Rng, n: usize, m: usize, most: u32) -> Table {
     })
 }
 
-/// Any table, with `receipt` for a receipt number under a count.
+/// Any table whose channels are in order, with `receipt` for a receipt number
+/// under a count.
 fn arbitrary_with(
     rng: &mut Rng,
     n: usize,
@@ -160,6 +292,7 @@ fn arbitrary_with(
         let received = receipt(rng, table.counts[i]);
         table.messages.push(Message::new((j, sent), (i, received)));
     }
+    put_in_turn(&mut table.messages);
     table
 }
 
@@ -196,7 +329,8 @@ fn clustered_with(rng: &mut Rng, n: usize, m: usize, receipt: &dyn Fn(u32, u32) 
         counts,
         messages: Vec::new(),
     };
-    for _ in 0..if n > 1 { m } else { 0 } {
+    let mut late = Vec::new();
+    for k in 0..if n > 1 { m } else { 0 } {
         let (j, mut i) = rng.two_processes(n);
         if rng.chance(19, 20) {
             // Choose the receiver inside the group of the sender, if it can.
@@ -208,12 +342,21 @@ fn clustered_with(rng: &mut Rng, n: usize, m: usize, receipt: &dyn Fn(u32, u32) 
         }
         let sent = rng.between(0, table.counts[j] as usize - 1) as u32;
         let near = sent + 2 - rng.between(0, 2) as u32;
-        let received = if rng.chance(1, 12) {
-            0
-        } else {
-            receipt(near, table.counts[i])
-        };
+        let received = receipt(near, table.counts[i]);
         table.messages.push(Message::new((j, sent), (i, received)));
+        if rng.chance(1, 12) {
+            late.push(k);
+        }
+    }
+    put_in_turn(&mut table.messages);
+    // For each that is late the last one of its channel that was received waits:
+    // so the others are still received near the time of their sending.
+    for k in late {
+        let one = table.messages[k];
+        let mut last = table.messages.iter_mut().rev();
+        if let Some(message) = last.find(|other| other.same_channel(&one) && !other.waiting()) {
+            message.received = 0;
+        }
     }
     table
 }
@@ -226,33 +369,78 @@ fn clustered_with(rng: &mut Rng, n: usize, m: usize, receipt: &dyn Fn(u32, u32) 
 pub enum Order {
     /// In the order of sending.
     Time,
+    /// Round after round, each message before the one that makes it an orphan:
+    /// the chain runs against the order of passes, all the way.
+    RoundsAgainst,
+    /// Round after round, each message of a round behind the one that makes it an
+    /// orphan: the chain runs with the order of passes, as far as a round goes.
+    RoundsAlong,
+    /// All messages of one sender together, in the order of sending.
+    BySender,
+    /// The same, the last sender first.
+    BySenderBackward,
+    /// By chance, and each channel in the order of sending.
+    Interleaved,
     /// The latest sent message first.
     Reverse,
     /// By chance.
     Shuffled,
-    /// All messages of one sender together, in the order of sending.
-    BySender,
     /// First every second message, then the others.
     EverySecond,
 }
 
 impl Order {
-    /// All the orders.
-    pub const ALL: [Order; 5] = [
+    /// The orders in which each channel is in turn, whatever the size.
+    pub const ALL: [Order; 6] = [
         Order::Time,
-        Order::Reverse,
-        Order::Shuffled,
+        Order::RoundsAgainst,
+        Order::RoundsAlong,
         Order::BySender,
-        Order::EverySecond,
+        Order::BySenderBackward,
+        Order::Interleaved,
     ];
 
-    /// Puts messages that stand in the order of sending into this order.
-    fn arrange(self, rng: &mut Rng, messages: &mut [Message]) {
+    /// The orders in which later messages of a channel stand before earlier ones:
+    /// in reverse where a channel has two messages, by chance in most cases, and
+    /// with every second one first in rings of an odd number of processes with
+    /// three rounds or more.
+    pub const OUT_OF_TURN: [Order; 3] = [Order::Reverse, Order::Shuffled, Order::EverySecond];
+
+    /// Puts the messages of rounds of n, which stand in the order of sending and
+    /// end with a whole round, into this order.
+    fn arrange(self, rng: &mut Rng, n: usize, messages: &mut [Message]) {
         match self {
             Order::Time => {}
+            // The chain begins with the message that is sent last in a round, and
+            // then goes through the others as they were sent.
+            Order::RoundsAgainst => {
+                for round in messages.rchunks_mut(n) {
+                    let others = round.len() - 1;
+                    round[..others].reverse();
+                }
+            }
+            Order::RoundsAlong => {
+                for round in messages.rchunks_mut(n) {
+                    round.rotate_right(1);
+                }
+            }
+            Order::BySender => messages.sort_by_key(|message| message.sender),
+            Order::BySenderBackward => messages.sort_by_key(|message| Reverse(message.sender)),
+            Order::Interleaved => {
+                // Which channel stands where is by chance.
+                let mut left = channels(messages);
+                left.iter_mut().for_each(|positions| positions.reverse());
+                let mut lots: Vec<usize> = (0..left.len())
+                    .flat_map(|channel| vec![channel; left[channel].len()])
+                    .collect();
+                rng.shuffle(&mut lots);
+                let old = messages.to_vec();
+                for (place, channel) in messages.iter_mut().zip(lots) {
+                    *place = old[left[channel].pop().expect("as many lots as messages")];
+                }
+            }
             Order::Reverse => messages.reverse(),
             Order::Shuffled => rng.shuffle(messages),
-            Order::BySender => messages.sort_by_key(|message| message.sender),
             Order::EverySecond => {
                 let old = messages.to_vec();
                 let even = old.iter().step_by(2);
@@ -282,7 +470,7 @@ pub fn ring_domino(rng: &mut Rng, n: usize, m: usize, order: Order) -> Table {
         messages.push(Message::new((0, round), (1, round)));
     }
     let mut messages = messages.split_off(messages.len() - m);
-    order.arrange(rng, &mut messages);
+    order.arrange(rng, n, &mut messages);
     Table {
         counts: vec![rounds as u32 + 1; n],
         messages,
@@ -328,6 +516,7 @@ pub fn limit_tables(rng: &mut Rng) -> Vec<Table> {
             let (sent, received) = make(rng);
             messages.push(Message::new((j, sent), (i, received)));
         }
+        put_in_turn(&mut messages);
         Table {
             counts: counts.clone(),
             messages,
@@ -355,7 +544,7 @@ pub fn limit_tables(rng: &mut Rng) -> Vec<Table> {
             (sent, sent + 1 + rng.between(0, 2) as u32)
         }),
     ];
-    // Ring dominoes pushed up to the last states, in every order.
+    // Ring dominoes pushed up to the last states, in every order that is in turn.
     for order in Order::ALL {
         let mut ring = ring_domino(rng, n, MOST_MESSAGES, order);
         let lift = MOST_STATES - ring.counts[0];
@@ -538,7 +727,9 @@ pub fn boundary_names(table: &Table) -> Vec<Names> {
 
 /// The bytes with one receipt number made another, message by message, on both
 /// sides of "Check 9 refuses only numbers above the count": 0, the count less
-/// one, the count, one more and 65,535; each with the refusal that it meets.
+/// one, the count, one more and 65,535; each with the refusal that it meets. That
+/// is 23 where it is no longer the message's turn to be received, or already past
+/// its turn.
 pub fn boundary_receipts(table: &Table) -> Vec<(Vec<u8>, u32)> {
     let mut all = Vec::new();
     for (k, message) in table.messages.iter().enumerate() {
@@ -552,7 +743,8 @@ pub fn boundary_receipts(table: &Table) -> Vec<(Vec<u8>, u32)> {
         ] {
             let mut other = table.clone();
             other.messages[k].received = received;
-            all.push((other.to_bytes(), refusal));
+            let broken = refusal == 0 && out_of_turn_in_pairs(&other.messages);
+            all.push((other.to_bytes(), if broken { 23 } else { refusal }));
         }
     }
     all
@@ -560,7 +752,8 @@ pub fn boundary_receipts(table: &Table) -> Vec<(Vec<u8>, u32)> {
 
 // ---------------------------------------------------------------------------
 // Damage. Each function takes an accepted table and yields bytes that meet its
-// refusal first, or `None` when the table has no message to damage.
+// refusal first, or `None` when the table has no message to damage, and for 23
+// when it does not have two.
 
 /// Writes a number into the bytes.
 fn set(bytes: &mut [u8], at: usize, number: usize) {
@@ -709,6 +902,18 @@ pub fn break_receipt_number(rng: &mut Rng, bytes: &[u8]) -> Option<Vec<u8>> {
     Some(broken)
 }
 
+/// Damage for "23. Of two messages with the same sender and receiver the later one has a smaller send number, or is received while the earlier one waits, or has a smaller receipt number."
+///
+/// In one of the three ways. A table with two messages can be broken in the second
+/// at least.
+pub fn break_channel_order(rng: &mut Rng, bytes: &[u8]) -> Option<Vec<u8>> {
+    let table = Table::read(bytes).ok()?;
+    let fault = Fault::ALL[rng.between(0, 2)];
+    let broken = put_out_of_turn(rng, &table, fault);
+    let broken = broken.or_else(|| put_out_of_turn(rng, &table, Fault::Waiting));
+    Some(broken?.to_bytes())
+}
+
 /// Damage for one of the table's checks, by its number.
 pub fn damage(rng: &mut Rng, bytes: &[u8], refusal: u32) -> Option<Vec<u8>> {
     match refusal {
@@ -721,6 +926,7 @@ pub fn damage(rng: &mut Rng, bytes: &[u8], refusal: u32) -> Option<Vec<u8>> {
         7 => make_self_message(rng, bytes),
         8 => break_send_number(rng, bytes),
         9 => break_receipt_number(rng, bytes),
+        23 => break_channel_order(rng, bytes),
         _ => None,
     }
 }
@@ -765,6 +971,22 @@ pub fn random_body(rng: &mut Rng, n: usize, m: usize) -> Vec<u8> {
         };
         set(&mut bytes, at, number);
     }
+    // Half of the tables have most of their messages between two processes, with
+    // numbers that are not too high, so that check 23 is met as well.
+    if n > 1 && rng.chance(1, 2) {
+        let (j, i) = rng.two_processes(n);
+        for k in 0..m {
+            if rng.chance(1, 12) {
+                continue;
+            }
+            let (send, receipt) = entry_at(&bytes, k);
+            let (from, to) = if rng.chance(3, 4) { (j, i) } else { (i, j) };
+            set(&mut bytes, send, from);
+            set(&mut bytes, send + 2, rng.between(0, highest - 1));
+            set(&mut bytes, receipt, to);
+            set(&mut bytes, receipt + 2, rng.between(0, highest));
+        }
+    }
     bytes
 }
 
@@ -778,8 +1000,8 @@ pub fn truncations(bytes: &[u8]) -> impl Iterator<Item = Vec<u8>> + '_ {
 // ---------------------------------------------------------------------------
 // All tables up to a size.
 
-/// Every accepted table with at most `processes` processes, at most `states`
-/// saved states each and at most `messages` messages.
+/// Every table with at most `processes` processes, at most `states` saved states
+/// each and at most `messages` messages that the checks 1 to 9 let pass.
 pub struct AllTables {
     most_processes: usize,
     most_states: u32,
@@ -792,9 +1014,15 @@ pub struct AllTables {
     done: bool,
 }
 
-/// All accepted tables with N <= n, counts <= c and M <= m, each once: "N is 1
-/// to 32, M is 0 to 4,096, each count 1 to 4,096", and the checks 6 to 9.
-pub fn all_tables(n: usize, c: u32, m: usize) -> AllTables {
+/// All accepted tables with N <= n, counts <= c and M <= m, each once.
+pub fn all_tables(n: usize, c: u32, m: usize) -> impl Iterator<Item = Table> {
+    all_tables_of_both_sides(n, c, m).filter(|table| !out_of_turn_in_pairs(&table.messages))
+}
+
+/// All tables with N <= n, counts <= c and M <= m that check 23 refuses or
+/// nothing does, each once: "N is 1 to 32, M is 0 to 4,096, each count 1 to
+/// 4,096", and the checks 6 to 9.
+pub fn all_tables_of_both_sides(n: usize, c: u32, m: usize) -> AllTables {
     AllTables {
         most_processes: n,
         most_states: c,
@@ -874,8 +1102,9 @@ impl Iterator for AllTables {
 // ---------------------------------------------------------------------------
 // By name, for the program.
 
-/// The kinds that [`by_name`] knows, besides `damage-1` to `damage-9`.
-pub const KINDS: [&str; 20] = [
+/// The kinds that [`by_name`] knows, besides those below and `damage-1` to
+/// `damage-9` and `damage-23`. But for the last two they are accepted.
+pub const KINDS: [&str; 22] = [
     "history",
     "history-unsaved",
     "arbitrary",
@@ -883,28 +1112,43 @@ pub const KINDS: [&str; 20] = [
     "clustered",
     "clustered-unsaved",
     "domino-time",
-    "domino-reverse",
-    "domino-shuffled",
+    "domino-rounds-against",
+    "domino-rounds-along",
     "domino-by-sender",
-    "domino-every-second",
+    "domino-by-sender-backward",
+    "domino-interleaved",
     "ring-time",
-    "ring-reverse",
-    "ring-shuffled",
+    "ring-rounds-against",
+    "ring-rounds-along",
     "ring-by-sender",
-    "ring-every-second",
+    "ring-by-sender-backward",
+    "ring-interleaved",
     "staircase",
     "limit",
     "random-bytes",
     "random-body",
 ];
 
+/// The kinds whose channels are out of order: the first three in one way each,
+/// the dominoes where they have messages enough.
+pub const OUT_OF_TURN_KINDS: [&str; 9] = [
+    "out-of-turn-sent",
+    "out-of-turn-waiting",
+    "out-of-turn-received",
+    "domino-reverse",
+    "domino-shuffled",
+    "domino-every-second",
+    "ring-reverse",
+    "ring-shuffled",
+    "ring-every-second",
+];
+
 /// The bytes of a table of the named kind. `history`, `arbitrary` and
-/// `clustered` have no unsaved messages, so that a seed gives the table that it
-/// gave before there were any; `...-unsaved` have them. `domino-...` has two
-/// processes whatever n is; `staircase` and `limit` do not look at m; `limit`
-/// takes one of its tables by the seed; `damage-K` spoils an arbitrary table for
-/// check K of a table. `None` for an unknown kind or for a size that the kind
-/// cannot have.
+/// `clustered` have no unsaved messages; `...-unsaved` have them. `domino-...` has
+/// two processes whatever n is; `staircase` and `limit` do not look at m; `limit`
+/// takes one of its tables by the seed; `out-of-turn-...` and `damage-K` spoil an
+/// arbitrary table in a way and for check K of a table. `None` for an unknown kind
+/// or for a size that the kind cannot have.
 pub fn by_name(kind: &str, seed: u64, n: usize, m: usize) -> Option<Vec<u8>> {
     if n == 0 || n > MOST_PROCESSES || m > MOST_MESSAGES {
         return None;
@@ -916,15 +1160,33 @@ pub fn by_name(kind: &str, seed: u64, n: usize, m: usize) -> Option<Vec<u8>> {
     };
     let order = match order {
         "time" => Some(Order::Time),
+        "rounds-against" => Some(Order::RoundsAgainst),
+        "rounds-along" => Some(Order::RoundsAlong),
+        "by-sender" => Some(Order::BySender),
+        "by-sender-backward" => Some(Order::BySenderBackward),
+        "interleaved" => Some(Order::Interleaved),
         "reverse" => Some(Order::Reverse),
         "shuffled" => Some(Order::Shuffled),
-        "by-sender" => Some(Order::BySender),
         "every-second" => Some(Order::EverySecond),
         _ => None,
     };
     if let Some(refusal) = kind.strip_prefix("damage-") {
         let whole = arbitrary(rng, n, m, 64).to_bytes();
         return damage(rng, &whole, refusal.parse().ok()?);
+    }
+    if let Some(fault) = kind.strip_prefix("out-of-turn-") {
+        let fault = match fault {
+            "sent" => Fault::Sent,
+            "waiting" => Fault::Waiting,
+            "received" => Fault::Received,
+            _ => return None,
+        };
+        let mut whole = arbitrary(rng, n, m, 64);
+        // Every channel has two numbers to choose from.
+        for count in &mut whole.counts {
+            *count = (*count).max(2);
+        }
+        return Some(put_out_of_turn(rng, &whole, fault)?.to_bytes());
     }
     let table = match family {
         "history" => saved_history(rng, n, m),

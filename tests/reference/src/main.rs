@@ -121,7 +121,8 @@ fn main() -> ExitCode {
         Ok(None) => {
             eprintln!("{USAGE}");
             eprintln!("kinds: {}", reference::gen::KINDS.join(" "));
-            eprintln!("       damage-1 to damage-9");
+            eprintln!("       {}", reference::gen::OUT_OF_TURN_KINDS.join(" "));
+            eprintln!("       damage-1 to damage-9, damage-23");
             ExitCode::from(2)
         }
         Err(error) => {

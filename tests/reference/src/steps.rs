@@ -83,6 +83,21 @@ pub fn list_is_bad(table: &Table, i: usize, list: &[u16]) -> bool {
         })
 }
 
+/// Whether check 24 catches the list of a save or receipt that 13 does not: it
+/// "passes over an older waiting message of its channel". That is a listed
+/// position and an earlier one of the same sender and receiver that waits and is
+/// not listed.
+pub fn passes_over(table: &Table, list: &[usize]) -> bool {
+    let mut listed = vec![false; table.messages.len()];
+    list.iter().for_each(|&position| listed[position] = true);
+    list.iter().any(|&taken| {
+        (0..taken).any(|older| {
+            let message = &table.messages[older];
+            message.same_channel(&table.messages[taken]) && message.waiting() && !listed[older]
+        })
+    })
+}
+
 /// The call for a send: "Send from j to i".
 ///
 /// Checks: the table's, 10, 11, 14, 16.
@@ -111,7 +126,7 @@ pub fn send(bytes: &[u8], from: u16, to: u16, answer_len: usize) -> Outcome {
 /// The call for a save: "Save by i with a strictly rising list of positions of
 /// messages waiting for i".
 ///
-/// Checks: the table's, 10, 13, 14, 16.
+/// Checks: the table's, 10, 13, 24, 14, 16.
 pub fn save(bytes: &[u8], process: u16, list: &[u16], answer_len: usize) -> Outcome {
     let mut table = match Table::read(bytes) {
         Err(number) => return Outcome::refused(number),
@@ -126,19 +141,25 @@ pub fn save(bytes: &[u8], process: u16, list: &[u16], answer_len: usize) -> Outc
     if list_is_bad(&table, process, list) {
         return Outcome::refused(13);
     }
+    // 24. The list passes over a message.
+    let positions: Vec<usize> = list.iter().map(|&position| usize::from(position)).collect();
+    if passes_over(&table, &positions) {
+        return Outcome::refused(24);
+    }
     // 14. A save meets a count of 4,096.
     if table.counts[process] == MOST_STATES {
         return Outcome::refused(14);
     }
-    let positions: Vec<usize> = list.iter().map(|&position| usize::from(position)).collect();
     do_save(&mut table, process, &positions);
     Outcome::answered(table.to_bytes(), answer_len)
 }
 
 /// The call for a receipt: "A step that receives is added: it takes a process and
 /// a list as a save does". "The receiving step uses 10, 13 and 16 as a save does."
+/// And "a save or receipt that passes over an older waiting message of its channel
+/// gives 24 right after 13."
 ///
-/// Checks: the table's, 10, 13, 16.
+/// Checks: the table's, 10, 13, 24, 16.
 pub fn receive(bytes: &[u8], process: u16, list: &[u16], answer_len: usize) -> Outcome {
     let mut table = match Table::read(bytes) {
         Err(number) => return Outcome::refused(number),
@@ -153,7 +174,11 @@ pub fn receive(bytes: &[u8], process: u16, list: &[u16], answer_len: usize) -> O
     if list_is_bad(&table, process, list) {
         return Outcome::refused(13);
     }
+    // 24. The list passes over a message.
     let positions: Vec<usize> = list.iter().map(|&position| usize::from(position)).collect();
+    if passes_over(&table, &positions) {
+        return Outcome::refused(24);
+    }
     do_receive(&mut table, process, &positions);
     Outcome::answered(table.to_bytes(), answer_len)
 }

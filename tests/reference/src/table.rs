@@ -1,5 +1,7 @@
 //! The run table: lookups in raw bytes, the table's checks, reading, writing.
 
+use std::collections::HashMap;
+
 /// "N is 1 to 32".
 pub const MOST_PROCESSES: usize = 32;
 /// "M is 0 to 4,096".
@@ -88,7 +90,7 @@ pub fn received(bytes: &[u8], k: usize) -> u16 {
 
 /// The numbers of a table's checks, "In checking order". The order is that of
 /// this list and not that of the numbers.
-pub const TABLE_CHECKS: [u32; 9] = [1, 2, 3, 4, 5, 6, 7, 8, 9];
+pub const TABLE_CHECKS: [u32; 10] = [1, 2, 3, 4, 5, 6, 7, 8, 9, 23];
 
 /// The first of the table's checks that catches, or 0. "A check covers the
 /// whole table or list before the next begins."
@@ -135,7 +137,78 @@ pub fn check_table(bytes: &[u8]) -> u32 {
     if (0..m).any(|k| received(bytes, k) > count_of(receiver(bytes, k))) {
         return 9;
     }
+    // 23. Of two messages with the same sender and receiver the later one has a smaller send number, or is received while the earlier one waits, or has a smaller receipt number.
+    let entries: Vec<Message> = (0..m).map(|k| message_at(bytes, k)).collect();
+    let broken = if m <= MOST_IN_PAIRS {
+        out_of_turn_in_pairs(&entries)
+    } else {
+        out_of_turn_by_channel(&entries)
+    };
+    if broken {
+        return 23;
+    }
     0
+}
+
+/// Up to so many messages all pairs are compared, beyond that channel by channel.
+const MOST_IN_PAIRS: usize = 200;
+
+/// Message k of the bytes.
+fn message_at(bytes: &[u8], k: usize) -> Message {
+    Message {
+        sender: usize::from(sender(bytes, k)),
+        sent: u32::from(sent(bytes, k)),
+        receiver: usize::from(receiver(bytes, k)),
+        received: u32::from(received(bytes, k)),
+    }
+}
+
+/// Whether two messages break the order of their channel. "Compare entries with
+/// the same sender and receiver, the earlier position first: the later one's send
+/// number may not be smaller, it may not be received while the earlier one waits,
+/// and, where both are received, it may not have a smaller receipt number." An
+/// unsaved message is received.
+pub fn out_of_turn(earlier: &Message, later: &Message) -> bool {
+    if !earlier.same_channel(later) {
+        return false;
+    }
+    let sent_before = later.sent < earlier.sent;
+    let received_while_it_waits = !later.waiting() && earlier.waiting();
+    let both_received = !later.waiting() && !earlier.waiting();
+    let received_before = both_received && later.received < earlier.received;
+    sent_before || received_while_it_waits || received_before
+}
+
+/// Whether any two messages break the order of their channel: all pairs of
+/// positions.
+pub fn out_of_turn_in_pairs(messages: &[Message]) -> bool {
+    for (place, later) in messages.iter().enumerate() {
+        let mut before = messages[..place].iter();
+        if before.any(|earlier| out_of_turn(earlier, later)) {
+            return true;
+        }
+    }
+    false
+}
+
+/// The same by one look at each message: neither its send number nor its receipt
+/// number, where waiting is above all numbers, may be below that of the message
+/// before it in the channel. `tests/channels.rs` has both ways side by side.
+pub fn out_of_turn_by_channel(messages: &[Message]) -> bool {
+    let mut latest: HashMap<(usize, usize), (u32, u32)> = HashMap::new();
+    for message in messages {
+        let received = if message.waiting() {
+            u32::MAX
+        } else {
+            message.received
+        };
+        let channel = (message.sender, message.receiver);
+        let before = latest.insert(channel, (message.sent, received));
+        if before.is_some_and(|(y, r)| message.sent < y || received < r) {
+            return true;
+        }
+    }
+    false
 }
 
 // ---------------------------------------------------------------------------
@@ -176,6 +249,12 @@ impl Message {
     /// "a receipt number of 0 means: waiting, not yet received."
     pub fn waiting(&self) -> bool {
         self.received == 0
+    }
+
+    /// Whether both are of one channel: "entries with the same sender and
+    /// receiver". The channel from i to j is another than that from j to i.
+    pub fn same_channel(&self, other: &Message) -> bool {
+        self.sender == other.sender && self.receiver == other.receiver
     }
 }
 

@@ -241,13 +241,13 @@ fn under_chance_ceilings() {
         agree(&mut rng, &table, 10, false);
         let table = clustered(&mut rng, n, 4096);
         agree(&mut rng, &table, 10, false);
-        let table = ring_domino(&mut rng, n, 4096, Order::ALL[round % 5]);
+        let table = ring_domino(&mut rng, n, 4096, Order::ALL[round % 6]);
         agree(&mut rng, &table, 3, false);
     }
 }
 
 #[test]
-fn on_all_small_tables() {
+fn on_all_small_tables_of_both_sides() {
     for (n, c, m) in [
         (2, 2, 4),
         (2, 3, 3),
@@ -256,7 +256,7 @@ fn on_all_small_tables() {
         (3, 3, 1),
         (4, 2, 1),
     ] {
-        for table in all_tables(n, c, m) {
+        for table in all_tables_of_both_sides(n, c, m) {
             lines_agree(&table, true);
         }
     }
@@ -286,7 +286,7 @@ fn on_small_chance_tables() {
 /// lines.
 #[test]
 fn sheets_from_enumerated_lines() {
-    for table in all_tables(3, 2, 2).chain(all_tables(2, 3, 3)) {
+    for table in all_tables_of_both_sides(3, 2, 2).chain(all_tables_of_both_sides(2, 3, 3)) {
         let lines: Vec<Line> = (0..table.processes())
             .map(|p| line_by_enumeration(&table, &ceiling(&table, single_holder(p))))
             .collect();
@@ -340,6 +340,44 @@ fn dominoes_fall_to_zero() {
     }
 }
 
+/// How many passes of the lowering rule the recovery line takes, the last of which
+/// lowers nothing. Where the chain runs against the order of passes, each pass
+/// lowers one process by one message; where it runs along, a round.
+#[test]
+fn passes_over_dominoes() {
+    let mut rng = Rng::new(29);
+    let passes = |table: &Table| {
+        let mut line = ceiling(table, all_hold(table.processes()));
+        let mut passes = 0;
+        loop {
+            passes += 1;
+            let before = line.clone();
+            for message in &table.messages {
+                if is_orphan(message, &line) {
+                    line[message.receiver] = message.received - 1;
+                }
+            }
+            if line == before {
+                return passes;
+            }
+        }
+    };
+    for n in 2..=8 {
+        for rounds in 1..6 {
+            let against = ring_domino(&mut rng, n, n * rounds, Order::RoundsAgainst);
+            assert_eq!(passes(&against), n * rounds + 1);
+            let along = ring_domino(&mut rng, n, n * rounds, Order::RoundsAlong);
+            assert_eq!(passes(&along), rounds + 1);
+            // In the order of sending the message from process 0 is the last of its
+            // round, and the chain goes on with the others in the next pass.
+            let time = ring_domino(&mut rng, n, n * rounds, Order::Time);
+            assert_eq!(passes(&time), 2 * rounds + 1);
+        }
+        let full = ring_domino(&mut rng, n, 4096 / n * n, Order::RoundsAgainst);
+        assert_eq!(passes(&full), 4096 / n * n + 1);
+    }
+}
+
 /// The ring domino in the order of time is what the steps make.
 #[test]
 fn a_domino_is_a_run() {
@@ -367,7 +405,7 @@ fn a_domino_is_a_run() {
 /// "of two consistent lines the place-by-place larger is consistent too".
 #[test]
 fn the_larger_of_two_consistent_lines() {
-    for table in all_tables(2, 3, 2) {
+    for table in all_tables_of_both_sides(2, 3, 2) {
         let mut consistent = Vec::new();
         let top = table.counts.iter().copied().max().unwrap();
         for a in 0..=top {

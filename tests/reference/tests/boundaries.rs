@@ -120,11 +120,11 @@ fn saves() {
 
 #[test]
 fn save_lists() {
-    // Messages 0, 2, 3 wait for process 1; 1 waits for process 0; 4 was
-    // received by process 1 before its state 1.
+    // Messages 0, 2, 3 wait for process 1, each from another process; 1 waits for
+    // process 0; 4 was received by process 1 before its state 1.
     let table = numbers(&[
-        2, 5, 1, 2, //
-        0, 0, 1, 0, 0, 0, 0, 0, 0, 0, //
+        5, 5, 1, 2, 1, 1, 1, //
+        0, 0, 1, 0, 2, 0, 3, 0, 4, 0, //
         1, 0, 0, 0, 1, 0, 1, 0, 1, 1,
     ]);
     assert_eq!(check_table(&table), 0);
@@ -160,7 +160,7 @@ fn save_lists() {
     for list in bad {
         assert_eq!(save(&table, 1, list, ROOM), Outcome::refused(13));
         assert_eq!(save(&table, 1, list, 0), Outcome::refused(13));
-        assert_eq!(save(&table, 2, list, 0), Outcome::refused(10));
+        assert_eq!(save(&table, 5, list, 0), Outcome::refused(10));
     }
 }
 
@@ -185,13 +185,14 @@ fn receipt_numbers() {
 }
 
 /// Process 1 has 4,096 states: a save meets 14, and a receipt does not. Message
-/// 0 waits for it, 1 waits for process 0, and 2 was received by its state 4,095.
+/// 0 waits for it, 1 waits for process 0, and 2, which is from process 2, was
+/// received by its state 4,095.
 #[test]
 fn receipts_at_the_limit() {
     let table = |received: u16| {
         numbers(&[
-            2, 3, 1, 4096, //
-            0, 0, 1, 4095, 0, 0, //
+            3, 3, 1, 4096, 1, //
+            0, 0, 1, 4095, 2, 0, //
             1, received, 0, 0, 1, 4095,
         ])
     };
@@ -206,7 +207,7 @@ fn receipts_at_the_limit() {
     assert_eq!(receive(&after, 1, &[0], ROOM), Outcome::refused(13));
     assert_eq!(save(&after, 1, &[0], ROOM), Outcome::refused(13));
     // 10, then 13, then 16; a save has 14 between the last two.
-    for (process, list, number) in [(2, &[5][..], 10), (1, &[5], 13), (1, &[2], 13)] {
+    for (process, list, number) in [(3, &[5][..], 10), (1, &[5], 13), (1, &[2], 13)] {
         for room in [0, before.len() - 1, ROOM] {
             assert_eq!(
                 receive(&before, process, list, room),
@@ -220,7 +221,8 @@ fn receipts_at_the_limit() {
     }
 }
 
-/// 4,096 messages: those that wait are received one by one and all at once.
+/// 4,096 messages of one channel: those that wait are received one by one and all
+/// at once, and one that is not the oldest is not received alone.
 #[test]
 fn receipts_of_many_messages() {
     let table = |received: &dyn Fn(usize) -> u16| {
@@ -234,9 +236,17 @@ fn receipts_of_many_messages() {
     let after = receive(&before, 1, &all, before.len());
     assert_eq!((after.number, after.answer), (0, table(&|_| 2)));
     for position in [0, 1, 2047, 4095] {
-        let after = receive(&before, 1, &[position], before.len());
-        let expected = table(&|k| if k == usize::from(position) { 2 } else { 0 });
+        let so_far = table(&|k| if k < usize::from(position) { 2 } else { 0 });
+        let after = receive(&so_far, 1, &[position], so_far.len());
+        let expected = table(&|k| if k <= usize::from(position) { 2 } else { 0 });
         assert_eq!((after.number, after.answer), (0, expected));
+        let alone = receive(&before, 1, &[position], ROOM).number;
+        assert_eq!(alone, if position == 0 { 0 } else { 24 });
+        // All but one, which is passed over unless it is the last.
+        let mut others = all.clone();
+        others.remove(usize::from(position));
+        let outcome = receive(&before, 1, &others, ROOM).number;
+        assert_eq!(outcome, if position == 4095 { 0 } else { 24 });
     }
     assert_eq!(receive(&before, 1, &[4096], ROOM), Outcome::refused(13));
     // A send meets M = 4,096, and a receipt does not.
@@ -246,11 +256,11 @@ fn receipts_of_many_messages() {
 /// The lists of a receipt: those of a save, from both sides of each fault.
 #[test]
 fn receipt_lists() {
-    // Messages 0, 2, 3 wait for process 1; 1 waits for process 0; 4 was received
-    // by state 1 of process 1, and 5 is unsaved there.
+    // Messages 0, 2, 3 wait for process 1, each from another process; 1 waits for
+    // process 0; 4 was received by state 1 of process 1, and 5 is unsaved there.
     let table = numbers(&[
-        2, 6, 1, 2, //
-        0, 0, 1, 0, 0, 0, 0, 0, 0, 0, 0, 0, //
+        5, 6, 1, 2, 1, 1, 1, //
+        0, 0, 1, 0, 2, 0, 3, 0, 4, 0, 4, 0, //
         1, 0, 0, 0, 1, 0, 1, 0, 1, 1, 1, 2,
     ]);
     assert_eq!(check_table(&table), 0);
@@ -293,7 +303,7 @@ fn receipt_lists() {
         for room in [0, table.len(), ROOM] {
             assert_eq!(receive(&table, 1, list, room), Outcome::refused(13));
             assert_eq!(save(&table, 1, list, room), Outcome::refused(13));
-            assert_eq!(receive(&table, 2, list, room), Outcome::refused(10));
+            assert_eq!(receive(&table, 5, list, room), Outcome::refused(10));
         }
     }
     assert_eq!(receive(&table, 65535, &[], ROOM), Outcome::refused(10));

@@ -300,6 +300,125 @@ fn boundary_names_are_on_both_sides() {
     }
 }
 
+/// Each way to break a channel's order breaks it in that way and in no other, in
+/// tables of all sizes: with other channels between the two messages, with
+/// unsaved receipts, and of messages that are not neighbours in their channel.
+#[test]
+fn channels_are_broken_in_one_way() {
+    let mut rng = Rng::new(30);
+    for fault in Fault::ALL {
+        let (mut broken, mut not_next, mut unsaved) = (0, 0, 0);
+        for round in 0..2000 {
+            let n = rng.between(2, 8);
+            let m = rng.between(0, 24);
+            let table = match round % 3 {
+                0 => history(&mut rng, n, m),
+                1 => clustered(&mut rng, n, m),
+                _ => arbitrary(&mut rng, n, m, 4),
+            };
+            let Some(now) = put_out_of_turn(&mut rng, &table, fault) else {
+                let one_number = table.counts.contains(&1) && fault != Fault::Waiting;
+                assert!(table.messages.len() < 2 || one_number, "{table:?}");
+                continue;
+            };
+            broken += 1;
+            assert_eq!(now.counts, table.counts);
+            assert_eq!(now.messages.len(), table.messages.len());
+            let mut met = [0; 3];
+            for (k, later) in now.messages.iter().enumerate() {
+                for (q, earlier) in now.messages[..k].iter().enumerate() {
+                    if !earlier.same_channel(later) {
+                        continue;
+                    }
+                    let waits = earlier.waiting();
+                    let faults = [
+                        later.sent < earlier.sent,
+                        !later.waiting() && waits,
+                        !later.waiting() && !waits && later.received < earlier.received,
+                    ];
+                    for (place, fault) in faults.into_iter().enumerate() {
+                        met[place] += usize::from(fault);
+                    }
+                    if faults.contains(&true) {
+                        not_next += usize::from(q + 1 < k);
+                        unsaved += usize::from(now.unsaved(later) || now.unsaved(earlier));
+                    }
+                }
+            }
+            for (place, other) in Fault::ALL.iter().enumerate() {
+                assert_eq!(met[place] > 0, *other == fault, "{now:?}");
+            }
+            assert_eq!(check_table(&now.to_bytes()), 23);
+        }
+        assert!(
+            broken > 1000 && not_next > 500 && unsaved > 200,
+            "{broken} {not_next} {unsaved}"
+        );
+    }
+}
+
+/// The kinds that are out of turn are refused by 23, where they have messages
+/// enough: three rounds at least, and of every second one first an odd ring.
+#[test]
+fn kinds_out_of_turn_are_refused() {
+    for seed in 0..30 {
+        for kind in OUT_OF_TURN_KINDS {
+            for (n, m) in [(2, 9), (5, 40), (7, 21), (32, 300)] {
+                let bytes = by_name(kind, seed, n, m).unwrap();
+                let even = kind == "domino-every-second" || n % 2 == 0;
+                let in_turn = kind.ends_with("every-second") && even;
+                assert_eq!(
+                    check_table(&bytes),
+                    if in_turn { 0 } else { 23 },
+                    "{kind} {n}"
+                );
+                assert_eq!(by_name(kind, seed, n, m), Some(bytes), "the same again");
+            }
+        }
+        assert_eq!(check_table(&by_name("damage-23", seed, 3, 8).unwrap()), 23);
+    }
+    assert_eq!(by_name("out-of-turn-sent", 0, 2, 1), None);
+    assert_eq!(by_name("out-of-turn-other", 0, 2, 9), None);
+}
+
+/// Putting messages in turn leaves each channel its numbers and its places, and
+/// what is in turn as it is.
+#[test]
+fn messages_are_put_in_turn() {
+    let mut rng = Rng::new(31);
+    for _ in 0..500 {
+        let n = rng.between(2, 5);
+        let m = rng.between(0, 30);
+        let mut table = arbitrary(&mut rng, n, m, 5);
+        let whole = table.clone();
+        put_in_turn(&mut table.messages);
+        assert_eq!(table, whole);
+        rng.shuffle(&mut table.messages);
+        let shuffled = table.clone();
+        put_in_turn(&mut table.messages);
+        assert_eq!(check_table(&table.to_bytes()), 0);
+        let ends = |table: &Table| -> Vec<(usize, usize)> {
+            let messages = table.messages.iter();
+            messages.map(|one| (one.sender, one.receiver)).collect()
+        };
+        assert_eq!(ends(&table), ends(&shuffled));
+        let numbers = |table: &Table| {
+            let messages = table.messages.iter();
+            let mut sends: Vec<_> = messages
+                .map(|one| (one.sender, one.receiver, one.sent))
+                .collect();
+            let messages = table.messages.iter();
+            let mut receipts: Vec<_> = messages
+                .map(|one| (one.sender, one.receiver, one.received))
+                .collect();
+            sends.sort_unstable();
+            receipts.sort_unstable();
+            (sends, receipts)
+        };
+        assert_eq!(numbers(&table), numbers(&shuffled));
+    }
+}
+
 #[test]
 fn damage_meets_its_refusal() {
     let mut rng = Rng::new(13);
@@ -320,15 +439,16 @@ fn damage_meets_its_refusal() {
                     *met.entry(refusal).or_insert(0) += 1;
                 }
                 None => {
-                    assert_eq!(messages(&bytes), 0);
+                    // What takes a message to damage, and what takes two.
+                    let least = if refusal == 23 { 2 } else { 1 };
+                    assert!(messages(&bytes) < least);
                     not_met.insert(refusal);
                 }
             }
         }
     }
     assert!(TABLE_CHECKS.iter().all(|refusal| met[refusal] > 1000));
-    // What takes a message to damage.
-    assert_eq!(not_met, BTreeSet::from([6, 7, 8, 9]));
+    assert_eq!(not_met, BTreeSet::from([6, 7, 8, 9, 23]));
 }
 
 /// The receipt number of each message, and of no other, on both sides of check
@@ -336,12 +456,23 @@ fn damage_meets_its_refusal() {
 #[test]
 fn boundary_receipts_are_on_both_sides() {
     let mut rng = Rng::new(25);
-    for (n, m, most) in [(2, 1, 1), (3, 6, 4), (32, 40, 4096)] {
+    for (n, m, most) in [(2, 1, 1), (3, 6, 4), (32, 40, 4096), (2, 6, 4)] {
         let table = arbitrary(&mut rng, n, m, most);
         let all = boundary_receipts(&table);
         assert_eq!(all.len(), 5 * m);
+        let mut sides = BTreeMap::new();
         for (at, (bytes, refusal)) in all.iter().enumerate() {
             assert_eq!(check_table(bytes), *refusal);
+            *sides.entry(*refusal).or_insert(0) += 1;
+            // A message of which the channel has no other is never out of turn.
+            let one = &table.messages[at / 5];
+            let channel = table
+                .messages
+                .iter()
+                .filter(|other| other.same_channel(one));
+            if channel.count() == 1 {
+                assert_eq!(*refusal, if at % 5 < 3 { 0 } else { 9 });
+            }
             for (k, message) in table.messages.iter().enumerate() {
                 let count = table.counts[message.receiver];
                 let expected = match at.checked_sub(5 * k) {
@@ -351,8 +482,12 @@ fn boundary_receipts_are_on_both_sides() {
                 assert_eq!(u32::from(received(bytes, k)), expected);
             }
         }
-        let refused = all.iter().filter(|(_, refusal)| *refusal == 9);
-        assert_eq!(refused.count(), 2 * m);
+        assert_eq!(sides[&9], 2 * m);
+        assert!(sides[&0] >= m, "{sides:?}");
+        // One message is never out of turn; of six between two processes some are.
+        if n == 2 {
+            assert_eq!(sides.contains_key(&23), m > 1, "{sides:?}");
+        }
     }
 }
 
@@ -381,7 +516,7 @@ fn several_damages_meet_the_first_refusal() {
     let mut rng = Rng::new(14);
     for _ in 0..5000 {
         let n = rng.between(2, 6);
-        let m = rng.between(1, 12);
+        let m = rng.between(2, 12);
         let bytes = arbitrary(&mut rng, n, m, 6).to_bytes();
         // In checking order, so the first is the one to be met.
         let mut refusals = TABLE_CHECKS.to_vec();
@@ -432,7 +567,7 @@ fn any_bytes_can_be_looked_up_and_refused() {
             number != 0
         );
     }
-    for number in [0, 6, 7, 8, 9] {
+    for number in [0, 6, 7, 8, 9, 23] {
         assert!(met[&number] > 20, "{met:?}");
     }
 }
@@ -453,12 +588,23 @@ fn truncations_are_refused() {
 fn all_tables_are_all() {
     // One process: two counts. Two processes with counts 1 1 allow 4 messages,
     // which makes 1 + 4 + 16 tables; 1 2 and 2 1 allow 7, and 2 2 allow 12.
+    let both: Vec<Table> = all_tables_of_both_sides(2, 2, 2).collect();
+    assert_eq!(both.len(), 2 + 21 + 57 + 57 + 157);
+    let different: HashSet<&Table> = both.iter().collect();
+    assert_eq!(different.len(), both.len());
+    // Of two messages of one channel with s send numbers and r receipt numbers,
+    // waiting among them, s (s + 1) / 2 times r (r + 1) / 2 pairs are in turn: with
+    // 1 and 2 numbers 3 of 4, with 1 and 3 6 of 9, with 2 and 2 9 of 16, with 2 and
+    // 3 18 of 36.
     let all: Vec<Table> = all_tables(2, 2, 2).collect();
-    assert_eq!(all.len(), 2 + 21 + 57 + 57 + 157);
-    let different: HashSet<&Table> = all.iter().collect();
-    assert_eq!(different.len(), all.len());
-    for table in &all {
-        assert_eq!(check_table(&table.to_bytes()), 0);
+    let broken = [1 + 1, 3 + 7, 7 + 3, 18 + 18];
+    let [a, b, c, d] = broken;
+    assert_eq!(all.len(), 2 + (21 - a) + (57 - b) + (57 - c) + (157 - d));
+    let accepted: HashSet<&Table> = all.iter().collect();
+    assert_eq!(accepted.len(), all.len());
+    for table in &both {
+        let number = if accepted.contains(table) { 0 } else { 23 };
+        assert_eq!(check_table(&table.to_bytes()), number);
     }
     // The same number by trying all numbers of two processes, one message.
     let mut tried = 0;

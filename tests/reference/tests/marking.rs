@@ -664,7 +664,7 @@ fn under_chance_ceilings() {
         agree(&mut rng, &table, 3);
         let table = clustered(&mut rng, n, 4096);
         agree(&mut rng, &table, 3);
-        let table = ring_domino(&mut rng, n, 4096, Order::ALL[round % 5]);
+        let table = ring_domino(&mut rng, n, 4096, Order::ALL[round % 6]);
         agree(&mut rng, &table, 3);
     }
     assert!(most_rounds > 100, "{most_rounds}");

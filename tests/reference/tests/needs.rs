@@ -24,7 +24,8 @@ fn two_processes_depth_3() {
         needs_agree(&table, 3);
         tables += 1;
     }
-    assert_eq!(tables, 294);
+    // As many as `generators.rs` has by hand.
+    assert_eq!(tables, 236);
 }
 
 /// One save by each process is as much as a list must have.

@@ -47,16 +47,16 @@ share 38
     assert_eq!(listing(&numbers(&[3, 0, 1, 2, 5])), text);
 }
 
-/// "and 3 of 8 print 38", with messages. Message 0 is an orphan when process 0
+/// "and 3 of 8 print 38", with messages. Message 2 is an orphan when process 0
 /// holds, and puts process 1 back to 1; nothing puts process 0 back. Message 1
-/// is received in state 2, after that line, and was sent before it. Message 2
+/// is received in state 2, after that line, and was sent before it. Message 0
 /// is received before every line. Message 3 waits.
 #[test]
 fn three_states_of_8_with_messages() {
     let table = [
         2, 4, 3, 5, // N, M, counts
-        0, 2, 0, 1, 0, 0, 1, 4, // sends
-        1, 2, 1, 2, 1, 1, 0, 0, // receipts
+        0, 0, 0, 1, 0, 2, 1, 4, // sends
+        1, 1, 1, 2, 1, 2, 0, 0, // receipts
     ];
     let text = "line 2 1
 hold 0 2 1

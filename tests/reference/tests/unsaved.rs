@@ -156,9 +156,28 @@ impl Reading {
             && messages.any(|message| message.receiver == i && message.received == table.counts[i])
     }
 
+    /// Check 24, of document 02, §7: of each sender none that waits and is not
+    /// listed stands before one that is.
+    fn passes_over(self, table: &Table, i: usize, list: &[u16]) -> bool {
+        (0..table.processes()).any(|j| {
+            let mut passed = false;
+            let messages = table.messages.iter().enumerate();
+            messages
+                .filter(|(_, message)| (message.sender, message.receiver) == (j, i))
+                .any(|(k, message)| {
+                    let listed = list.contains(&(k as u16));
+                    passed |= message.received == 0 && !listed;
+                    passed && listed
+                })
+        })
+    }
+
     fn receive(self, table: &Table, i: usize, list: &[u16]) -> Told {
         if self == EmptyListRefused && list.is_empty() || self.list_is_bad(table, i, list) {
             return Told::Number(13);
+        }
+        if self.passes_over(table, i, list) {
+            return Told::Number(24);
         }
         if self == FourteenForReceipts && table.counts[i] == 4096 {
             return Told::Number(14);
@@ -184,6 +203,9 @@ impl Reading {
     fn save(self, table: &Table, i: usize, list: &[u16]) -> Told {
         if self.list_is_bad(table, i, list) {
             return Told::Number(13);
+        }
+        if self.passes_over(table, i, list) {
+            return Told::Number(24);
         }
         if table.counts[i] == 4096 {
             return Told::Number(14);
@@ -390,22 +412,19 @@ fn save_of(i: usize, list: &[u16]) -> Act {
     Save(i, list.to_vec())
 }
 
-/// Counts 3 2; messages 0 and 1 wait for process 1, which has nothing unsaved;
-/// 2 was received by its state 1.
+/// Counts 3 2; messages 1 and 2 wait for process 1, which has nothing unsaved;
+/// 0 was received by its state 1.
 fn two_waiting() -> Table {
-    table(
-        &[3, 2],
-        &[((0, 1), (1, 0)), ((0, 2), (1, 0)), ((0, 0), (1, 1))],
-    )
+    two_waiting_then(0, 0, 2)
 }
 
 fn two_waiting_then(first: u32, second: u32, count: u32) -> Table {
     table(
         &[3, count],
         &[
+            ((0, 0), (1, 1)),
             ((0, 1), (1, first)),
             ((0, 2), (1, second)),
-            ((0, 0), (1, 1)),
         ],
     )
 }
@@ -436,7 +455,7 @@ fn cases() -> Vec<Case> {
         // A receipt: the count, and the count stays.
         case(
             two_waiting(),
-            &[receipt(1, &[0])],
+            &[receipt(1, &[1])],
             Told::Table(two_waiting_then(2, 0, 2)),
             &[
                 NumberOfTheLastState,
@@ -469,7 +488,7 @@ fn cases() -> Vec<Case> {
         // One receipt after another: the same number, the count did not grow.
         case(
             two_waiting(),
-            &[receipt(1, &[0]), receipt(1, &[1])],
+            &[receipt(1, &[1]), receipt(1, &[2])],
             Told::Table(two_waiting_then(2, 2, 2)),
             &[
                 CheckNineAsItWas,
@@ -482,13 +501,13 @@ fn cases() -> Vec<Case> {
         // list it.
         case(
             two_waiting(),
-            &[receipt(1, &[0]), receipt(1, &[0])],
+            &[receipt(1, &[1]), receipt(1, &[1])],
             Told::Number(13),
             &[CheckNineAsItWas, UnsavedMayBeListed, ReceiptOnlyCopies],
         ),
         case(
             two_waiting_then(2, 0, 2),
-            &[save_of(1, &[0, 1])],
+            &[save_of(1, &[1, 2])],
             Told::Number(13),
             &[UnsavedMayBeListed],
         ),
@@ -503,7 +522,7 @@ fn cases() -> Vec<Case> {
         // what it lists itself gets the same one.
         case(
             two_waiting(),
-            &[receipt(1, &[0]), save_of(1, &[])],
+            &[receipt(1, &[1]), save_of(1, &[])],
             Told::Table(two_waiting_then(2, 0, 3)),
             &[
                 CheckNineAsItWas,
@@ -516,7 +535,7 @@ fn cases() -> Vec<Case> {
         ),
         case(
             two_waiting(),
-            &[receipt(1, &[0]), save_of(1, &[1])],
+            &[receipt(1, &[1]), save_of(1, &[2])],
             Told::Table(two_waiting_then(2, 2, 3)),
             &[
                 SaveLeavesThemUnsaved,
@@ -529,9 +548,9 @@ fn cases() -> Vec<Case> {
         case(
             two_waiting(),
             &[
-                receipt(1, &[0]),
-                save_of(1, &[]),
                 receipt(1, &[1]),
+                save_of(1, &[]),
+                receipt(1, &[2]),
                 save_of(1, &[]),
                 save_of(1, &[]),
             ],
@@ -670,26 +689,26 @@ fn cases() -> Vec<Case> {
             sheet(&[(0, 0), (1, 0)], &[0]),
             &[CheckNineAsItWas, KeptNever, KeptAcrossTheRecoveryLine],
         ),
-        // Lines 1 1 and 2 1. Message 0 was sent before both, 1 before the second;
-        // 2 was received by state 1, before both.
+        // Lines 1 1 and 2 1. Message 1 was sent before both, 2 before the second;
+        // 0 was received by state 1, before both.
         case(
             table(
                 &[2, 2],
-                &[((0, 0), (1, 2)), ((0, 1), (1, 2)), ((0, 0), (1, 1))],
+                &[((0, 0), (1, 1)), ((0, 0), (1, 2)), ((0, 1), (1, 2))],
             ),
             &[Keep],
-            sheet(&[(0, 1), (1, 1)], &[0, 1]),
+            sheet(&[(0, 1), (1, 1)], &[1, 2]),
             &[KeptNever, KeptAcrossTheRecoveryLine, LastStateHasReceived],
         ),
         // After a save it is a receipt like any other: lines 1 1 and 2 2, state 2
-        // of process 1 received both. Message 1 is crossed by none of them.
+        // of process 1 received both. Message 2 is crossed by none of them.
         case(
             table(
                 &[2, 2],
-                &[((0, 0), (1, 2)), ((0, 1), (1, 2)), ((0, 0), (1, 1))],
+                &[((0, 0), (1, 1)), ((0, 0), (1, 2)), ((0, 1), (1, 2))],
             ),
             &[save_of(1, &[]), Keep],
-            sheet(&[(0, 1), (1, 1), (1, 2)], &[0]),
+            sheet(&[(0, 1), (1, 1), (1, 2)], &[1]),
             &[
                 SaveLeavesThemUnsaved,
                 SaveGivesTheStateBefore,
@@ -800,7 +819,7 @@ fn on_all_small_tables() {
     }
 }
 
-/// The rising lists of positions that wait for a process.
+/// The rising lists of positions that wait for a process, in turn or not.
 fn waiting_lists(table: &Table, i: usize) -> Vec<Vec<u16>> {
     let waiting = table.waiting_for(i);
     let taken = |mask: u16| {
@@ -814,10 +833,11 @@ fn waiting_lists(table: &Table, i: usize) -> Vec<Vec<u16>> {
 /// save after it with nothing on its list is a save with its list; two receipts
 /// are one with both lists; a fall back undoes it; the recovery line is where it
 /// was, and so is the line of every set that has the receiver in it; the line of
-/// any other set is no later than it was, and at the counts for no holder.
+/// any other set is no later than it was, and at the counts for no holder. A list
+/// that passes over a message is refused, by the second of two receipts too.
 #[test]
 fn receipts_of_all_small_tables() {
-    let (mut receipts, mut earlier) = (0, 0);
+    let (mut receipts, mut earlier, mut passing) = (0, 0, 0);
     for table in small_tables().step_by(3) {
         let bytes = table.to_bytes();
         let n = table.processes();
@@ -831,6 +851,12 @@ fn receipts_of_all_small_tables() {
         for i in 0..n as u16 {
             let lists = waiting_lists(&table, i.into());
             for list in &lists {
+                if AsWritten.passes_over(&table, i.into(), list) {
+                    assert_eq!(receive(&bytes, i, list, ROOM), Outcome::refused(24));
+                    assert_eq!(save(&bytes, i, list, ROOM), Outcome::refused(24));
+                    passing += 1;
+                    continue;
+                }
                 let after = done(receive(&bytes, i, list, bytes.len()));
                 assert_eq!(check_table(&after), 0);
                 assert_eq!(after == bytes, list.is_empty());
@@ -845,6 +871,8 @@ fn receipts_of_all_small_tables() {
                     let second = receive(&after, i, other, bytes.len());
                     if list.iter().any(|k| other.contains(k)) {
                         assert_eq!(second, Outcome::refused(13));
+                    } else if AsWritten.passes_over(&table, i.into(), &both) {
+                        assert_eq!(second, Outcome::refused(24));
                     } else {
                         let once = done(receive(&bytes, i, &both, bytes.len()));
                         assert_eq!(done(second), once);
@@ -869,5 +897,8 @@ fn receipts_of_all_small_tables() {
             }
         }
     }
-    assert!(receipts > 3_000 && earlier > 500, "{receipts} {earlier}");
+    assert!(
+        receipts > 3_000 && earlier > 500 && passing > 500,
+        "{receipts} {earlier} {passing}"
+    );
 }

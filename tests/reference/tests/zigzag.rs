@@ -1064,13 +1064,14 @@ fn all_chains(table: &Table) -> Vec<Vec<usize>> {
 /// The search finds a path from one state to another, or to itself, exactly when
 /// some chain of messages is one, and finds none that is longer than needed. A
 /// chain that passes a message twice can leave out what lies between, so chains
-/// without such are all that need be tried.
+/// without such are all that need be tried. A path does not look at the order of
+/// channels, and these tables are of both kinds.
 #[test]
 fn every_chain_of_messages() {
     let mut paths = 0;
     for table in [(2, 2, 3), (2, 3, 2), (3, 2, 2), (4, 1, 2)]
         .into_iter()
-        .flat_map(|(n, c, m)| all_tables(n, c, m))
+        .flat_map(|(n, c, m)| all_tables_of_both_sides(n, c, m))
     {
         let chains = all_chains(&table);
         let states: Vec<State> = (0..table.processes())
@@ -1245,7 +1246,7 @@ fn with_chance_names() {
         agree(&mut rng, &table, 4);
         let table = clustered(&mut rng, n, 4096);
         agree(&mut rng, &table, 4);
-        let table = ring_domino(&mut rng, n, 4096, Order::ALL[round % 5]);
+        let table = ring_domino(&mut rng, n, 4096, Order::ALL[round % 6]);
         agree(&mut rng, &table, 4);
     }
     assert!(yeses > 10_000 && noes > 4_000, "{yeses} {noes}");
