@@ -9,7 +9,8 @@ use reference::*;
 
 /// "whatever any list needs is on the sheet, and whatever is on the sheet some
 /// list needs.", with the receiving step among the steps: "the sheet holds
-/// exactly what these futures need."
+/// exactly what these futures need." And "Futures receive only in that order, and
+/// what is kept is measured by such futures."
 fn needs_agree(table: &Table, depth: usize) {
     let (states, messages) = needed_by_futures(table, depth);
     let sheet = kept(table);
@@ -54,13 +55,21 @@ fn two_processes_with_more_states_and_messages() {
 }
 
 /// All tables, of those that differ in the names of processes and the order of
-/// messages alone one at least: counts and messages do not fall.
+/// messages alone one at least: counts and messages do not fall, where waiting is
+/// above all receipt numbers, as it is within a channel.
 #[test]
 fn three_processes() {
     let (mut tables, mut with_unsaved) = (0, 0);
+    let key = |one: &Message| {
+        let receipt = (one.waiting(), one.received);
+        (one.sender, one.sent, one.receiver, receipt)
+    };
     let one_at_least = |table: &Table| {
         table.counts.windows(2).all(|pair| pair[0] <= pair[1])
-            && table.messages.windows(2).all(|pair| pair[0] <= pair[1])
+            && table
+                .messages
+                .windows(2)
+                .all(|pair| key(&pair[0]) <= key(&pair[1]))
     };
     for table in all_tables(3, 2, 2).filter(one_at_least) {
         needs_agree(&table, 3);
@@ -75,6 +84,24 @@ fn three_processes() {
     for table in all_tables(3, 2, 1).filter(one_at_least).step_by(2) {
         needs_agree(&table, 4);
     }
+}
+
+/// Channels of up to four messages, under the least counts and up to 2.
+#[test]
+fn longer_channels() {
+    let of_one_channel = |table: &Table| {
+        let mut messages = table.messages.iter();
+        messages.all(|message| message.same_channel(&table.messages[0]))
+    };
+    let mut tables = 0;
+    for table in all_tables(2, 1, 4).chain(all_tables(2, 2, 4).filter(of_one_channel)) {
+        needs_agree(&table, 3);
+        tables += 1;
+    }
+    // With m messages of a channel that has two send numbers and three receipt
+    // numbers, waiting among them, m + 1 times (m + 1) (m + 2) / 2 are in turn.
+    let of_2_2 = 1 + 2 * (2 * 3 + 3 * 6 + 4 * 10 + 5 * 15);
+    assert!(tables > of_2_2, "{tables}");
 }
 
 /// Without the receiving step the same is needed, at every depth: where a list
