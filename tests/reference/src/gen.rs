@@ -191,8 +191,47 @@ pub fn put_out_of_turn(rng: &mut Rng, table: &Table, fault: Fault) -> Option<Tab
 }
 
 // ---------------------------------------------------------------------------
-// Accepted tables by chance. Each kind is made with unsaved messages, and as it
-// was before document 02, §4, without them.
+// Tables by chance. Each kind is made with unsaved messages, and as it was before
+// document 02, §4, without them. They are accepted, but for those of
+// [`in_any_order`].
+
+/// Whether the messages of a channel are in turn.
+#[derive(Clone, Copy, Debug, PartialEq, Eq)]
+enum Turn {
+    /// Each channel is in order: "Channels deliver in turn."
+    Kept,
+    /// They come as they come, as before document 02, §7.
+    Any,
+}
+
+/// A table of the named kind as its seed gave it before document 02, §7, so that
+/// channels are in any order: `history`, `arbitrary` and `clustered`, and with
+/// unsaved messages `history-unsaved` and so on. `None` for another kind.
+pub fn in_any_order(rng: &mut Rng, kind: &str, n: usize, m: usize) -> Option<Table> {
+    Some(match kind {
+        "history" => history_with(rng, n, m, 0, Turn::Any),
+        "history-unsaved" => {
+            let receive_share = rng.between(5, 70);
+            history_with(rng, n, m, receive_share, Turn::Any)
+        }
+        "arbitrary" => {
+            let most = some_most(rng);
+            arbitrary_with(rng, n, m, most, &saved_receipt, Turn::Any)
+        }
+        "arbitrary-unsaved" => {
+            let most = some_most(rng);
+            arbitrary_with(rng, n, m, most, &any_receipt, Turn::Any)
+        }
+        "clustered" => clustered_with(rng, n, m, &near_and_saved, Turn::Any),
+        "clustered-unsaved" => clustered_with(rng, n, m, &near_or_unsaved, Turn::Any),
+        _ => return None,
+    })
+}
+
+/// The highest count of an arbitrary table that is made by its name.
+fn some_most(rng: &mut Rng) -> u32 {
+    [2, 8, 64, 512, MOST_STATES][rng.between(0, 4)]
+}
 
 /// A history made by the steps alone, from processes with one state each. It
 /// ends soon after the m-th message, or after a bounded number of steps. Half
@@ -201,17 +240,17 @@ pub fn put_out_of_turn(rng: &mut Rng, table: &Table, fault: Fault) -> Option<Tab
 /// that receives is added". It receives each channel's messages in the order sent.
 pub fn history(rng: &mut Rng, n: usize, m: usize) -> Table {
     let receive_share = rng.between(5, 70);
-    history_with(rng, n, m, receive_share)
+    history_with(rng, n, m, receive_share, Turn::Kept)
 }
 
 /// A history without receipts: a process receives when it saves.
 pub fn saved_history(rng: &mut Rng, n: usize, m: usize) -> Table {
-    history_with(rng, n, m, 0)
+    history_with(rng, n, m, 0, Turn::Kept)
 }
 
 /// A history in which so many of a hundred steps that are no sends and no fall
 /// backs receive, and the others save.
-fn history_with(rng: &mut Rng, n: usize, m: usize, receive_share: usize) -> Table {
+fn history_with(rng: &mut Rng, n: usize, m: usize, receive_share: usize, turn: Turn) -> Table {
     let mut table = Table::start(n);
     let most_steps = 4 * m + 3 * n;
     let fall_backs = rng.chance(1, 2);
@@ -235,9 +274,11 @@ fn history_with(rng: &mut Rng, n: usize, m: usize, receive_share: usize) -> Tabl
             let receives = receive_share > 0 && rng.chance(receive_share, 100);
             if receives || table.counts[i] < MOST_STATES {
                 let waiting = table.waiting_for(i);
-                let mut chosen = waiting.clone();
-                chosen.retain(|_| rng.chance(take_share, 100));
-                let list = oldest_as_many(&table, &waiting, &chosen);
+                let mut list = waiting.clone();
+                list.retain(|_| rng.chance(take_share, 100));
+                if turn == Turn::Kept {
+                    list = oldest_as_many(&table, &waiting, &list);
+                }
                 if receives {
                     do_receive(&mut table, i, &list);
                 } else {
@@ -254,30 +295,36 @@ fn history_with(rng: &mut Rng, n: usize, m: usize, receive_share: usize) -> Tabl
 /// 4,096." It need not be a run that could have happened. One message in seven
 /// or more is unsaved, however large the counts are.
 pub fn arbitrary(rng: &mut Rng, n: usize, m: usize, most: u32) -> Table {
-    arbitrary_with(rng, n, m, most, &|rng, count| {
-        if rng.chance(1, 7) {
-            count
-        } else {
-            rng.between(0, count as usize) as u32
-        }
-    })
+    arbitrary_with(rng, n, m, most, &any_receipt, Turn::Kept)
 }
 
 /// Any accepted table whose receipt numbers are all below the counts.
 pub fn saved_arbitrary(rng: &mut Rng, n: usize, m: usize, most: u32) -> Table {
-    arbitrary_with(rng, n, m, most, &|rng, count| {
-        rng.between(0, count as usize - 1) as u32
-    })
+    arbitrary_with(rng, n, m, most, &saved_receipt, Turn::Kept)
 }
 
-/// Any table whose channels are in order, with `receipt` for a receipt number
-/// under a count.
+/// A receipt number up to the count, and that one more often.
+fn any_receipt(rng: &mut Rng, count: u32) -> u32 {
+    if rng.chance(1, 7) {
+        count
+    } else {
+        rng.between(0, count as usize) as u32
+    }
+}
+
+/// A receipt number below the count.
+fn saved_receipt(rng: &mut Rng, count: u32) -> u32 {
+    rng.between(0, count as usize - 1) as u32
+}
+
+/// Any table, with `receipt` for a receipt number under a count.
 fn arbitrary_with(
     rng: &mut Rng,
     n: usize,
     m: usize,
     most: u32,
     receipt: &dyn Fn(&mut Rng, u32) -> u32,
+    turn: Turn,
 ) -> Table {
     let counts: Vec<u32> = (0..n)
         .map(|_| rng.between(1, most as usize) as u32)
@@ -292,7 +339,9 @@ fn arbitrary_with(
         let received = receipt(rng, table.counts[i]);
         table.messages.push(Message::new((j, sent), (i, received)));
     }
-    put_in_turn(&mut table.messages);
+    if turn == Turn::Kept {
+        put_in_turn(&mut table.messages);
+    }
     table
 }
 
@@ -302,23 +351,37 @@ fn arbitrary_with(
 /// groups. So single-holder lines differ from one group to the other. What
 /// would be received after the last state is unsaved.
 pub fn clustered(rng: &mut Rng, n: usize, m: usize) -> Table {
-    clustered_with(rng, n, m, &|near, count| near.min(count))
+    clustered_with(rng, n, m, &near_or_unsaved, Turn::Kept)
 }
 
 /// The same, where what would be received after the last state waits.
 pub fn saved_clustered(rng: &mut Rng, n: usize, m: usize) -> Table {
-    clustered_with(rng, n, m, &|near, count| {
-        if near < count {
-            near
-        } else {
-            0
-        }
-    })
+    clustered_with(rng, n, m, &near_and_saved, Turn::Kept)
+}
+
+/// A receipt near a number, unsaved where that is above the last state.
+fn near_or_unsaved(near: u32, count: u32) -> u32 {
+    near.min(count)
+}
+
+/// A receipt near a number, waiting where that is above the last state.
+fn near_and_saved(near: u32, count: u32) -> u32 {
+    if near < count {
+        near
+    } else {
+        0
+    }
 }
 
 /// Traffic in clusters, with `receipt` for a receipt near a number and under a
 /// count.
-fn clustered_with(rng: &mut Rng, n: usize, m: usize, receipt: &dyn Fn(u32, u32) -> u32) -> Table {
+fn clustered_with(
+    rng: &mut Rng,
+    n: usize,
+    m: usize,
+    receipt: &dyn Fn(u32, u32) -> u32,
+    turn: Turn,
+) -> Table {
     let group = rng.between(2, 5);
     let share = m / n.max(1);
     let most = (share + 4).clamp(2, MOST_STATES as usize);
@@ -347,6 +410,11 @@ fn clustered_with(rng: &mut Rng, n: usize, m: usize, receipt: &dyn Fn(u32, u32) 
         if rng.chance(1, 12) {
             late.push(k);
         }
+    }
+    if turn == Turn::Any {
+        late.into_iter()
+            .for_each(|k| table.messages[k].received = 0);
+        return table;
     }
     put_in_turn(&mut table.messages);
     // For each that is late the last one of its channel that was received waits:
@@ -1130,11 +1198,17 @@ pub const KINDS: [&str; 22] = [
 ];
 
 /// The kinds whose channels are out of order: the first three in one way each,
-/// the dominoes where they have messages enough.
-pub const OUT_OF_TURN_KINDS: [&str; 9] = [
+/// the others where they have messages enough.
+pub const OUT_OF_TURN_KINDS: [&str; 15] = [
     "out-of-turn-sent",
     "out-of-turn-waiting",
     "out-of-turn-received",
+    "any-order-history",
+    "any-order-history-unsaved",
+    "any-order-arbitrary",
+    "any-order-arbitrary-unsaved",
+    "any-order-clustered",
+    "any-order-clustered-unsaved",
     "domino-reverse",
     "domino-shuffled",
     "domino-every-second",
@@ -1147,8 +1221,9 @@ pub const OUT_OF_TURN_KINDS: [&str; 9] = [
 /// `clustered` have no unsaved messages; `...-unsaved` have them. `domino-...` has
 /// two processes whatever n is; `staircase` and `limit` do not look at m; `limit`
 /// takes one of its tables by the seed; `out-of-turn-...` and `damage-K` spoil an
-/// arbitrary table in a way and for check K of a table. `None` for an unknown kind
-/// or for a size that the kind cannot have.
+/// arbitrary table in a way and for check K of a table; `any-order-...` is what the
+/// seed gave before channels were in turn. `None` for an unknown kind or for a size
+/// that the kind cannot have.
 pub fn by_name(kind: &str, seed: u64, n: usize, m: usize) -> Option<Vec<u8>> {
     if n == 0 || n > MOST_PROCESSES || m > MOST_MESSAGES {
         return None;
@@ -1188,11 +1263,14 @@ pub fn by_name(kind: &str, seed: u64, n: usize, m: usize) -> Option<Vec<u8>> {
         }
         return Some(put_out_of_turn(rng, &whole, fault)?.to_bytes());
     }
+    if let Some(kind) = kind.strip_prefix("any-order-") {
+        return Some(in_any_order(rng, kind, n, m)?.to_bytes());
+    }
     let table = match family {
         "history" => saved_history(rng, n, m),
         "history-unsaved" => history(rng, n, m),
         "arbitrary" | "arbitrary-unsaved" => {
-            let most = [2, 8, 64, 512, MOST_STATES][rng.between(0, 4)];
+            let most = some_most(rng);
             if kind == "arbitrary" {
                 saved_arbitrary(rng, n, m, most)
             } else {

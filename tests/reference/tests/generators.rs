@@ -358,13 +358,20 @@ fn channels_are_broken_in_one_way() {
 }
 
 /// The kinds that are out of turn are refused by 23, where they have messages
-/// enough: three rounds at least, and of every second one first an odd ring.
+/// enough: three rounds at least, and of every second one first an odd ring. Those
+/// that come in any order are mostly refused.
 #[test]
 fn kinds_out_of_turn_are_refused() {
+    let mut by_chance = BTreeMap::new();
     for seed in 0..30 {
         for kind in OUT_OF_TURN_KINDS {
             for (n, m) in [(2, 9), (5, 40), (7, 21), (32, 300)] {
                 let bytes = by_name(kind, seed, n, m).unwrap();
+                if kind.starts_with("any-order") {
+                    *by_chance.entry(kind).or_insert(0) += check_table(&bytes) / 23;
+                    assert!([0, 23].contains(&check_table(&bytes)), "{kind} {n}");
+                    continue;
+                }
                 let even = kind == "domino-every-second" || n % 2 == 0;
                 let in_turn = kind.ends_with("every-second") && even;
                 assert_eq!(
@@ -377,6 +384,9 @@ fn kinds_out_of_turn_are_refused() {
         }
         assert_eq!(check_table(&by_name("damage-23", seed, 3, 8).unwrap()), 23);
     }
+    // Of the 120 tables of each of these kinds most.
+    assert!(by_chance.values().all(|&times| times > 60), "{by_chance:?}");
+    assert_eq!(by_chance.len(), 6);
     assert_eq!(by_name("out-of-turn-sent", 0, 2, 1), None);
     assert_eq!(by_name("out-of-turn-other", 0, 2, 9), None);
 }
