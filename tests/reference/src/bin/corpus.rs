@@ -7,8 +7,10 @@
 //! is refused with N and nothing else is refused (the cases of the document and
 //! what is accepted since document 02, §4, apart), `share_N_...` ends in that
 //! share, `..._of_V_by_K_of_S` keeps K of S states, which is V percent, and the
-//! document's own cases, the first ones with unsaved messages and those of zigzag
-//! paths have the texts that were worked out by hand from the documents.
+//! document's own cases, the first ones with unsaved messages, those of zigzag
+//! paths and those of channels have the texts that were worked out by hand from
+//! the documents. `refused_23_NAME` is what NAME was before document 02, §7, where
+//! that is out of turn.
 
 use std::collections::BTreeSet;
 use std::path::Path;
@@ -345,7 +347,7 @@ fn of_unsaved() -> Vec<(&'static str, Vec<u8>, &'static str)> {
         // Both were sent from the states at which the lines stand.
         (
             "unsaved_across_no_line",
-            written(&[2, 2], &[[1, 1, 0, 2], [0, 1, 1, 2], [0, 0, 1, 1]]),
+            written(&[2, 2], &[[1, 1, 0, 2], [0, 0, 1, 1], [0, 1, 1, 2]]),
             ACROSS_NO_LINE_TEXT,
         ),
     ]
@@ -420,6 +422,98 @@ fn of_zigzag() -> Vec<(&'static str, Vec<u8>, &'static str)> {
             "zigzag_cycle_of_three",
             written(&[2, 2, 2], &[[0, 0, 1, 1], [1, 0, 2, 1], [2, 1, 0, 1]]),
             CYCLE_OF_THREE_TEXT,
+        ),
+    ]
+}
+
+// ---------------------------------------------------------------------------
+// Channels, with what each table is to print, by hand.
+
+const RECEIVED_THEN_WAITING_TEXT: &str = "line 1 1
+hold 0 1 2
+hold 1 2 1
+checkpoint 0 1
+checkpoint 1 1
+message 1
+share 50
+";
+
+const SAVED_UNSAVED_WAITING_TEXT: &str = "line 1 1
+hold 0 1 1
+hold 1 2 1
+checkpoint 0 1
+checkpoint 1 1
+message 1
+message 2
+message 3
+share 50
+";
+
+const EQUAL_NUMBERS_TEXT: &str = "line 2 2
+hold 0 2 3
+hold 1 3 2
+checkpoint 0 2
+checkpoint 1 2
+share 33
+";
+
+const THREE_CHANNELS_TEXT: &str = "line 1 0 1
+hold 0 1 0 2
+hold 1 2 1 2
+hold 2 2 2 1
+checkpoint 0 1
+checkpoint 1 0
+checkpoint 1 1
+checkpoint 2 1
+message 0
+message 1
+message 2
+message 4
+share 67
+";
+
+/// Name, table and text.
+fn of_channels() -> Vec<(&'static str, Vec<u8>, &'static str)> {
+    vec![
+        // The first is before every line, the second waits.
+        (
+            "channel_received_then_waiting",
+            written(&[2, 2], &[[0, 0, 1, 1], [0, 1, 1, 0]]),
+            RECEIVED_THEN_WAITING_TEXT,
+        ),
+        // One of each kind, and two that are unsaved: the first of these was sent
+        // before both hold lines, the second before that of process 1.
+        (
+            "channel_saved_unsaved_and_waiting",
+            written(
+                &[2, 2],
+                &[[0, 0, 1, 1], [0, 0, 1, 2], [0, 1, 1, 2], [0, 1, 1, 0]],
+            ),
+            SAVED_UNSAVED_WAITING_TEXT,
+        ),
+        // Both numbers are equal, and no line is between.
+        (
+            "channel_of_equal_numbers",
+            written(&[3, 3], &[[0, 1, 1, 2], [0, 1, 1, 2]]),
+            EQUAL_NUMBERS_TEXT,
+        ),
+        // Three channels to process 1 and from it, each in turn and none with the
+        // others. State 1 of process 1 has received 3, which was sent after state 1
+        // of process 0: with that one holding 1 stands at 0, and 0 waits there
+        // again, as 2 does.
+        (
+            "channel_between_other_channels",
+            written(
+                &[2, 2, 2],
+                &[
+                    [0, 0, 1, 1],
+                    [1, 1, 2, 0],
+                    [2, 0, 1, 1],
+                    [0, 1, 1, 1],
+                    [2, 1, 1, 0],
+                ],
+            ),
+            THREE_CHANNELS_TEXT,
         ),
     ]
 }
@@ -652,6 +746,322 @@ fn order_of_checks(list: &mut Vec<Named>) {
     });
 }
 
+/// Check 23: two messages of one channel, out of turn and in turn.
+fn channels(list: &mut Vec<Named>) {
+    let two = |first: [u16; 2], second: [u16; 2]| {
+        let entry = |[sent, received]: [u16; 2]| [0, sent, 1, received];
+        written(&[3, 3], &[entry(first), entry(second)])
+    };
+    // The later one's send number is smaller.
+    add(list, "refused_23_sent_earlier", two([1, 1], [0, 1]));
+    add(
+        list,
+        "refused_23_sent_earlier_both_waiting",
+        two([2, 0], [1, 0]),
+    );
+    add(
+        list,
+        "refused_23_sent_earlier_received_and_waiting",
+        two([2, 1], [0, 0]),
+    );
+    add(
+        list,
+        "refused_23_sent_earlier_received_later",
+        two([1, 1], [0, 2]),
+    );
+    // It is received while the earlier one waits.
+    add(
+        list,
+        "refused_23_received_while_the_earlier_waits",
+        two([0, 0], [0, 1]),
+    );
+    add(
+        list,
+        "refused_23_sent_later_received_while_the_earlier_waits",
+        two([0, 0], [2, 2]),
+    );
+    add(
+        list,
+        "refused_23_unsaved_while_the_earlier_waits",
+        two([0, 0], [1, 3]),
+    );
+    add(
+        list,
+        "refused_23_counts_1_unsaved_while_the_earlier_waits",
+        written(&[1, 1], &[[1, 0, 0, 0], [1, 0, 0, 1]]),
+    );
+    // Its receipt number is smaller.
+    add(list, "refused_23_received_earlier", two([0, 2], [0, 1]));
+    add(
+        list,
+        "refused_23_sent_later_received_earlier",
+        two([0, 2], [2, 1]),
+    );
+    add(list, "refused_23_saved_after_unsaved", two([0, 3], [1, 2]));
+    // In all three ways at once there are three messages.
+    add(list, "refused_23_three_faults", {
+        written(&[3, 3], &[[0, 2, 1, 2], [0, 1, 1, 0], [0, 0, 1, 1]])
+    });
+
+    // Equal numbers, and all that rises.
+    add(list, "accepted_channel_equal_sends", two([1, 1], [1, 2]));
+    add(list, "accepted_channel_equal_receipts", two([0, 2], [1, 2]));
+    add(list, "accepted_channel_both_rise", two([0, 1], [2, 2]));
+    add(list, "accepted_channel_all_waiting", two([0, 0], [2, 0]));
+    add(
+        list,
+        "accepted_channel_received_then_waiting_of_equal_sends",
+        two([1, 2], [1, 0]),
+    );
+    add(
+        list,
+        "accepted_channel_unsaved_then_waiting",
+        two([0, 3], [0, 0]),
+    );
+    add(
+        list,
+        "accepted_channel_saved_then_unsaved",
+        two([0, 2], [0, 3]),
+    );
+    add(list, "accepted_channel_both_unsaved", two([0, 3], [1, 3]));
+
+    // Not neighbours: others stand between, of the other direction, with the same
+    // receiver and with the same sender.
+    let between = |first: Entry, last: Entry| {
+        let others = [[1, 0, 0, 1], [2, 0, 1, 2], [0, 0, 2, 1], [2, 2, 1, 2]];
+        let all: Vec<Entry> = [&[first][..], &others, &[last]].concat();
+        written(&[3, 3, 3], &all)
+    };
+    add(list, "refused_23_others_between_sent_earlier", {
+        between([0, 2, 1, 1], [0, 1, 1, 1])
+    });
+    add(
+        list,
+        "refused_23_others_between_received_while_the_earlier_waits",
+        between([0, 0, 1, 0], [0, 1, 1, 1]),
+    );
+    add(
+        list,
+        "refused_23_others_between_unsaved_while_the_earlier_waits",
+        between([0, 0, 1, 0], [0, 1, 1, 3]),
+    );
+    add(list, "refused_23_others_between_received_earlier", {
+        between([0, 0, 1, 2], [0, 1, 1, 1])
+    });
+    add(list, "accepted_others_between", {
+        between([0, 0, 1, 1], [0, 1, 1, 1])
+    });
+    // Of a channel of four the last two, and the first two.
+    let four = |receipts: [u16; 4]| written(&[3, 5], &receipts.map(|r| [0, 1, 1, r]));
+    add(list, "refused_23_last_two_of_four", four([1, 2, 4, 3]));
+    add(list, "refused_23_first_two_of_four", four([2, 1, 3, 4]));
+    add(list, "refused_23_first_of_four_waits", four([0, 1, 2, 3]));
+    add(list, "refused_23_third_of_four_waits", four([1, 2, 0, 3]));
+    add(list, "accepted_four_that_rise", four([1, 2, 3, 4]));
+    add(list, "accepted_four_of_which_two_wait", four([1, 4, 0, 0]));
+
+    // What would be out of turn in one channel is not in two.
+    add(list, "accepted_other_direction_out_of_turn", {
+        written(&[3, 3], &[[0, 2, 1, 2], [1, 0, 0, 1]])
+    });
+    add(list, "accepted_other_direction_received_while_one_waits", {
+        written(&[3, 3], &[[0, 0, 1, 0], [1, 0, 0, 1]])
+    });
+    add(list, "accepted_other_sender_out_of_turn", {
+        written(&[3, 3, 3], &[[0, 2, 1, 2], [2, 0, 1, 1]])
+    });
+    add(list, "accepted_other_sender_unsaved_while_one_waits", {
+        written(&[3, 3, 3], &[[0, 0, 1, 0], [2, 0, 1, 3]])
+    });
+    add(list, "accepted_other_receiver_out_of_turn", {
+        written(&[3, 3, 3], &[[0, 2, 1, 2], [0, 0, 2, 1]])
+    });
+
+    // Both bytes of the numbers: the low byte alone would rise, and fall.
+    let large = |first: [u16; 2], second: [u16; 2]| {
+        let entry = |[sent, received]: [u16; 2]| [31, sent, 0, received];
+        written(&[4_096; 32], &[entry(first), entry(second)])
+    };
+    add(
+        list,
+        "refused_23_sent_256_then_1",
+        large([256, 300], [1, 300]),
+    );
+    add(
+        list,
+        "refused_23_sent_256_then_255",
+        large([256, 0], [255, 0]),
+    );
+    add(
+        list,
+        "refused_23_received_512_then_257",
+        large([9, 512], [9, 257]),
+    );
+    add(
+        list,
+        "refused_23_received_4096_then_4095",
+        large([4_095, 4_096], [4_095, 4_095]),
+    );
+    add(
+        list,
+        "accepted_channel_255_then_256",
+        large([255, 255], [256, 256]),
+    );
+    add(
+        list,
+        "accepted_channel_4095_then_4096",
+        large([4_095, 4_095], [4_095, 4_096]),
+    );
+
+    // Full tables of two channels in turns: one is out of turn, the first that can
+    // be, and the last.
+    let full: Vec<Entry> = (0..4_096u16)
+        .map(|k| [k % 2, k / 2, 1 - k % 2, k / 2 + 1])
+        .collect();
+    add(list, "accepted_4096_messages_of_two_channels", {
+        written(&[2_048, 2_048], &full)
+    });
+    for (name, k) in [("third", 2), ("last", 4_095)] {
+        let mut sent = full.clone();
+        sent[k - 2][1] = sent[k][1];
+        sent[k][1] -= 1;
+        let mut received = full.clone();
+        received[k - 2][3] = 0;
+        for (way, messages) in [("sent_earlier", sent), ("received_first", received)] {
+            let name = format!("refused_23_{name}_of_4096_{way}");
+            add(list, &name, written(&[2_048, 2_048], &messages));
+        }
+    }
+
+    // The checks before it, each with its fault behind two that are out of turn.
+    let behind =
+        |counts: [u16; 2], last: Entry| written(&counts, &[[0, 1, 1, 1], [0, 0, 1, 1], last]);
+    add(list, "refused_9_order_23_9", behind([3, 3], [1, 0, 0, 4]));
+    add(list, "refused_8_order_23_8", behind([3, 3], [1, 3, 0, 0]));
+    add(list, "refused_7_order_23_7", behind([3, 3], [1, 0, 1, 0]));
+    add(list, "refused_6_order_23_6", behind([3, 3], [1, 0, 2, 0]));
+    add(
+        list,
+        "refused_5_order_5_23",
+        behind([3, 4_097], [1, 0, 0, 0]),
+    );
+    add(list, "refused_4_order_4_23", {
+        lengthened(behind([3, 3], [1, 0, 0, 0]), 33)
+    });
+    add(list, "refused_23_order_23_alone", {
+        behind([3, 3], [1, 0, 0, 0])
+    });
+    // In the two messages themselves.
+    add(list, "refused_9_order_9_and_23_in_one", two([0, 4], [0, 1]));
+    add(
+        list,
+        "refused_9_order_9_while_the_earlier_waits",
+        two([0, 0], [0, 4]),
+    );
+    add(list, "refused_8_order_8_and_23_in_one", two([3, 1], [0, 1]));
+    add(list, "refused_8_order_8_9_23", two([3, 4], [0, 1]));
+}
+
+// ---------------------------------------------------------------------------
+// Tables that were accepted before document 02, §7, and are out of turn. Each has
+// a table that is in turn and makes its point, under the name without the refusal
+// or, for orders of dominoes, under that of another order.
+
+/// Adds a table that 23 refuses, under the name that it had.
+fn was(list: &mut Vec<Named>, name: &str, bytes: Vec<u8>) {
+    add(list, &format!("refused_23_{name}"), bytes);
+}
+
+fn out_of_turn(list: &mut Vec<Named>) {
+    was(list, "sent_at_the_line_itself", {
+        let messages = [[0, 2, 1, 2], [0, 2, 1, 3], [0, 1, 1, 3], [0, 1, 1, 1]];
+        written(&[3, 4], &messages)
+    });
+    was(list, "the_same_entry_twice", {
+        let twice = [A_MESSAGES, A_MESSAGES].concat();
+        written(&A_COUNTS, &twice)
+    });
+    was(list, "received_before_sent", {
+        written(&[9, 9], &[[0, 8, 1, 1], [1, 3, 0, 2], [0, 0, 1, 8]])
+    });
+    was(list, "unsaved_across_no_line", {
+        written(&[2, 2], &[[1, 1, 0, 2], [0, 1, 1, 2], [0, 0, 1, 1]])
+    });
+    was(list, "share_12_of_12_5_by_2_of_16_with_messages", {
+        let messages = [[0, 8, 1, 4], [1, 6, 0, 5], [0, 3, 1, 4], [1, 3, 0, 0]];
+        written(&[9, 7], &messages)
+    });
+    let mut messages = vec![A_MESSAGES[1]; 1_003];
+    messages[500] = A_MESSAGES[2];
+    messages[501] = A_MESSAGES[3];
+    for (turn, position) in DIGITS_OF_POSITIONS.into_iter().enumerate() {
+        messages[position] = A_MESSAGES[if turn % 2 == 0 { 0 } else { 4 }];
+    }
+    was(list, "digits_of_positions", written(&A_COUNTS, &messages));
+    was(list, "digits_of_sends_and_receipts", {
+        let messages = [
+            [0, 300, 1, 1_000],
+            [1, 999, 0, 257],
+            [0, 256, 1, 512],
+            [0, 255, 1, 512],
+            [0, 255, 1, 511],
+            [1, 511, 0, 257],
+            [1, 510, 0, 257],
+            [1, 510, 0, 256],
+        ];
+        written(&[301, 1_002], &messages)
+    });
+    let by_seed = |kind: &str, seed: u64, n: usize, m: usize| {
+        let name = format!("any-order-{kind}");
+        let bytes = gen::by_name(&name, seed, n, m).or_else(|| gen::by_name(kind, seed, n, m));
+        bytes.expect("a kind and a size")
+    };
+    for (kind, seed, n, m) in OUT_OF_TURN {
+        let name = format!("{}_{n}_processes_{m}_messages", kind.replace('-', "_"));
+        was(list, &name, by_seed(kind, seed, n, m));
+    }
+    was(list, "largest_history", by_seed("history", 23, 32, 4_096));
+    was(list, "largest_history_unsaved", {
+        by_seed("history-unsaved", 21, 32, 4_096)
+    });
+    was(
+        list,
+        "largest_long_listing",
+        long_listing(&|_, drawn| drawn),
+    );
+}
+
+/// Kind, seed, processes and messages of the generated ones, as they were.
+const OUT_OF_TURN: [(&str, u64, usize, usize); 27] = [
+    ("history", 2, 2, 30),
+    ("history", 4, 5, 40),
+    ("history", 4, 8, 60),
+    ("history", 8, 12, 70),
+    ("history", 108, 32, 120),
+    ("arbitrary", 13, 2, 4),
+    ("arbitrary", 8, 3, 6),
+    ("arbitrary", 17, 5, 40),
+    ("arbitrary", 11, 6, 14),
+    ("arbitrary", 8, 10, 12),
+    ("clustered", 4, 4, 12),
+    ("clustered", 1, 9, 30),
+    ("clustered", 4, 16, 60),
+    ("clustered", 4, 32, 250),
+    ("domino-reverse", 2, 2, 8),
+    ("domino-shuffled", 3, 2, 25),
+    ("ring-reverse", 7, 4, 18),
+    ("ring-shuffled", 8, 5, 31),
+    ("history-unsaved", 116, 2, 30),
+    ("history-unsaved", 102, 5, 40),
+    ("history-unsaved", 6, 12, 70),
+    ("arbitrary-unsaved", 1, 2, 4),
+    ("arbitrary-unsaved", 45, 6, 14),
+    ("arbitrary-unsaved", 19, 10, 40),
+    ("clustered-unsaved", 72, 4, 12),
+    ("clustered-unsaved", 35, 9, 30),
+    ("clustered-unsaved", 1, 32, 250),
+];
+
 // ---------------------------------------------------------------------------
 // Accepted tables with a point.
 
@@ -701,9 +1111,9 @@ fn points(list: &mut Vec<Named>) {
         written(&[2, 2, 2], &[[0, 1, 1, 1], [2, 1, 1, 1]])
     });
     // y = L of the sender: sent after the line, so an orphan when received
-    // before it (0), and not kept when received after it (1). y = L - 1: kept (2).
+    // before it (2), and not kept when received after it (3). y = L - 1: kept (1).
     add(list, "sent_at_the_line_itself", {
-        let messages = [[0, 2, 1, 2], [0, 2, 1, 3], [0, 1, 1, 3], [0, 1, 1, 1]];
+        let messages = [[0, 1, 1, 1], [0, 1, 1, 2], [0, 2, 1, 2], [0, 2, 1, 3]];
         written(&[3, 4], &messages)
     });
     // Waiting messages sent after the recovery line: no orphans, and kept.
@@ -712,13 +1122,13 @@ fn points(list: &mut Vec<Named>) {
         written(&[2, 2], &messages)
     });
     add(list, "the_same_entry_twice", {
-        let twice = [A_MESSAGES, A_MESSAGES].concat();
+        let twice: Vec<Entry> = A_MESSAGES.iter().flat_map(|&one| [one, one]).collect();
         written(&A_COUNTS, &twice)
     });
     // Received in a state before the one it was sent after: the table is
     // accepted all the same.
     add(list, "received_before_sent", {
-        written(&[9, 9], &[[0, 8, 1, 1], [1, 3, 0, 2], [0, 0, 1, 8]])
+        written(&[9, 9, 9], &[[0, 8, 1, 1], [1, 3, 0, 2], [2, 0, 1, 8]])
     });
 }
 
@@ -847,10 +1257,10 @@ fn halves(list: &mut Vec<Named>) {
         add(list, &(name(share) + "_in_stairs"), stairs(kept, states));
     }
     // 2 of 16 is 12.5. Two processes that put each other back to states 4 and
-    // 3, whichever holds; positions 2 and 3 are kept, by crossing that line and
+    // 3, whichever holds; positions 0 and 3 are kept, by crossing that line and
     // by waiting. One kept state alone is one process, so without messages.
     add(list, "share_12_of_12_5_by_2_of_16_with_messages", {
-        let messages = [[0, 8, 1, 4], [1, 6, 0, 5], [0, 3, 1, 4], [1, 3, 0, 0]];
+        let messages = [[0, 3, 1, 4], [0, 8, 1, 4], [1, 6, 0, 5], [1, 6, 0, 0]];
         written(&[9, 7], &messages)
     });
 }
@@ -872,33 +1282,36 @@ fn digits(list: &mut Vec<Named>) {
         1, 2, 9, 10, 11, 99, 100, 101, 255, 256, 257, 999, 1_000, 1_001, 4_095, 4_096,
     ];
     add(list, "digits_of_states", written(&counts, &[]));
-    // A, with some 1,000 messages that are not kept. Kept are those at the
-    // positions named, by waiting and by crossing a line in turn.
-    let kept = [0, 9, 10, 99, 100, 255, 256, 999, 1_000, 1_001];
+    // A and a third process, with some 1,000 messages that are not kept. Kept are
+    // those at the positions named, by crossing a line and by waiting in turn; what
+    // waits is from the third process.
     let mut messages = vec![A_MESSAGES[1]; 1_003];
-    messages[500] = A_MESSAGES[2];
-    messages[501] = A_MESSAGES[3];
-    for (turn, position) in kept.into_iter().enumerate() {
-        messages[position] = A_MESSAGES[if turn % 2 == 0 { 0 } else { 4 }];
+    messages[500..].fill(A_MESSAGES[2]);
+    messages[1_002] = A_MESSAGES[3];
+    for (turn, position) in DIGITS_OF_POSITIONS.into_iter().enumerate() {
+        messages[position] = [A_MESSAGES[0], [2, 0, 0, 0]][turn % 2];
     }
-    add(list, "digits_of_positions", written(&A_COUNTS, &messages));
-    // Sends and receipts with both bytes in use. Process 0 holding, the first
-    // three put the line to 999, 256 and 511; of the others, which stand just
-    // before and just after that line 256 511, positions 3 and 6 cross it.
+    add(list, "digits_of_positions", written(&[3, 3, 1], &messages));
+    // Sends and receipts with both bytes in use. Process 0 holding, the last
+    // two and 4 put the line to 999, 256 and 511; of the others, which stand just
+    // before and just after that line 256 511, positions 1 and 3 cross it.
     add(list, "digits_of_sends_and_receipts", {
         let messages = [
-            [0, 300, 1, 1_000],
-            [1, 999, 0, 257],
-            [0, 256, 1, 512],
-            [0, 255, 1, 512],
             [0, 255, 1, 511],
-            [1, 511, 0, 257],
-            [1, 510, 0, 257],
+            [0, 255, 1, 512],
             [1, 510, 0, 256],
+            [1, 510, 0, 257],
+            [0, 256, 1, 512],
+            [1, 511, 0, 257],
+            [1, 999, 0, 257],
+            [0, 300, 1, 1_000],
         ];
         written(&[301, 1_002], &messages)
     });
 }
+
+/// Positions on both sides of each further digit, and of the second byte.
+const DIGITS_OF_POSITIONS: [usize; 10] = [0, 9, 10, 99, 100, 255, 256, 999, 1_000, 1_001];
 
 // ---------------------------------------------------------------------------
 // The largest tables.
@@ -909,9 +1322,10 @@ fn digits(list: &mut Vec<Named>) {
 /// later groups, received at a state of the sender's own. So every holder has
 /// a line of its own at every process of the later groups, and these messages
 /// are crossed by the lines of the sender's group, except those of the first
-/// in a group. The rest waits. What is not kept stands first, where positions
-/// are short.
-fn long_listing() -> Vec<u8> {
+/// in a group. The rest waits; its send numbers are drawn, and `sent` takes that of
+/// the message before it in its channel and what was drawn. What is not kept stands
+/// first, where positions are short.
+fn long_listing(sent: &dyn Fn(u16, u16) -> u16) -> Vec<u8> {
     let first = 4_000;
     let mut messages = Vec::new();
     for leader in [true, false] {
@@ -921,12 +1335,17 @@ fn long_listing() -> Vec<u8> {
             }
         }
     }
+    let mut latest = [[0; 32]; 32];
+    for &[j, sent, i, _] in &messages {
+        latest[usize::from(j)][usize::from(i)] = sent;
+    }
     let rng = &mut Rng::new(4_096);
     while messages.len() < 4_096 {
         let j = rng.between(0, 31);
         let i = (j + rng.between(1, 31)) % 32;
-        let sent = rng.between(0, 4_095);
-        messages.push([j as u16, sent as u16, i as u16, 0]);
+        let sent = sent(latest[j][i], rng.between(0, 4_095) as u16);
+        latest[j][i] = sent;
+        messages.push([j as u16, sent, i as u16, 0]);
     }
     written(&[4_096; 32], &messages)
 }
@@ -935,8 +1354,9 @@ fn largest(list: &mut Vec<Named>) {
     let history = gen::saved_history(&mut Rng::new(23), 32, 4_096).to_bytes();
     assert_eq!(history.len(), MOST_BYTES, "another seed, please");
     add(list, "largest_history", history.clone());
-    add(list, "largest_long_listing", long_listing());
-    assert_eq!(listing(&long_listing()).len(), 65_568);
+    let long = long_listing(&u16::max);
+    assert_eq!(listing(&long).len(), 65_568);
+    add(list, "largest_long_listing", long);
     // The program reads at most 32,837 bytes. The first 32,836 of these are
     // accepted tables.
     add(list, "refused_4_largest_and_a_byte", {
@@ -958,12 +1378,12 @@ fn largest(list: &mut Vec<Named>) {
 
 /// Kind, seed, processes and messages of the generated tables. Those of the kinds
 /// that end in `-unsaved` have such messages.
-const GENERATED: [(&str, u64, usize, usize); 40] = [
+const GENERATED: [(&str, u64, usize, usize); 43] = [
     ("history", 7, 2, 6),
-    ("history", 2, 2, 30),
+    ("history", 11, 2, 30),
     ("history", 6, 3, 12),
     ("history", 4, 5, 40),
-    ("history", 4, 8, 60),
+    ("history", 104, 8, 60),
     ("history", 8, 12, 70),
     ("history", 108, 32, 120),
     ("arbitrary", 13, 2, 4),
@@ -977,17 +1397,20 @@ const GENERATED: [(&str, u64, usize, usize); 40] = [
     ("clustered", 4, 16, 60),
     ("clustered", 4, 32, 250),
     ("domino-time", 1, 2, 7),
-    ("domino-reverse", 2, 2, 8),
-    ("domino-shuffled", 3, 2, 25),
+    ("domino-rounds-along", 2, 2, 8),
+    ("domino-interleaved", 3, 2, 25),
     ("domino-by-sender", 4, 2, 40),
+    ("domino-by-sender-backward", 5, 2, 41),
     ("domino-every-second", 5, 2, 101),
     ("ring-time", 6, 3, 12),
-    ("ring-reverse", 7, 4, 18),
-    ("ring-shuffled", 8, 5, 31),
+    ("ring-rounds-against", 7, 4, 18),
+    ("ring-rounds-along", 7, 4, 19),
+    ("ring-interleaved", 8, 5, 31),
     ("ring-by-sender", 9, 7, 49),
+    ("ring-by-sender-backward", 9, 7, 50),
     ("ring-every-second", 10, 32, 96),
     ("history-unsaved", 26, 2, 6),
-    ("history-unsaved", 116, 2, 30),
+    ("history-unsaved", 99, 2, 30),
     ("history-unsaved", 128, 3, 12),
     ("history-unsaved", 102, 5, 40),
     ("history-unsaved", 6, 12, 70),
@@ -1031,6 +1454,8 @@ fn corpus() -> Vec<(String, Vec<u8>, String)> {
     counts(&mut list);
     entries(&mut list);
     order_of_checks(&mut list);
+    channels(&mut list);
+    out_of_turn(&mut list);
     points(&mut list);
     shares(&mut list);
     halves(&mut list);
@@ -1038,7 +1463,7 @@ fn corpus() -> Vec<(String, Vec<u8>, String)> {
     largest(&mut list);
     by_chance(&mut list);
     let mut all = Vec::new();
-    let by_hand = [of_the_document(), of_unsaved(), of_zigzag()];
+    let by_hand = [of_the_document(), of_unsaved(), of_zigzag(), of_channels()];
     for (name, bytes, text) in by_hand.into_iter().flatten() {
         assert_eq!(listing(&bytes), text, "{name}: worked out by hand");
         enumerated(name, &bytes);
