@@ -5,7 +5,8 @@
 //!
 //! Doc comments quote the sentence that they follow, of the scope document or
 //! of a change request. A message that was received and is not saved yet is
-//! called unsaved.
+//! called unsaved. The messages from one process to another are a channel, which
+//! is in turn where check 23 finds nothing in it.
 //!
 //! * `table`   - lookups in raw bytes, the table's checks, reading and writing
 //! * `lines`   - orphans, consistency and latest consistent lines under ceilings
