@@ -1,5 +1,5 @@
--- The marked cases hold of the definitions, and so do the cases of lines under ceilings and by marking, of receipts, and of named
--- checkpoints: a statement each, by computation.
+-- The marked cases hold of the definitions, and so do the cases of lines under ceilings and by marking, of receipts, of channels, and of
+-- named checkpoints: a statement each, by computation.
 -- Assumes nothing.
 use mathlib.Core.Bool.{true}
 use mathlib.Core.List.{List, [], _∷_}
@@ -33,7 +33,7 @@ use Rattle.zigzag.specs.Names.{notBelowCounts, unknownNamed}
 use Rattle.zigzag.specs.Paths.{first, receivedIn, then}
 use Rattle.zigzag.specs.Together.{misses, namedCeiling, namedLine, putNamed}
 use Rattle.keeper.specs.Cases.{MarkingExample, allHold, answerOf, ceilingCases, lateReceipt, lateSend, markedCases, markingCases, nineMarks, sameAnswer}
-use Rattle.keeper.specs.Cases.{ZigzagExample, figureOne, oneInterval, standingCases}
+use Rattle.keeper.specs.Cases.{ZigzagExample, channelCases, channelWith, figureOne, fullReceiver, oneInterval, standingCases}
 use Rattle.keeper.specs.Cases.{crossing, full, oneMessage, receiptCases, sameBytes, savedA, tableA, tableB, tableC, tableD, tenMarks, unsavedA}
 
 pub marked-cases : allHold markedCases ≡ true
@@ -72,6 +72,15 @@ unfolding firstCaught outside tooShort badProcessCount tooManyMessages badLength
     notRisingAfter notRising passesOver receiptChecks receivedAt afterReceipt afterCheckpoint receiptCallChecks checkpointCallChecks receiptAnswer
     checkpointAnswer tableA lateReceipt unsavedA savedA crossing oneMessage full answerOf sameBytes sameAnswer allHold receiptCases
 receipt-cases = refl
+
+pub channel-cases : allHold channelCases ≡ true
+unfolding firstCaught outside tooShort badProcessCount tooManyMessages badLength badCount unknownProcess toItself badSend badReceipt sameChannel waits
+    outOfTurn brokenBelow brokenChannel tableChecks tableRefusal processesIn messagesIn countsPart sendsPart receiptsPart countAt processAt
+    checkpointAt messageAt decode entriesOf encode u16At u16Bytes u16s tabulate any anyBelow processCount messageCount countOf messageOf highBit
+    unless answer lineAnswer lineOfSetChecks lineOfSetAnswer waitsFor badPosition notRisingAfter notRising passesOver receiptChecks receivedAt
+    afterReceipt receiptCallChecks checkpointCallChecks receiptAnswer checkpointAnswer channelWith fullReceiver answerOf sameBytes sameAnswer allHold
+    channelCases
+channel-cases = refl
 
 pub standing-cases : allHold standingCases ≡ true
 unfolding firstCaught outside tooShort badProcessCount tooManyMessages badLength badCount unknownProcess toItself badSend badReceipt sameChannel waits

@@ -270,6 +270,61 @@ receiptCases =
     }
     ∷ []
 
+-- ---- channels that deliver in turn (docs/MANUAL.md, "Refusals": 23 and 24)
+-- Three processes of three checkpoints; two messages from process 0 to process 1, of send number y and receipt number r
+-- each, and between them one from process 2 to process 1, of receipt number w.
+unfoldable pub channelWith : ℕ → ℕ → ℕ → ℕ → ℕ → List ℕ
+channelWith w y r y′ r′ =
+    u16s (3 ∷ 3 ∷ 3 ∷ 3 ∷ 3 ∷ 0 ∷ y ∷ 2 ∷ 0 ∷ 0 ∷ y′ ∷ 1 ∷ r ∷ 1 ∷ w ∷ 1 ∷ r′ ∷ [])
+
+abbrev pub channel : ℕ → ℕ → ℕ → ℕ → List ℕ
+channel = channelWith 0
+
+-- Two messages that wait for a process with all the checkpoints that it may have.
+unfoldable pub fullReceiver : List ℕ
+fullReceiver = u16s (2 ∷ 2 ∷ 1 ∷ 4096 ∷ 0 ∷ 0 ∷ 0 ∷ 0 ∷ 1 ∷ 0 ∷ 1 ∷ 0 ∷ [])
+
+unfoldable pub channelCases : List Case
+channelCases =
+    -- 23: a smaller send number; received while the earlier one waits; a smaller receipt number
+    record { table = channel 1 0 0 0; call = checkTable; expected = refused 23 }
+    ∷ record { table = channel 0 0 0 1; call = checkTable; expected = refused 23 }
+    ∷ record { table = channel 0 2 0 1; call = checkTable; expected = refused 23 }
+    -- unsaved is received: the later one, the earlier one; and in turn
+    ∷ record { table = channel 0 0 0 3; call = checkTable; expected = refused 23 }
+    ∷ record { table = channel 0 3 0 2; call = checkTable; expected = refused 23 }
+    ∷ record { table = channel 0 2 0 3; call = checkTable; expected = answered [] }
+    ∷ record { table = channel 0 3 0 0; call = checkTable; expected = answered [] }
+    -- equal numbers; another channel between them
+    ∷ record { table = channel 1 2 1 2; call = checkTable; expected = answered [] }
+    ∷ record { table = channel 0 0 0 0; call = checkTable; expected = answered [] }
+    ∷ record { table = channelWith 1 0 2 0 3; call = checkTable; expected = answered [] }
+    -- the order: 9, 23, then the call's own checks
+    ∷ record { table = channel 1 4 0 0; call = checkTable; expected = refused 9 }
+    ∷ record { table = channel 1 0 0 0; call = hold 8; expected = refused 23 }
+    ∷ record { table = channel 1 0 0 0; call = receive 3 (2 ∷ []) 0; expected = refused 23 }
+    -- 24: of a receipt and of a save; both listed, the older one alone, one of another channel
+    ∷ record { table = channel 0 0 0 0; call = receive 1 (2 ∷ []) 34; expected = refused 24 }
+    ∷ record { table = channel 0 0 0 0; call = save 1 (2 ∷ []); expected = refused 24 }
+    ∷ record {
+      table = channel 0 0 0 0;
+      call = receive 1 (0 ∷ 2 ∷ []) 34;
+      expected = answered (channel 0 3 0 3);
+    }
+    ∷ record { table = channel 0 0 0 0; call = receive 1 (0 ∷ []) 34; expected = answered (channel 0 3 0 0) }
+    ∷ record {
+      table = channel 0 0 0 0;
+      call = receive 1 (1 ∷ []) 34;
+      expected = answered (channelWith 3 0 0 0 0);
+    }
+    ∷ record { table = channel 0 1 0 0; call = receive 1 (2 ∷ []) 34; expected = answered (channel 0 1 0 3) }
+    -- the order: 13, 24, 14, 16
+    ∷ record { table = channel 0 0 0 0; call = receive 1 (2 ∷ 3 ∷ []) 34; expected = refused 13 }
+    ∷ record { table = channel 0 0 0 0; call = receive 1 (2 ∷ []) 0; expected = refused 24 }
+    ∷ record { table = fullReceiver; call = save 1 (1 ∷ []); expected = refused 24 }
+    ∷ record { table = fullReceiver; call = save 1 (0 ∷ 1 ∷ []); expected = refused 14 }
+    ∷ []
+
 -- ---- named checkpoints (docs/MANUAL.md, "Checkpoints that stand together")
 -- The manual's example of a path: checkpoint 2 of process 0 leads to itself in A, by the messages at positions 3 and 2.
 unfoldable pub ZigzagExample : Type 0
