@@ -275,7 +275,8 @@ receiptCases =
 -- each, and between them one from process 2 to process 1, of receipt number w.
 unfoldable pub channelWith : ℕ → ℕ → ℕ → ℕ → ℕ → List ℕ
 channelWith w y r y′ r′ =
-    u16s (3 ∷ 3 ∷ 3 ∷ 3 ∷ 3 ∷ 0 ∷ y ∷ 2 ∷ 0 ∷ 0 ∷ y′ ∷ 1 ∷ r ∷ 1 ∷ w ∷ 1 ∷ r′ ∷ [])
+    u16s (3 ∷ 3 ∷ 3 ∷ 3 ∷ 3 ∷ 0 ∷ y ∷ 2 ∷ 0 ∷ 0 ∷ y′
+    ∷ 1 ∷ r ∷ 1 ∷ w ∷ 1 ∷ r′ ∷ [])
 
 abbrev pub channel : ℕ → ℕ → ℕ → ℕ → List ℕ
 channel = channelWith 0
