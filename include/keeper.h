@@ -64,6 +64,9 @@ enum keeper_refusal {
     KEEPER_MESSAGE_TO_ITS_SENDER = 7,      /* a message has the same sender and receiver */
     KEEPER_SEND_NUMBER_TOO_HIGH = 8,       /* a send number is not below the sender's count */
     KEEPER_RECEIPT_NUMBER_TOO_HIGH = 9,    /* a receipt number is above the receiver's count */
+    KEEPER_CHANNEL_OUT_OF_ORDER = 23,      /* of two messages with the same sender and receiver the later one
+                                              has a smaller send number, or is received while the earlier
+                                              one waits, or has a smaller receipt number */
     /* Of the other arguments, on an accepted table: */
     KEEPER_UNKNOWN_PROCESS = 10,           /* a process named in a send, save or receipt is N or above */
     KEEPER_SEND_TO_ITSELF = 11,            /* a send names one process twice */
@@ -77,6 +80,8 @@ enum keeper_refusal {
     KEEPER_BAD_LIST = 13,                  /* the list of a save or receipt has a position of M or above,
                                               or not above the one before it, or of a message not waiting
                                               for that process */
+    KEEPER_MESSAGE_PASSED_OVER = 24,       /* the list of a save or receipt passes over an older waiting
+                                              message with the same sender and receiver */
     KEEPER_TABLE_FULL = 14,                /* a send meets M = 4,096, or a save meets a count of 4,096 */
     KEEPER_MARKS_TOO_SHORT = 19,           /* the mark buffer is shorter than (sum of counts + N) / 8
                                               bytes, rounded up */
@@ -101,6 +106,9 @@ static inline const char *keeper_refusal_words(uint32_t refusal)
     case KEEPER_BAD_LIST:
         return "the list of a save or receipt has a position of M or above, or not above the one before it, "
                "or of a message not waiting for that process";
+    case KEEPER_MESSAGE_PASSED_OVER:
+        return "the list of a save or receipt passes over an older waiting message with the same sender and "
+               "receiver";
     case KEEPER_TABLE_FULL: return "a send meets M = 4,096, or a save meets a count of 4,096";
     case KEEPER_MARKS_TOO_SHORT:
         return "the mark buffer is shorter than (sum of counts + N) / 8 bytes, rounded up";
@@ -260,8 +268,9 @@ uint32_t keeper_send(const uint8_t *table, size_t length, uint16_t from, uint16_
    positions. Their receipt number becomes its old count, and its count grows by one. With them is saved
    what it received by keeper_receive since its last checkpoint: that has the old count as its receipt number
    already, is not listed, and stays as it is. The list has `list_length` positions, strictly rising, each of
-   a message that waits for the process; it may be empty, and then NULL. Checks: the table's, 10, 13, 14, 16.
-   The answer is as long as the table. Stack: 224. */
+   a message that waits for the process; it may be empty, and then NULL. A channel delivers in the order sent:
+   with a message the list has every message at an earlier position from the same sender that waits for the
+   process too. Checks: the table's, 10, 13, 24, 14, 16. The answer is as long as the table. Stack: 224. */
 uint32_t keeper_save(const uint8_t *table, size_t length, uint16_t process, const uint16_t *list,
                      size_t list_length, uint8_t *answer, size_t room, size_t *written);
 
@@ -270,7 +279,7 @@ uint32_t keeper_save(const uint8_t *table, size_t length, uint16_t process, cons
    changes; the next save of the process saves them. The list is as that of keeper_save; a message that is
    received and not saved yet waits no longer, and may not be listed again, neither here nor for a save.
    Where the list is empty the answer is the table, byte for byte. A process with 4,096 checkpoints receives
-   too: there is no check 14. Checks: the table's, 10, 13, 16. The answer is as long as the table.
+   too: there is no check 14. Checks: the table's, 10, 13, 24, 16. The answer is as long as the table.
    Stack: 224. */
 uint32_t keeper_receive(const uint8_t *table, size_t length, uint16_t process, const uint16_t *list,
                         size_t list_length, uint8_t *answer, size_t room, size_t *written);
@@ -292,8 +301,8 @@ uint32_t keeper_fall_back(const uint8_t *table, size_t length, uint8_t *answer, 
                           size_t *written);
 
 /* The keep sheet: the checkpoints and messages whose contents must be kept, since some future of the run
-   (any list of sends, receipts, saves and fall backs) needs them; the contents of all others can be
-   discarded. No entry of the table may be dropped for that.
+   (any list of sends, receipts, saves and fall backs in which each channel delivers in the order sent) needs
+   them; the contents of all others can be discarded. No entry of the table may be dropped for that.
 
    The sheet is about the checkpoints and messages of this table. Those that come later are not on it, and
    their contents are kept until the next sheet. After a fall back make a new one: the numbers and positions

@@ -17,6 +17,10 @@
    A table has exactly 4 + 2N + 8M bytes. Message k is entry k of sends and receipts; k, from 0, is its
    position. Two equal entries are two messages.
 
+   The messages from one process to another are a channel. It delivers in the order sent, and they stand
+   in the table in that order: of two of them the one at the later position has no smaller send number, is
+   not received while the earlier one waits, and where both are received has no smaller receipt number.
+
    What holds of every call: the table is `length` bytes at `table`, which may stand at any address and
    may be NULL where the length is 0. Any bytes may be given. The call reads nothing else, writes nothing
    and always returns: proved, as is the number that it returns, given that the pointer and the length
@@ -60,7 +64,10 @@ enum run_table_refusal {
     RUN_TABLE_UNKNOWN_PROCESS_IN_MESSAGE = 6, /* a sender or receiver is N or above */
     RUN_TABLE_MESSAGE_TO_ITS_SENDER = 7,      /* a message has the same sender and receiver */
     RUN_TABLE_SEND_NUMBER_TOO_HIGH = 8,       /* a send number is not below the sender's count */
-    RUN_TABLE_RECEIPT_NUMBER_TOO_HIGH = 9     /* a receipt number is above the receiver's count */
+    RUN_TABLE_RECEIPT_NUMBER_TOO_HIGH = 9,    /* a receipt number is above the receiver's count */
+    RUN_TABLE_CHANNEL_OUT_OF_ORDER = 23       /* of two messages with the same sender and receiver the
+                                                 later one has a smaller send number, or is received while
+                                                 the earlier one waits, or has a smaller receipt number */
 };
 
 /* The check of a refusal in words, for a message to people. Any number may be given: of 0, and of one that
@@ -78,6 +85,9 @@ static inline const char *run_table_refusal_words(uint32_t refusal)
     case RUN_TABLE_MESSAGE_TO_ITS_SENDER: return "a message has the same sender and receiver";
     case RUN_TABLE_SEND_NUMBER_TOO_HIGH: return "a send number is not below the sender's count";
     case RUN_TABLE_RECEIPT_NUMBER_TOO_HIGH: return "a receipt number is above the receiver's count";
+    case RUN_TABLE_CHANNEL_OUT_OF_ORDER:
+        return "of two messages with the same sender and receiver the later one has a smaller send number, "
+               "or is received while the earlier one waits, or has a smaller receipt number";
     default: return "a refusal that this version does not know";
     }
 }

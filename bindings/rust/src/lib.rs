@@ -464,7 +464,7 @@ pub fn send(table: &[u8], from: u16, to: u16, answer: &mut [u8]) -> Result<usize
 /// too: it has that receipt number already, and is not listed. The answer is a
 /// table as long as the one given.
 ///
-/// Checks: the table's, 10, 13, 14, 16.
+/// Checks: the table's, 10, 13, 24, 14, 16.
 ///
 /// ```
 /// # let example_a: Vec<u8> = [2u16, 5, 3, 3, 0, 0, 1, 0, 1, 1, 0, 2, 1, 2, 1, 2, 0, 1, 0, 2, 1, 2, 0, 0]
@@ -502,7 +502,7 @@ pub fn save(table: &[u8], process: u16, list: &[u16], answer: &mut [u8]) -> Resu
 /// them. Nothing else changes; an empty list gives the table. The answer is a
 /// table as long as the one given.
 ///
-/// Checks: the table's, 10, 13, 16.
+/// Checks: the table's, 10, 13, 24, 16.
 ///
 /// ```
 /// # let example_a: Vec<u8> = [2u16, 5, 3, 3, 0, 0, 1, 0, 1, 1, 0, 2, 1, 2, 1, 2, 0, 1, 0, 2, 1, 2, 0, 0]

@@ -95,6 +95,8 @@ refusals! {
     MessageToItsSender = 7, table, "a message has the same sender and receiver";
     SendNumberTooHigh = 8, table, "a send number is not below the sender's count";
     ReceiptNumberTooHigh = 9, table, "a receipt number is above the receiver's count";
+    ChannelOutOfOrder = 23, table, "of two messages with the same sender and receiver the later one has a smaller send \
+                                    number, or is received while the earlier one waits, or has a smaller receipt number";
     UnknownProcess = 10, call, "a process named in a send, save or receipt is N or above";
     SendToItself = 11, call, "a send names one process twice";
     UnknownProcessInSet = 12, call, "a set has a bit at N or above";
@@ -105,6 +107,8 @@ refusals! {
     NamedStateTooHigh = 22, call, "a named state is not below its process's count";
     BadList = 13, call, "the list of a save or receipt has a position of M or above, or not above the one before it, \
                          or of a message not waiting for that process";
+    MessagePassedOver = 24, call, "the list of a save or receipt passes over an older waiting message with the same \
+                                   sender and receiver";
     TableFull = 14, call, "a send meets M = 4,096, or a save meets a count of 4,096";
     MarksTooShort = 19, call, "the mark buffer is shorter than (sum of counts + N) / 8 bytes, rounded up";
     ScratchTooShort = 15, call, "the scratch is shorter than N × N numbers";
