@@ -126,6 +126,12 @@ pub const SHEET_ROOM: usize = 4 + 4 * SCRATCH_NUMBERS + 2 * MOST_MESSAGES;
 /// Whether the table is accepted: `Ok` where no call refuses it by one of the
 /// table's checks.
 ///
+/// The messages from one process to another are a channel, which delivers in the
+/// order sent, and they stand in the table in that order: of two of them the one at
+/// the later position has no smaller send number, is not received while the earlier
+/// one waits, and where both are received has no smaller receipt number. A table
+/// that breaks this is refused by [`Refusal::ChannelOutOfOrder`].
+///
 /// Checks: the table's.
 ///
 /// ```
@@ -135,6 +141,11 @@ pub const SHEET_ROOM: usize = 4 + 4 * SCRATCH_NUMBERS + 2 * MOST_MESSAGES;
 /// assert_eq!(check_table(&example_a), Ok(()));
 /// assert_eq!(check_table(&example_a[..3]), Err(Refusal::TableTooShort));
 /// assert_eq!(check_table(&example_a[..47]), Err(Refusal::WrongLength));
+/// // Messages 1, 2 and 4 are from process 1 to process 0. Were message 1 to wait,
+/// // message 2 would be received out of turn.
+/// let mut out_of_order = example_a.clone();
+/// out_of_order[34] = 0; // the receipt number of message 1
+/// assert_eq!(check_table(&out_of_order), Err(Refusal::ChannelOutOfOrder));
 /// ```
 pub fn check_table(table: &[u8]) -> Result<(), Refusal> {
     // SAFETY: see above.
@@ -461,8 +472,10 @@ pub fn send(table: &[u8], from: u16, to: u16, answer: &mut [u8]) -> Result<usize
 /// waiting messages at the positions of `list`, strictly rising; it may be
 /// empty. Their receipt number becomes the old count of the process, and the
 /// count grows by one. What the process received before, by [`receive`], is saved
-/// too: it has that receipt number already, and is not listed. The answer is a
-/// table as long as the one given.
+/// too: it has that receipt number already, and is not listed. A channel delivers in
+/// the order sent: with a message the list has every message at an earlier position
+/// from the same sender that waits for the process too, or is refused by
+/// [`Refusal::MessagePassedOver`]. The answer is a table as long as the one given.
 ///
 /// Checks: the table's, 10, 13, 24, 14, 16.
 ///
@@ -476,6 +489,12 @@ pub fn send(table: &[u8], from: u16, to: u16, answer: &mut [u8]) -> Result<usize
 /// assert_eq!(next[4..8], [4, 0, 3, 0]); // the counts
 /// assert_eq!(next[44..48], [0, 0, 3, 0]); // its receipt
 /// assert_eq!(save(&example_a, 1, &[4], &mut next), Err(Refusal::BadList));
+/// // Process 1 sends process 0 another message, which comes behind message 4.
+/// let written = keeper::send(&example_a, 1, 0, &mut next)?;
+/// let sent = next[..written].to_vec();
+/// assert_eq!(save(&sent, 0, &[5], &mut next), Err(Refusal::MessagePassedOver));
+/// assert_eq!(save(&sent, 0, &[4, 5], &mut next), Ok(56));
+/// # Ok::<(), Refusal>(())
 /// ```
 pub fn save(table: &[u8], process: u16, list: &[u16], answer: &mut [u8]) -> Result<usize, Refusal> {
     let mut written = 0;
@@ -499,7 +518,8 @@ pub fn save(table: &[u8], process: u16, list: &[u16], answer: &mut [u8]) -> Resu
 /// positions of `list`, strictly rising, and takes no checkpoint. Their receipt
 /// number becomes the count of the process: received, and not saved yet. They wait
 /// no longer and can't be listed again; the next [`save`] of the process saves
-/// them. Nothing else changes; an empty list gives the table. The answer is a
+/// them. With a message the list has the older ones of its channel that wait, as that
+/// of a save. Nothing else changes; an empty list gives the table. The answer is a
 /// table as long as the one given.
 ///
 /// Checks: the table's, 10, 13, 24, 16.
@@ -578,10 +598,10 @@ pub fn fall_back(table: &[u8], answer: &mut [u8]) -> Result<usize, Refusal> {
 }
 
 /// The keep sheet: exactly the checkpoints and messages that some future of
-/// the run (any list of sends, receipts, saves and fall backs) needs. In 16-bit
-/// numbers, low byte first: K and Q; K processes; K checkpoint numbers, by process
-/// and then number; Q positions of messages, rising. It has 4 + 4K + 2Q bytes;
-/// [`SHEET_ROOM`] bytes are always enough.
+/// the run (any list of sends, receipts, saves and fall backs in which each channel
+/// delivers in the order sent) needs. In 16-bit numbers, low byte first: K and Q; K
+/// processes; K checkpoint numbers, by process and then number; Q positions of
+/// messages, rising. It has 4 + 4K + 2Q bytes; [`SHEET_ROOM`] bytes are always enough.
 ///
 /// The first N × N numbers of the scratch hold the lines of single holders
 /// afterwards, N numbers each, the line of process 0 first;

@@ -353,7 +353,8 @@ impl Table {
     /// the positions listed; answers the number of the checkpoint. The positions
     /// rise strictly, and each is that of a message that waits for the process.
     /// What it received before, by [`Table::receive`], is saved too and is not
-    /// listed. Refused by 10, 13 and 14, as [`save`](crate::save).
+    /// listed. With a message the list has every older one from the same sender that
+    /// waits for the process. Refused by 10, 13, 24 and 14, as [`save`](crate::save).
     ///
     /// ```
     /// # use keeper::{Refusal, Table};
@@ -377,8 +378,9 @@ impl Table {
     /// The process receives the messages at the positions listed, and takes no
     /// checkpoint: they are unsaved until its next one. The positions rise
     /// strictly, and each is that of a message that waits for the process; one that
-    /// is unsaved waits no longer. An empty list changes nothing. Refused by 10 and
-    /// 13, as [`receive`](crate::receive).
+    /// is unsaved waits no longer. With a message the list has every older one from
+    /// the same sender that waits for the process. An empty list changes nothing.
+    /// Refused by 10, 13 and 24, as [`receive`](crate::receive).
     ///
     /// ```
     /// # use keeper::{Refusal, Table};
@@ -391,6 +393,10 @@ impl Table {
     /// assert!(message.is_unsaved());
     /// assert_eq!(message.received.unwrap().get(), table.count(0));
     /// assert_eq!(table.receive(0, &[4]), Err(Refusal::BadList)); // it waits no longer
+    /// let mut later = table.clone();
+    /// assert_eq!((later.send(1, 0)?, later.send(1, 0)?), (5, 6));
+    /// assert_eq!(later.receive(0, &[6]), Err(Refusal::MessagePassedOver)); // before 5
+    /// later.receive(0, &[5, 6])?;
     /// // Process 1 sent it after its checkpoint 2: where it holds, process 0 can't go on
     /// // as it is any more, and then process 1 has to go back further too.
     /// assert_eq!(*table.line_of_set(0b10)?, [1, 1]);

@@ -6,8 +6,8 @@
 mod common;
 
 use common::{
-    accepted, bytes, ceilings_of, counts, example_a, latest, lines_below, number_at, small, Chance,
-    EXAMPLE_A,
+    accepted, bytes, ceilings_of, counts, example_a, in_turn, latest, lines_below, number_at,
+    small, waiting_for, Chance, EXAMPLE_A,
 };
 use keeper::{archive, check_table, Refusal, Table, LARGEST_TABLE, SCRATCH_NUMBERS, SHEET_ROOM};
 
@@ -26,6 +26,14 @@ fn defined(table: &[u8], process: u16, list: &[u16]) -> Result<Vec<u8>, Refusal>
     let rises = list.windows(2).all(|pair| pair[0] < pair[1]);
     if !rises || !list.iter().all(|k| waits(usize::from(*k))) {
         return Err(Refusal::BadList);
+    }
+    let sender = |k: usize| number_at(table, 2 + n + 2 * k);
+    let passed_over = |k: usize| {
+        let mut older = (0..k).filter(|q| waits(*q) && sender(*q) == sender(k));
+        older.any(|q| !list.contains(&(q as u16)))
+    };
+    if list.iter().any(|k| passed_over(usize::from(*k))) {
+        return Err(Refusal::MessagePassedOver);
     }
     let mut after = table.to_vec();
     for k in list {
@@ -71,13 +79,10 @@ fn received(table: &[u8], process: u16, list: &[u16]) -> Result<Vec<u8>, Refusal
     }
 }
 
-/// The positions of the messages that wait for a process.
-fn waiting_for(table: &Table, process: u16) -> Vec<u16> {
-    let messages = (0..).zip(table.messages());
-    messages
-        .filter(|(_, message)| message.is_waiting() && message.receiver == process)
-        .map(|(position, _)| position)
-        .collect()
+/// The accepted tables of the corpus, and small ones.
+fn tables(chance: &mut Chance) -> Vec<(String, Table)> {
+    let small = (0..2_000).map(|k| (format!("small table {k}"), small(chance)));
+    accepted().into_iter().chain(small).collect()
 }
 
 /// Example A with other numbers at places that count numbers.
@@ -147,14 +152,15 @@ fn a_receipt_number_of_the_count_and_one_above() {
 #[test]
 fn the_definition() {
     let mut chance = Chance(20_261_118);
-    let tables = (0..300).map(|_| small(&mut chance)).collect::<Vec<_>>();
-    let (mut made, mut refused) = (0, 0);
+    let tables = (0..900).map(|_| small(&mut chance)).collect::<Vec<_>>();
+    let (mut made, mut refused, mut passed) = (0, 0, 0);
     let mut compared = |table: &Table, process: u16, list: &[u16]| {
         let answered = received(table.as_bytes(), process, list);
         let expected = defined(table.as_bytes(), process, list);
         assert_eq!(answered, expected, "{table:?}, {process}, {list:?}");
         match answered {
             Ok(_) => made += usize::from(!list.is_empty()),
+            Err(Refusal::MessagePassedOver) => passed += 1,
             Err(_) => refused += 1,
         }
     };
@@ -181,7 +187,10 @@ fn the_definition() {
             compared(&table, process, &list);
         }
     }
-    assert!(made > 500 && refused > 5_000, "{made} {refused}");
+    assert!(
+        made > 500 && refused > 5_000 && passed > 100,
+        "{made} {refused} {passed}"
+    );
 }
 
 /// In two parts or at once; and a save of what was received is a save that lists
@@ -190,11 +199,14 @@ fn the_definition() {
 fn receipts_one_after_another_and_saved() {
     let mut chance = Chance(23);
     let (mut parts, mut saves) = (0, 0);
-    for (name, table) in accepted() {
+    for (name, table) in tables(&mut chance) {
         for process in 0..table.processes() {
             let list = waiting_for(&table, process);
-            let (one, other): (Vec<u16>, Vec<u16>) =
-                list.iter().partition(|_| chance.below(2) == 0);
+            let mut one = list.clone();
+            one.retain(|_| chance.below(2) == 0);
+            let one = in_turn(&table, &one);
+            let mut other = list.clone();
+            other.retain(|position| !one.contains(position));
             let mut at_once = table.clone();
             at_once.receive(process, &list).unwrap();
             let mut in_parts = table.clone();
@@ -234,8 +246,9 @@ fn receipts_one_after_another_and_saved() {
 /// is that of a run which had not received it.
 #[test]
 fn a_fall_back_makes_it_waiting_again() {
+    let mut chance = Chance(24);
     let (mut again, mut gone) = (0, 0);
-    for (name, table) in accepted() {
+    for (name, table) in tables(&mut chance) {
         let mut received = table.clone();
         for process in 0..table.processes() {
             let list = waiting_for(&table, process);
@@ -376,8 +389,8 @@ fn sheets_by_their_definition() {
     );
 }
 
-/// The table's checks come before 10, that before 13, and that before 16; there is
-/// no 14.
+/// The table's checks come before 10, that before 13, that before 24, and that
+/// before 16; there is no 14.
 #[test]
 fn the_first_check_that_catches() {
     let a = bytes(&EXAMPLE_A);
@@ -395,6 +408,15 @@ fn the_first_check_that_catches() {
     assert_eq!(refused(&a, 0, &[4, 4]), Refusal::BadList);
     assert_eq!(refused(&a, 0, &[4]), Refusal::AnswerTooShort);
     assert_eq!(refused(&a, 0, &[]), Refusal::AnswerTooShort);
+    assert_eq!(short, [0x5a; 47]);
+    // Two messages wait for process 1, from process 0.
+    let two = bytes(&[2, 2, 1, 1, 0, 0, 0, 0, 1, 0, 1, 0]);
+    let mut refused = |list: &[u16]| keeper::receive(&two, 1, list, &mut short[..23]);
+    assert_eq!(refused(&[1, 1]), Err(Refusal::BadList));
+    assert_eq!(refused(&[1, 2]), Err(Refusal::BadList));
+    assert_eq!(refused(&[1]), Err(Refusal::MessagePassedOver));
+    assert_eq!(refused(&[0]), Err(Refusal::AnswerTooShort));
+    assert_eq!(refused(&[0, 1]), Err(Refusal::AnswerTooShort));
     assert_eq!(short, [0x5a; 47]);
     // A save of a process with 4,096 checkpoints is refused by 14, and a receipt is
     // made.

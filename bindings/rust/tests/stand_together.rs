@@ -6,8 +6,8 @@
 mod common;
 
 use common::{
-    accepted, bytes, corpus, counts, example_a, is_consistent, latest_of, lines_below, small,
-    Chance, EXAMPLE_A,
+    accepted, bytes, bytes_of, corpus, counts, example_a, is_consistent, latest_of, lines_below,
+    small, Chance, EXAMPLE_A,
 };
 use keeper::{archive, Checkpoint, Refusal, Table, LARGEST_LINE};
 
@@ -26,12 +26,7 @@ fn answer(table: &Table, names: &[Checkpoint]) -> Option<Vec<u16>> {
 
 /// A table of counts and messages (sender, number, receiver, number).
 fn of(counts: &[u16], messages: &[[u16; 4]]) -> Table {
-    let sends = messages.iter().flat_map(|message| message[..2].to_vec());
-    let receipts = messages.iter().flat_map(|message| message[2..].to_vec());
-    let head = [counts.len() as u16, messages.len() as u16];
-    let numbers = head.into_iter().chain(counts.iter().copied());
-    let numbers: Vec<u16> = numbers.chain(sends).chain(receipts).collect();
-    Table::from_bytes(bytes(&numbers)).expect("within the limits")
+    Table::from_bytes(bytes_of(counts, messages)).expect("it is accepted")
 }
 
 /// Every list of names: of each process none, or one of its checkpoints.
@@ -468,6 +463,8 @@ fn thirty_two_processes_4096_checkpoints_and_4096_messages() {
     messages.extend((0..4_094).map(round_message));
     assert_eq!(messages[4_094], [14, 3_959, 15, 3_960]);
     messages.push([15, 3_959, 31, 1]);
+    // So each channel is in order.
+    messages.reverse();
     let table = of(&[4_096; 32], &messages);
     let ends = |number: u16| named(&[(0, 4_095), (31, number)]);
     assert_eq!(answer(&table, &ends(1)), None);
@@ -477,7 +474,7 @@ fn thirty_two_processes_4096_checkpoints_and_4096_messages() {
     // Each of them is needed.
     for position in [0, 1, 30, 2_000, 4_094, 4_095] {
         let mut messages = messages.clone();
-        messages[position][3] = 0;
+        messages.remove(position);
         let line = answer(&of(&[4_096; 32], &messages), &ends(1));
         assert!(line.is_some(), "{position}");
     }

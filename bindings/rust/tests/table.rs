@@ -5,7 +5,7 @@ mod common;
 
 use std::num::NonZeroU16;
 
-use common::{accepted, bytes, corpus, example_a, number_at, Chance};
+use common::{accepted, bytes, corpus, example_a, in_turn, number_at, waiting_for, Chance};
 use keeper::{FellBack, Message, Refusal, Table, LARGEST_TABLE};
 
 /// What a message says of itself: sender, send number, receiver, receipt number
@@ -41,15 +41,6 @@ fn messages_in(table: &[u8]) -> Vec<Entry> {
             let (sender, sent) = (number_at(table, sends(k)), number_at(table, sends(k) + 1));
             (sender, sent, receiver, received, is)
         })
-        .collect()
-}
-
-/// The positions of the messages that wait for a process.
-fn waiting_for(table: &Table, process: u16) -> Vec<u16> {
-    let messages = (0..).zip(table.messages());
-    messages
-        .filter(|(_, message)| message.is_waiting() && message.receiver == process)
-        .map(|(position, _)| position)
         .collect()
 }
 
@@ -283,11 +274,13 @@ fn chains_of_steps() {
                 10..=13 => {
                     let mut list = waiting_for(&table, process);
                     list.retain(|_| chance.below(3) > 0);
+                    let list = in_turn(&table, &list);
                     table = receive_is(&table, process, &list).unwrap();
                 }
                 _ => {
                     let mut list = waiting_for(&table, process);
                     list.retain(|_| chance.below(3) > 0);
+                    let list = in_turn(&table, &list);
                     let is_unsaved =
                         |message: &Message| message.is_unsaved() && message.receiver == process;
                     saved += table.messages().filter(is_unsaved).count();
@@ -406,9 +399,9 @@ fn a_count_of_4096() {
 #[test]
 fn lists_that_are_refused() {
     let mut table = Table::new(3).unwrap();
-    for _ in 0..3 {
-        table.send(0, 1).unwrap();
-    }
+    table.send(2, 1).unwrap();
+    table.send(0, 1).unwrap();
+    table.send(2, 1).unwrap();
     table.send(0, 2).unwrap();
     table.save(1, &[1]).unwrap();
     table.send(0, 1).unwrap();
@@ -442,8 +435,8 @@ fn lists_that_are_refused() {
     }
     assert_eq!(table.save(3, &[0]), Err(Refusal::UnknownProcess));
     assert_eq!(table.receive(3, &[0]), Err(Refusal::UnknownProcess));
-    assert_eq!(table.receive(1, &[2]), Ok(()));
-    assert_eq!(table.save(1, &[0]), Ok(2));
+    assert_eq!(table.receive(1, &[0]), Ok(()));
+    assert_eq!(table.save(1, &[2]), Ok(2));
     assert_eq!(table.save(2, &[3]), Ok(1));
     assert!(table.messages().all(|message| message.is_saved()));
 }

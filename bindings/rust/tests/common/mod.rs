@@ -142,20 +142,92 @@ pub fn latest_of(lines: Vec<Vec<u16>>) -> Vec<u16> {
     latest.next().expect("one of them is the latest").clone()
 }
 
-/// A small table: any numbers within their limits, receipts of the count among
-/// them, which are not saved yet.
-pub fn small(chance: &mut Chance) -> Table {
+/// The bytes of counts and messages (sender, number, receiver, number).
+pub fn bytes_of(counts: &[u16], messages: &[[u16; 4]]) -> Vec<u8> {
+    let sends = messages.iter().flat_map(|message| message[..2].to_vec());
+    let receipts = messages.iter().flat_map(|message| message[2..].to_vec());
+    let head = [counts.len() as u16, messages.len() as u16];
+    let numbers = head.into_iter().chain(counts.iter().copied());
+    bytes(&numbers.chain(sends).chain(receipts).collect::<Vec<_>>())
+}
+
+/// Counts, and messages of any numbers within their limits, receipts of the count
+/// among them, which are not saved yet. Channels may be out of order.
+pub fn small_numbers(chance: &mut Chance) -> (Vec<u16>, Vec<[u16; 4]>) {
     let n = 1 + chance.below(3);
     let m = if n == 1 { 0 } else { chance.below(7) };
-    let counts: Vec<usize> = (0..n).map(|_| 1 + chance.below(3)).collect();
-    let (mut sends, mut receipts) = (vec![], vec![]);
-    for _ in 0..m {
-        let sender = chance.below(n);
-        let receiver = (sender + 1 + chance.below(n - 1)) % n;
-        sends.extend([sender, chance.below(counts[sender])]);
-        receipts.extend([receiver, chance.below(counts[receiver] + 1)]);
+    let counts: Vec<u16> = (0..n).map(|_| 1 + chance.below(3) as u16).collect();
+    let mut below = |bound: u16| chance.below(bound.into()) as u16;
+    let messages = (0..m).map(|_| {
+        let sender = below(n as u16);
+        let receiver = (sender + 1 + below(n as u16 - 1)) % n as u16;
+        let sent = below(counts[usize::from(sender)]);
+        [
+            sender,
+            sent,
+            receiver,
+            below(counts[usize::from(receiver)] + 1),
+        ]
+    });
+    let messages = messages.collect();
+    (counts, messages)
+}
+
+/// Puts each channel in order: its messages keep their positions and share out
+/// their send numbers, rising, and their receipt numbers, rising, with 0, of those
+/// that wait, behind all others.
+pub fn in_order(messages: &mut [[u16; 4]]) {
+    let turn = |received: u16| received.wrapping_sub(1);
+    for later in 0..messages.len() {
+        for earlier in 0..later {
+            let (one, other) = (messages[earlier], messages[later]);
+            if (one[0], one[2]) != (other[0], other[2]) {
+                continue;
+            }
+            if other[1] < one[1] {
+                (messages[earlier][1], messages[later][1]) = (other[1], one[1]);
+            }
+            if turn(other[3]) < turn(one[3]) {
+                (messages[earlier][3], messages[later][3]) = (other[3], one[3]);
+            }
+        }
     }
-    let numbers = [vec![n, m], counts, sends, receipts].concat();
-    let numbers: Vec<u16> = numbers.into_iter().map(|number| number as u16).collect();
-    Table::from_bytes(bytes(&numbers)).expect("within the limits")
+}
+
+/// A small table: any numbers within their limits, each channel in order.
+pub fn small(chance: &mut Chance) -> Table {
+    let (counts, mut messages) = small_numbers(chance);
+    in_order(&mut messages);
+    Table::from_bytes(bytes_of(&counts, &messages)).expect("it is accepted")
+}
+
+/// The positions of the messages that wait for a process.
+pub fn waiting_for(table: &Table, process: u16) -> Vec<u16> {
+    let messages = (0..).zip(table.messages());
+    messages
+        .filter(|(_, message)| message.is_waiting() && message.receiver == process)
+        .map(|(position, _)| position)
+        .collect()
+}
+
+/// Whether an older message of the channel of the one at a position waits that is
+/// not listed.
+pub fn passes_over(table: &Table, list: &[u16], position: u16) -> bool {
+    let listed = table.message(position).expect("a message");
+    let mut older = (0..position).zip(table.messages());
+    older.any(|(earlier, message)| {
+        let same = (message.sender, message.receiver) == (listed.sender, listed.receiver);
+        same && message.is_waiting() && !list.contains(&earlier)
+    })
+}
+
+/// Of rising positions of waiting messages those that, listed so, pass over none.
+pub fn in_turn(table: &Table, positions: &[u16]) -> Vec<u16> {
+    let mut list = vec![];
+    for position in positions {
+        if !passes_over(table, &list, *position) {
+            list.push(*position);
+        }
+    }
+    list
 }
