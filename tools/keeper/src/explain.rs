@@ -2,6 +2,8 @@
 //! numbers. That a call is refused, and by which number, is the library's
 //! answer; here is looked up what caught.
 
+use std::collections::HashMap;
+
 use keeper::{run_table, Checkpoint, Refusal};
 
 /// A call on a table, with its arguments as the caller named them.
@@ -28,20 +30,39 @@ pub enum Call<'a> {
     Stand(&'a [Checkpoint]),
 }
 
+/// Where the messages of a table stand in the text that it was read from.
+#[derive(Clone, Default)]
+pub struct Places {
+    /// The name of the text.
+    pub name: String,
+    /// By position, the line; those that are in no text are not there.
+    pub lines: Vec<usize>,
+}
+
+impl Places {
+    /// A message by its position, and by its line where it has one.
+    fn message(&self, k: usize) -> String {
+        match self.lines.get(k) {
+            Some(line) => format!("message {k} at {}:{line}", self.name),
+            None => format!("message {k}"),
+        }
+    }
+}
+
 /// `refused`, the number, and what caught.
-pub fn refusal(table: &[u8], call: &Call, refusal: Refusal) -> String {
+pub fn refusal(table: &[u8], places: &Places, call: &Call, refusal: Refusal) -> String {
     format!(
         "refused {}: {}",
         refusal.number(),
-        words(table, call, refusal)
+        words(table, places, call, refusal)
     )
 }
 
 /// What caught; the words of the refusal where nothing more is known.
-pub fn words(table: &[u8], call: &Call, refusal: Refusal) -> String {
+pub fn words(table: &[u8], places: &Places, call: &Call, refusal: Refusal) -> String {
     let found = match refusal.is_of_table() {
-        true => in_table(table, refusal),
-        false => in_call(table, call, refusal),
+        true => in_table(table, places, refusal),
+        false => in_call(table, places, call, refusal),
     };
     found.unwrap_or_else(|| refusal.words().to_string())
 }
@@ -51,10 +72,16 @@ pub fn words(table: &[u8], call: &Call, refusal: Refusal) -> String {
 pub enum Culprit {
     Process(usize),
     Message(usize),
+    /// A message that is out of turn with an earlier one of its channel.
+    Pair {
+        earlier: usize,
+        later: usize,
+    },
 }
 
 /// The first process or message that the library refuses so where it stands
-/// alone.
+/// alone; or the first message that it refuses so behind an earlier one of its
+/// channel, with the nearest such.
 pub fn culprit(table: &[u8], refusal: Refusal) -> Option<Culprit> {
     let (n, m) = sizes(table);
     let counts_at = 4;
@@ -82,6 +109,30 @@ pub fn culprit(table: &[u8], refusal: Refusal) -> Option<Culprit> {
                 })
                 .map(Culprit::Message)
         }
+        Refusal::ChannelOutOfOrder => {
+            let (n, counts) = (&table[..2], table.get(counts_at..sends_at)?);
+            let sends: Vec<_> = table.get(sends_at..receipts_at)?.chunks(4).collect();
+            let receipts: Vec<_> = table.get(receipts_at..)?.chunks(4).collect();
+            let alone = |earlier: usize, later: usize| {
+                let sends = [sends[earlier], sends[later]].concat();
+                let receipts = [receipts[earlier], receipts[later]].concat();
+                [n, &[2, 0], counts, &sends, &receipts].concat()
+            };
+            let refused = |earlier: usize, later: usize| {
+                keeper::check_table(&alone(earlier, later)) == Err(refusal)
+            };
+            // The messages before the first that is out of turn are in order, so that the
+            // last of them in its channel is one that it is out of turn with.
+            let mut last = HashMap::new();
+            (0..m).find_map(|later| {
+                let channel = (
+                    run_table::sender(table, later),
+                    run_table::receiver(table, later),
+                );
+                let earlier = last.insert(channel, later)?;
+                refused(earlier, later).then_some(Culprit::Pair { earlier, later })
+            })
+        }
         _ => None,
     }
 }
@@ -93,7 +144,7 @@ fn sizes(table: &[u8]) -> (usize, usize) {
     )
 }
 
-fn in_table(table: &[u8], refusal: Refusal) -> Option<String> {
+fn in_table(table: &[u8], places: &Places, refusal: Refusal) -> Option<String> {
     let ((n, m), length) = (sizes(table), table.len());
     match refusal {
         Refusal::TableTooShort if length == 0 => return Some("the table is empty".to_string()),
@@ -147,10 +198,34 @@ fn in_table(table: &[u8], refusal: Refusal) -> Option<String> {
                 _ => return None,
             }
         }
+        Culprit::Pair { earlier, later } => out_of_turn(table, places, earlier, later),
     })
 }
 
-fn in_call(table: &[u8], call: &Call, refusal: Refusal) -> Option<String> {
+/// How a message is out of turn with an earlier one of its channel: the first of the
+/// three ways that holds.
+fn out_of_turn(table: &[u8], places: &Places, earlier: usize, later: usize) -> String {
+    let numbers = |k: usize| (run_table::sent(table, k), run_table::received(table, k));
+    let ((sent_before, received_before), (sent, received)) = (numbers(earlier), numbers(later));
+    let before = places.message(earlier);
+    let how = if sent < sent_before {
+        format!("has send number {sent}, smaller than {sent_before} of {before}")
+    } else if received_before == 0 {
+        format!("is received while {before} waits")
+    } else {
+        format!("has receipt number {received}, smaller than {received_before} of {before}")
+    };
+    let channel = channel(table, later);
+    format!("message {later} {how}, which goes before it {channel}")
+}
+
+/// The channel of a message in words.
+fn channel(table: &[u8], k: usize) -> String {
+    let (sender, receiver) = (run_table::sender(table, k), run_table::receiver(table, k));
+    format!("from process {sender} to process {receiver}")
+}
+
+fn in_call(table: &[u8], places: &Places, call: &Call, refusal: Refusal) -> Option<String> {
     let (n, m) = sizes(table);
     let unknown = |named: &[u16]| {
         let process = named.iter().find(|process| usize::from(**process) >= n)?;
@@ -196,6 +271,9 @@ fn in_call(table: &[u8], call: &Call, refusal: Refusal) -> Option<String> {
         }
         (Refusal::BadList, Call::Save { process, list } | Call::Receive { process, list }) => {
             in_list(table, *process, list)
+        }
+        (Refusal::MessagePassedOver, Call::Save { list, .. } | Call::Receive { list, .. }) => {
+            passed_over(table, places, list)
         }
         (Refusal::TableFull, Call::Send { .. }) => {
             Some(format!("the table has {m} messages, and takes no more"))
@@ -244,6 +322,25 @@ fn in_list(table: &[u8], process: u16, list: &[u16]) -> Option<String> {
         }
     }
     None
+}
+
+/// The first position of a list that passes over an older waiting message of its
+/// channel, with the nearest such.
+fn passed_over(table: &[u8], places: &Places, list: &[u16]) -> Option<String> {
+    let channel_of = |k: usize| (run_table::sender(table, k), run_table::receiver(table, k));
+    let waits = |k: usize| run_table::received(table, k) == 0;
+    let listed = |k: usize| list.iter().any(|position| usize::from(*position) == k);
+    list.iter().find_map(|position| {
+        let k = usize::from(*position);
+        let mut older = (0..k).rev();
+        let older = older.find(|q| channel_of(*q) == channel_of(k) && waits(*q) && !listed(*q))?;
+        Some(format!(
+            "{} passes over {}, which waits before it {}",
+            places.message(k),
+            places.message(older),
+            channel(table, k)
+        ))
+    })
 }
 
 /// Of a process that the table does not have.

@@ -7,7 +7,7 @@ use keeper::{Refusal, Table};
 
 use crate::arguments::Arguments;
 use crate::command::Failure;
-use crate::explain::{self, Call};
+use crate::explain::{self, Call, Places};
 use crate::{json, text};
 
 /// A text of more bytes is not read.
@@ -18,6 +18,8 @@ pub struct Input {
     pub table: Vec<u8>,
     name: String,
     text: Option<text::Read>,
+    /// Where its messages stand in a text.
+    places: Places,
     of_script: bool,
     /// What is said where a text was given for a table.
     advice: &'static str,
@@ -44,6 +46,7 @@ impl Input {
             table,
             name,
             text: None,
+            places: Places::default(),
             of_script: false,
             advice,
         })
@@ -73,6 +76,10 @@ impl Input {
         })?;
         Ok(Input {
             table: text.table.clone(),
+            places: Places {
+                name: name.clone(),
+                lines: text.message_lines.clone(),
+            },
             name,
             text: Some(text),
             of_script: false,
@@ -80,15 +87,22 @@ impl Input {
         })
     }
 
-    /// The table that a step of a script left.
-    pub fn of_script(table: Table) -> Input {
+    /// The table that a step of a script left, and where its messages stand in the
+    /// text that the script began with.
+    pub fn of_script(table: Table, places: Places) -> Input {
         Input {
             table: table.into_bytes(),
             name: String::new(),
             text: None,
+            places,
             of_script: true,
             advice: "",
         }
+    }
+
+    /// Where its messages stand in a text.
+    pub fn places(&self) -> &Places {
+        &self.places
     }
 
     /// Whether a script asks; its answers are all texts.
@@ -119,7 +133,7 @@ impl Input {
         let failure = self.refused(call, refusal);
         let words = || match refusal.is_of_table() {
             true => self.table_words(refusal),
-            false => explain::words(&self.table, call, refusal),
+            false => explain::words(&self.table, &self.places, call, refusal),
         };
         match arguments.has("--json") {
             true => failure.with(json::refused(refusal, &words()).into()),
@@ -130,7 +144,8 @@ impl Input {
     /// The failure of a call on the table.
     pub fn refused(&self, call: &Call, refusal: Refusal) -> Failure {
         if !refusal.is_of_table() {
-            return Failure::refused(explain::refusal(&self.table, call, refusal));
+            let message = explain::refusal(&self.table, &self.places, call, refusal);
+            return Failure::refused(message);
         }
         let line = self.text.as_ref().and_then(|text| text.line_of(refusal));
         let place = match line {
@@ -145,7 +160,7 @@ impl Input {
     fn table_words(&self, refusal: Refusal) -> String {
         match self.text.is_none() && text::looks_like_text(&self.table) {
             true => format!("this is a text, and no table: {}", self.advice),
-            false => explain::words(&self.table, &Call::Table, refusal),
+            false => explain::words(&self.table, &self.places, &Call::Table, refusal),
         }
     }
 }

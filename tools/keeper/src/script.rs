@@ -6,6 +6,7 @@ use std::io::{self, Read};
 
 use crate::arguments::{self, wrong, Arguments};
 use crate::command::{put_table, Failure, Stepped};
+use crate::explain::Places;
 use crate::input::{Input, MOST_TEXT};
 use crate::output::put;
 use crate::text;
@@ -57,7 +58,12 @@ pub fn run(arguments: &Arguments) -> Result<(), Failure> {
         if let Some(said) = &stepped.said {
             put(None, said.as_bytes())?;
         }
-        input = Some(Input::of_script(stepped.table));
+        // Messages stay where they are, but a fall back moves them.
+        let places = match (&input, step.arguments.subcommand.name) {
+            (None, _) | (_, "fall-back") => Places::default(),
+            (Some(input), _) => input.places().clone(),
+        };
+        input = Some(Input::of_script(stepped.table, places));
     }
     let (Some(input), Some(output)) = (input, arguments.file("-o")) else {
         return Ok(());
@@ -76,7 +82,9 @@ fn first(arguments: &Arguments) -> Result<Input, Failure> {
         let what = "the script is read from standard input, so that FILE must be named";
         return Err(wrong(arguments.subcommand, what));
     }
-    Input::read(arguments)?.accepted().map(Input::of_script)
+    let input = Input::read(arguments)?;
+    let table = input.accepted()?;
+    Ok(Input::of_script(table, input.places().clone()))
 }
 
 /// The name of the script and its bytes.

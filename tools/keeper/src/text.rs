@@ -46,18 +46,22 @@ pub struct Read {
     pub table: Vec<u8>,
     processes_line: usize,
     states_line: usize,
-    message_lines: Vec<usize>,
+    /// By position.
+    pub message_lines: Vec<usize>,
 }
 
 impl Read {
-    /// The line of what the library refused, where one line is to blame.
+    /// The line of what the library refused, where one line is to blame; of two messages
+    /// that are out of turn the line of the later one.
     pub fn line_of(&self, refusal: Refusal) -> Option<usize> {
         match refusal {
             Refusal::ProcessesOutOfRange => Some(self.processes_line),
             Refusal::TooManyMessages => self.message_lines.get(keeper::MOST_MESSAGES).copied(),
             _ => match explain::culprit(&self.table, refusal)? {
                 Culprit::Process(_) => Some(self.states_line),
-                Culprit::Message(k) => self.message_lines.get(k).copied(),
+                Culprit::Message(k) | Culprit::Pair { later: k, .. } => {
+                    self.message_lines.get(k).copied()
+                }
             },
         }
     }

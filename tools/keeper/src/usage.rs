@@ -303,7 +303,9 @@ Reads the text of a run table and writes the table. The text:
 The counts of checkpoints stand after `states`. A line `message J.Y -> I.R` stands for each message, in the order of \
 positions: sent by process J after its checkpoint Y, received by process I before its checkpoint R, or `waiting`. Where R \
 is the count of I, the message is received and not saved yet, and `unsaved` may stand behind it; it stands behind no other \
-number. Errors name the line and the column. The library checks the table.",
+number. The messages from one process to another stand in the order sent and received: of two of them the later one has no \
+smaller Y and no smaller R, and where the earlier one is waiting so is the later one. Errors name the line and the column. \
+The library checks the table.",
         work: Work::Alone(command::encode),
     },
     Subcommand {
@@ -494,8 +496,9 @@ the latest checkpoint of FROM, waiting.",
         short: "the table after a checkpoint that receives those messages",
         words: "\
 Reads a run table and writes the table after a checkpoint of PROCESS, before which it received the messages at each \
-POSITION, rising, that wait for it. What it received by `receive` before is saved too, and is not named. Messages count \
-from 0. A file whose name is a number is written `./7`.",
+POSITION, rising, that wait for it. With a message every older one from the same process that waits for PROCESS is named \
+too, since a channel delivers in the order sent. What it received by `receive` before is saved too, and is not named. \
+Messages count from 0. A file whose name is a number is written `./7`.",
         work: Work::Step(command::save),
     },
     Subcommand {
@@ -517,8 +520,9 @@ from 0. A file whose name is a number is written `./7`.",
         short: "the table after those messages were received and not saved",
         words: "\
 Reads a run table and writes the table after PROCESS received the messages at each POSITION, rising, that wait for it, \
-and took no checkpoint. They are received and not saved until its next `save`, and wait no longer. Where no POSITION is \
-named the table is written as it is. Messages count from 0. A file whose name is a number is written `./7`.",
+and took no checkpoint. With a message every older one from the same process that waits for PROCESS is named too, since a \
+channel delivers in the order sent. They are received and not saved until its next `save`, and wait no longer. Where no \
+POSITION is named the table is written as it is. Messages count from 0. A file whose name is a number is written `./7`.",
         work: Work::Step(command::receive),
     },
     Subcommand {

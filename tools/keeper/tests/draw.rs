@@ -527,7 +527,7 @@ fn has_order_by_taking_away(run: &Run) -> bool {
 fn the_grid_is_for_tables_without_an_order() {
     let mut random = Random(7);
     let (mut with, mut without) = (0, 0);
-    for _ in 0..600 {
+    for _ in 0..1_800 {
         let run = read(&random.table(4, 30, 5));
         let order = has_order_by_taking_away(&run);
         assert_eq!(layout::has_order(&run), order);
@@ -956,7 +956,7 @@ fn named_checkpoints_have_their_line_or_their_path() {
     let mut random = Random(31);
     let (mut lines, mut before, mut ways, mut cut, mut not_kept) = (0, 0, 0, 0, 0);
     let tables = corpus().into_iter().map(|case| (case.name, case.table));
-    let histories = (0..30).map(|seed| {
+    let histories = (0..60).map(|seed| {
         let mut random = Random(seed);
         let n = 2 + random.below(6);
         (format!("history {seed}"), random.history(n, 60))
@@ -1063,24 +1063,24 @@ fn named_checkpoints_have_their_line_or_their_path() {
 #[test]
 fn a_long_path_is_drawn() {
     // From 3 to 0, to and fro between 0 and 1, one interval lower each time, and from 0
-    // to 2.
+    // to 2. It goes from the last position to the first, so that channels are in order.
     let count = 100;
-    let sends = (1..count).rev().flat_map(|k| [0, k, 1, k - 1]);
-    let receipts = (1..count).rev().flat_map(|k| [1, k, 0, k]);
+    let sends = (1..count).flat_map(|k| [1, k - 1, 0, k]);
+    let receipts = (1..count).flat_map(|k| [0, k, 1, k]);
     let numbers = [4, 2 * count, count, count, 2, 1].into_iter();
-    let numbers = numbers.chain([3, 0]).chain(sends).chain([0, 0]);
-    let numbers = numbers.chain([0, count]).chain(receipts).chain([2, 1]);
+    let numbers = numbers.chain([0, 0]).chain(sends).chain([3, 0]);
+    let numbers = numbers.chain([2, 1]).chain(receipts).chain([0, count]);
     let table = bytes(&numbers.collect::<Vec<u16>>());
     let svg = done(&["draw", "--stand", "3.0,2.1"], &table);
     let picture = Picture::read(&String::from_utf8(svg).expect("UTF-8"));
     let note = "No: 3.0 and 2.1 are on no consistent line together. A zigzag path leads from 3.0 to 2.1 by 200 messages, \
-                from m0 to m199. ";
+                from m199 to m0. ";
     assert!(picture.notes().starts_with(note), "{}", picture.notes());
     let of = |process, number| keeper::Checkpoint { process, number };
     let path = Path {
         from: of(3, 0),
         to: of(2, 1),
-        messages: (0..200).collect(),
+        messages: (0..200).rev().collect(),
     };
     let way = way_in(&picture);
     assert_eq!((way.len(), &way), (1, &way_along(&picture, &path)));
@@ -1210,8 +1210,8 @@ states 2 2 2
 message 1.1 -> 0.2
 message 2.0 -> 0.2 unsaved
 message 2.1 -> 0.2
-message 0.1 -> 1.2
 message 0.0 -> 1.1
+message 0.1 -> 1.2
 message 1.1 -> 2 waiting
 ";
 
@@ -1236,8 +1236,8 @@ fn what_is_not_saved_in_words_and_in_its_place() {
              kept: sent before and received after the lines of processes 0-2, each alone holding",
             "message 2: from process 2 after its checkpoint 1, to process 0: received, not saved, \
              kept: sent before and received after the lines of processes 0-1, each alone holding",
-            "message 3: from process 0 after its checkpoint 1, to process 1: received, not saved, not kept",
-            "message 4: from process 0 after its checkpoint 0, received by process 1 before its checkpoint 1, not kept",
+            "message 3: from process 0 after its checkpoint 0, received by process 1 before its checkpoint 1, not kept",
+            "message 4: from process 0 after its checkpoint 1, to process 1: received, not saved, not kept",
             "message 5: from process 1 after its checkpoint 1, waiting for process 2, kept",
         ]
     );
@@ -1256,7 +1256,7 @@ fn what_is_not_saved_in_words_and_in_its_place() {
     ] {
         let picture = picture(arguments);
         picture.assert_inside(&format!("{arguments:?}"));
-        for (to, positions) in [(0, &[0, 1, 2][..]), (1, &[3])] {
+        for (to, positions) in [(0, &[0, 1, 2][..]), (1, &[4])] {
             let Some(square) = picture.dots.get(&(to, 2)) else {
                 continue;
             };

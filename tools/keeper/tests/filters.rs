@@ -627,14 +627,15 @@ message 4 removed
     );
     // What is received and not saved: message 0 was sent after the line and goes,
     // message 1 was sent before it, moves up and waits again.
-    let text = "processes 2\nstates 2 1\nmessage 0.1 -> 1.1 unsaved\nmessage 0.0 -> 1.1 unsaved\n";
+    let text =
+        "processes 3\nstates 2 1 1\nmessage 0.1 -> 1.1 unsaved\nmessage 0.0 -> 2.1 unsaved\n";
     assert_eq!(
         done(&["fall-back", "--moves", "--text-in"], text.as_bytes()),
-        b"line 1 0\nmessage 0 removed\nmessage 1 0\n"
+        b"line 1 0 0\nmessage 0 removed\nmessage 1 0\n"
     );
     assert_eq!(
         done(&["fall-back", "--text"], text.as_bytes()),
-        b"processes 2\nstates 2 1\nmessage 0.0 -> 1 waiting\n"
+        b"processes 3\nstates 2 1 1\nmessage 0.0 -> 2 waiting\n"
     );
 }
 

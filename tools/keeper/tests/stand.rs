@@ -171,7 +171,7 @@ fn a_path_just_where_the_answer_is_no() {
             }
         }
     };
-    for round in 0..4_000 {
+    for round in 0..8_000 {
         let table = match round % 4 {
             0 => random.table(2, 6, 3),
             1 => random.table(4, 10, 4),
@@ -376,6 +376,8 @@ fn a_long_path() {
     let mut messages = vec![[0, 4_095, 1, 4_096]];
     messages.extend((0..4_094).map(round_message));
     messages.push([15, 3_959, 31, 1]);
+    // So each channel is in order.
+    messages.reverse();
     let sends = messages.iter().flat_map(|message| message[..2].to_vec());
     let receipts = messages.iter().flat_map(|message| message[2..].to_vec());
     let head = [32, 4_096].into_iter().chain([4_096; 32]);
@@ -385,7 +387,7 @@ fn a_long_path() {
     let (from, to, path) = told(&ran);
     assert_eq!((from, to), (checkpoint(0, 4_095), checkpoint(31, 1)));
     let positions: Vec<u16> = path.iter().map(|(position, _)| *position).collect();
-    assert_eq!(positions, (0..4_096).collect::<Vec<u16>>());
+    assert_eq!(positions, (0..4_096).rev().collect::<Vec<u16>>());
     let ran = keeper(&["stand", "0.4095", "31.0"], &bytes(&numbers));
     assert_eq!(ran.status, 0);
 }

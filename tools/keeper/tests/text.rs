@@ -160,6 +160,7 @@ fn refused_texts_and_their_lines() {
         ("processes 2\nstates 3 3\nmessage 0.3 -> 1.1\nmessage 1.0 -> 1 waiting\n", ":4", "7: message 1 is from process 1 to itself"),
         ("processes 2\nstates 3 3\nmessage 0.0 -> 1.4\nmessage 0.3 -> 1.1\n", ":4", "8: message 1 has send number 3, and process 0 has 3 checkpoints"),
         ("processes 2\nstates 5 4\nmessage 0.0 -> 1.3\nmessage 0.2 -> 1.4\nmessage 0.2 -> 1.5\n", ":5", "9: message 2 has receipt number 5, above the count 4 of process 1"),
+        ("processes 2\nstates 3 3\nmessage 0.1 -> 1.1\n\nmessage 0.0 -> 1.1\n", ":5", "23: message 1 has send number 0, smaller than 1 of message 0 at (standard input):3, which goes before it from process 0 to process 1"),
     ];
     for (text, place, words) in cases {
         let message = format!("(standard input){place}: refused {words}");

@@ -156,7 +156,7 @@ impl Random {
     }
 
     /// An accepted table: any processes and numbers within their limits, receipts
-    /// that are not saved yet among them.
+    /// that are not saved yet among them, each channel in order.
     pub fn table(
         &mut self,
         most_processes: usize,
@@ -170,19 +170,17 @@ impl Random {
             self.below(most_messages + 1)
         };
         let counts: Vec<usize> = (0..n).map(|_| 1 + self.below(most_count)).collect();
-        let (mut sends, mut receipts) = (Vec::new(), Vec::new());
+        let mut messages = Vec::new();
         for _ in 0..m {
             let sender = self.below(n);
             let receiver = (sender + 1 + self.below(n - 1)) % n;
-            sends.extend([sender, self.below(counts[sender])]);
-            receipts.extend([receiver, self.below(counts[receiver] + 1)]);
+            let sent = self.below(counts[sender]);
+            let received = self.below(counts[receiver] + 1);
+            messages.push([sender, sent, receiver, received].map(|number| number as u16));
         }
-        let numbers = [n, m]
-            .into_iter()
-            .chain(counts)
-            .chain(sends)
-            .chain(receipts);
-        bytes(&numbers.map(|number| number as u16).collect::<Vec<_>>())
+        in_order(&mut messages);
+        let counts: Vec<u16> = counts.iter().map(|count| *count as u16).collect();
+        table_of(&counts, &messages)
     }
 
     /// A table that steps of a run have left: time can order its events.
@@ -197,12 +195,19 @@ impl Random {
             } else {
                 // Received, and saved mostly.
                 let m = keeper::run_table::messages(&table);
-                let mut list = Vec::new();
+                let (mut list, mut closed) = (Vec::new(), Vec::new());
                 for k in 0..usize::from(m) {
                     let waits = keeper::run_table::received(&table, k) == 0;
                     let here = usize::from(keeper::run_table::receiver(&table, k)) == process;
-                    if waits && here && self.below(4) > 0 {
+                    if !waits || !here {
+                        continue;
+                    }
+                    // Behind a message that is left no other of its channel is received.
+                    let sender = keeper::run_table::sender(&table, k);
+                    if self.below(4) > 0 && !closed.contains(&sender) {
                         list.push(k as u16);
+                    } else {
+                        closed.push(sender);
                     }
                 }
                 match self.below(3) {
@@ -213,6 +218,36 @@ impl Random {
             table = answer[..written.expect("within the limits")].to_vec();
         }
         table
+    }
+}
+
+/// The bytes of counts and messages (sender, number, receiver, number).
+pub fn table_of(counts: &[u16], messages: &[[u16; 4]]) -> Vec<u8> {
+    let sends = messages.iter().flat_map(|message| message[..2].to_vec());
+    let receipts = messages.iter().flat_map(|message| message[2..].to_vec());
+    let head = [counts.len() as u16, messages.len() as u16];
+    let numbers = head.into_iter().chain(counts.iter().copied());
+    bytes(&numbers.chain(sends).chain(receipts).collect::<Vec<_>>())
+}
+
+/// Puts each channel in order: its messages keep their positions and share out
+/// their send numbers, rising, and their receipt numbers, rising, with 0, of those
+/// that wait, behind all others.
+pub fn in_order(messages: &mut [[u16; 4]]) {
+    let turn = |received: u16| received.wrapping_sub(1);
+    for later in 0..messages.len() {
+        for earlier in 0..later {
+            let (one, other) = (messages[earlier], messages[later]);
+            if (one[0], one[2]) != (other[0], other[2]) {
+                continue;
+            }
+            if other[1] < one[1] {
+                (messages[earlier][1], messages[later][1]) = (other[1], one[1]);
+            }
+            if turn(other[3]) < turn(one[3]) {
+                (messages[earlier][3], messages[later][3]) = (other[3], one[3]);
+            }
+        }
     }
 }
 
