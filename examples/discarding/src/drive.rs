@@ -79,7 +79,8 @@ enum Temper {
     /// Anything by chance.
     Mixed,
     /// A relay: the process named sends to another right after it saved, and that
-    /// one receives the message, saves, and sends on. So each checkpoint depends on
+    /// one receives the message (behind older ones of the same sender), saves, and
+    /// sends on. So each checkpoint depends on
     /// a message that was sent after the latest checkpoint of another, and that
     /// checkpoint on a message before: where one is put back all of them are, like
     /// dominoes.
@@ -225,11 +226,12 @@ impl Course {
                 self.tally.written += 1;
             }
             Act::Receive { process } => {
-                // In a relay the newest, else any, and now and then all at once.
+                // In a relay the newest, else the oldest of any sender, and now and then
+                // all at once.
                 let which = match self.temper {
-                    Temper::Relay { .. } => Which::Back(0),
+                    Temper::Relay { .. } => Which::UpToNewest,
                     Temper::Mixed if self.chance.once_in(8) => Which::All,
-                    Temper::Mixed => Which::Back(self.chance.below(1 << 16)),
+                    Temper::Mixed => Which::OldestFrom(self.chance.below(1 << 16)),
                 };
                 self.tally.received += run.receive(process, which)? as u64;
                 self.tally.receipts += 1;

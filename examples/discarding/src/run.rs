@@ -25,12 +25,19 @@ pub struct Run<P> {
 #[derive(Default)]
 struct Process {
     state: State,
-    /// The messages that it has not received: identities and contents, as they came.
-    inbox: Vec<(u64, Vec<u8>)>,
+    /// The messages that it has not received, as they came: so those of one sender
+    /// stand in the order sent.
+    inbox: Vec<Mail>,
     /// The identities of those that it has received since its latest checkpoint.
     received: Vec<u64>,
     /// Whether its last act was a save.
     has_just_saved: bool,
+}
+
+struct Mail {
+    from: u16,
+    identity: u64,
+    contents: Vec<u8>,
 }
 
 /// What a process is: a digest of all that it did and received, in that order.
@@ -55,10 +62,14 @@ pub struct Restored {
     pub unsaved: u64,
 }
 
-/// Which messages of its inbox a process receives.
+/// Which messages of its inbox a process receives. Those of one sender it receives in
+/// the order sent; another order would be refused by 24.
 pub enum Which {
-    /// One: so many before the newest, counted round.
-    Back(usize),
+    /// One: the oldest from the sender of the message so many before the newest,
+    /// counted round.
+    OldestFrom(usize),
+    /// The newest, and before it all others from its sender.
+    UpToNewest,
     All,
 }
 
@@ -200,9 +211,11 @@ impl<P: Policy> Run<P> {
         self.stock.table.send(from, to)?;
         self.stock.messages.push(identity);
         self.record.sent(from, identity, &contents);
-        self.processes[usize::from(to)]
-            .inbox
-            .push((identity, contents));
+        self.processes[usize::from(to)].inbox.push(Mail {
+            from,
+            identity,
+            contents,
+        });
         Ok(())
     }
 
@@ -220,22 +233,31 @@ impl<P: Policy> Run<P> {
     /// another run they wait still, until the next save of the process lists them.
     pub fn receive(&mut self, process: u16, which: Which) -> Result<usize, Failure> {
         let receiver = &mut self.processes[usize::from(process)];
-        let taken: Vec<(u64, Vec<u8>)> = match which {
+        let newest = receiver.inbox.len() - 1;
+        let sender_at = |place: usize| receiver.inbox[place].from;
+        let taken: Vec<Mail> = match which {
             Which::All => std::mem::take(&mut receiver.inbox),
-            Which::Back(back) => {
-                let newest = receiver.inbox.len() - 1;
-                let place = newest - back % receiver.inbox.len();
-                vec![receiver.inbox.remove(place)]
+            Which::OldestFrom(back) => {
+                let from = sender_at(newest - back % receiver.inbox.len());
+                let oldest = receiver.inbox.iter().position(|mail| mail.from == from);
+                vec![receiver.inbox.remove(oldest.expect("one of its own"))]
+            }
+            Which::UpToNewest => {
+                let from = sender_at(newest);
+                let inbox = std::mem::take(&mut receiver.inbox);
+                let (taken, left) = inbox.into_iter().partition(|mail| mail.from == from);
+                receiver.inbox = left;
+                taken
             }
         };
         receiver.has_just_saved = false;
-        for (identity, contents) in &taken {
-            receiver.state.absorbs(event_of(contents));
-            receiver.received.push(*identity);
-            self.record.received(process, *identity);
+        for mail in &taken {
+            receiver.state.absorbs(event_of(&mail.contents));
+            receiver.received.push(mail.identity);
+            self.record.received(process, mail.identity);
         }
         if self.prompt {
-            let identities: Vec<u64> = taken.iter().map(|(identity, _)| *identity).collect();
+            let identities: Vec<u64> = taken.iter().map(|mail| mail.identity).collect();
             let positions = self.positions_of(&identities);
             self.stock.table.receive(process, &positions)?;
         }
@@ -294,7 +316,11 @@ impl<P: Policy> Run<P> {
                 let identity = thing.identity();
                 let contents = self.store.read(thing, self.record.message(identity))?;
                 let inbox = &mut self.processes[usize::from(message.receiver)].inbox;
-                inbox.push((identity, contents));
+                inbox.push(Mail {
+                    from: message.sender,
+                    identity,
+                    contents,
+                });
                 restored.unsaved += u64::from(unsaved.contains(&identity));
                 restored.messages.push(identity);
             }
@@ -333,7 +359,7 @@ impl<P: Policy> Run<P> {
     pub fn check_receipts(&self) -> Result<(), Failure> {
         let mut known: HashMap<u64, &str> = HashMap::new();
         for process in &self.processes {
-            let waiting = process.inbox.iter().map(|(identity, _)| *identity);
+            let waiting = process.inbox.iter().map(|mail| mail.identity);
             known.extend(waiting.map(|identity| (identity, "waiting")));
             let told = if self.prompt { "unsaved" } else { "waiting" };
             known.extend(process.received.iter().map(|identity| (*identity, told)));
@@ -451,6 +477,37 @@ mod tests {
         let failure = run.check_receipts().unwrap_err().to_string();
         assert!(failure.contains("is saved in the table"), "{failure}");
         run.stock.table = told;
+        run.check_receipts().unwrap();
+        run.end().unwrap();
+    }
+
+    /// Process 1 has two messages of process 0 and one of process 2 between them, and
+    /// receives them in the order sent, each way, also when they are delivered again.
+    #[test]
+    fn each_sender_s_messages_are_received_in_the_order_sent() {
+        let folder = format!("discarding-run-{}-order", std::process::id());
+        let folder = std::env::temp_dir().join(folder);
+        let mut run = Run::new(1, 3, true, &folder, BySheet::default()).unwrap();
+        let waiting = |run: &Run<BySheet>| -> Vec<u16> {
+            let messages = (0..).zip(run.stock.table.messages());
+            let waiting = messages.filter(|(_, message)| message.is_waiting());
+            waiting.map(|(position, _)| position).collect()
+        };
+        for (from, to) in [(0, 1), (2, 1), (0, 1)] {
+            run.send(from, to).unwrap();
+        }
+        run.save(0).unwrap();
+        run.save(2).unwrap();
+        // The newest is from 0, and so is the third from it, round.
+        assert_eq!(run.receive(1, Which::OldestFrom(3)).unwrap(), 1);
+        assert_eq!(waiting(&run), [1, 2]);
+        assert_eq!(run.receive(1, Which::OldestFrom(1)).unwrap(), 1);
+        assert_eq!(waiting(&run), [2]);
+        assert_eq!(run.fall_back().unwrap().messages.len(), 3);
+        assert_eq!(waiting(&run), [0, 1, 2]);
+        assert_eq!(run.receive(1, Which::UpToNewest).unwrap(), 2);
+        assert_eq!(waiting(&run), [1]);
+        assert_eq!(run.receive(1, Which::All).unwrap(), 1);
         run.check_receipts().unwrap();
         run.end().unwrap();
     }
