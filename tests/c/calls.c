@@ -971,6 +971,177 @@ static void refused_in_every_call(void)
     }
 }
 
+/* A with one number changed, each channel still in order: accepted by every call. */
+static void accepted_in_every_call(void)
+{
+    static const uint16_t counts[] = { 3, 3 };
+    uint8_t table[64];
+    size_t i;
+    for (i = 0; i < ACCEPTED_TABLES; i++) {
+        struct question q = about(CHECK_TABLE, table, put_refused(table, &accepted_tables[i]));
+        refuses(accepted_tables[i].what, &q, KEEPER_OK);
+        q.call = LINE_OF_SET;
+        of_numbers(accepted_tables[i].what, q, counts, 2);
+        q.list = counts;
+        q.list_length = 2;
+        q.call = LINE_UNDER;
+        of_numbers(accepted_tables[i].what, q, counts, 2);
+        of_marks(accepted_tables[i].what, q, counts, 2, 1);
+        q.call = STAND_TOGETHER;
+        q.list_length = 0;
+        of_numbers(accepted_tables[i].what, q, counts, 2);
+        /* An empty list changes nothing; and each other call finds something else that is wrong. */
+        q.call = RECEIVE;
+        q.room = 48;
+        {
+            struct answer a = { KEEPER_OK, table, 48, NULL, 0, 0 };
+            ask(accepted_tables[i].what, &q, &a);
+        }
+        q.call = SEND, q.from = q.to = 1;
+        refuses(accepted_tables[i].what, &q, KEEPER_SEND_TO_ITSELF);
+        q.call = SAVE, q.room = 47;
+        refuses(accepted_tables[i].what, &q, KEEPER_ANSWER_TOO_SHORT);
+        q.call = RECOVERY_LINE, q.room = 3;
+        refuses(accepted_tables[i].what, &q, KEEPER_ANSWER_TOO_SHORT);
+        q.call = FALL_BACK;
+        refuses(accepted_tables[i].what, &q, KEEPER_ANSWER_TOO_SHORT);
+        q.call = KEEP_SHEET, q.numbers = 3;
+        refuses(accepted_tables[i].what, &q, KEEPER_SCRATCH_TOO_SHORT);
+    }
+}
+
+/* ---- lists that pass over an older waiting message of a channel. Messages 0, 2 and 4 wait from 0 to 1, 1 and 5 from 2 to
+   1, and 3 from 0 to 2 */
+static void lists_in_turn(void)
+{
+    static const uint16_t numbers[] = { 3, 6, 1, 1, 1, 0, 0, 2, 0, 0, 0, 0, 0, 0, 0, 2, 0,
+                                        1, 0, 1, 0, 1, 0, 2, 0, 1, 0, 1, 0 };
+    enum { NUMBERS = sizeof numbers / sizeof numbers[0], FIRST_RECEIPT = 18, BYTES = 2 * NUMBERS };
+    static const struct {
+        uint16_t process, list[5];
+        size_t list_length;
+        uint32_t refusal;
+    } lists[] = {
+        { 1, { 2 }, 1, KEEPER_MESSAGE_PASSED_OVER },
+        { 1, { 4 }, 1, KEEPER_MESSAGE_PASSED_OVER },
+        { 1, { 5 }, 1, KEEPER_MESSAGE_PASSED_OVER },
+        { 1, { 0, 4 }, 2, KEEPER_MESSAGE_PASSED_OVER },
+        { 1, { 2, 4 }, 2, KEEPER_MESSAGE_PASSED_OVER },
+        { 1, { 1, 2 }, 2, KEEPER_MESSAGE_PASSED_OVER }, /* another channel is in order */
+        { 1, { 0, 5 }, 2, KEEPER_MESSAGE_PASSED_OVER },
+        { 1, { 0, 2, 4, 5 }, 4, KEEPER_MESSAGE_PASSED_OVER },
+        { 1, { 1, 2, 4, 5 }, 4, KEEPER_MESSAGE_PASSED_OVER },
+        { 1, { 0, 1, 4, 5 }, 4, KEEPER_MESSAGE_PASSED_OVER },
+        /* 13 is before 24, wherever in the list it catches. */
+        { 1, { 2, 2 }, 2, KEEPER_BAD_LIST },
+        { 1, { 4, 2 }, 2, KEEPER_BAD_LIST },
+        { 1, { 2, 3 }, 2, KEEPER_BAD_LIST },
+        { 1, { 2, 6 }, 2, KEEPER_BAD_LIST },
+        { 1, { 5, 65535 }, 2, KEEPER_BAD_LIST },
+        { 3, { 2 }, 1, KEEPER_UNKNOWN_PROCESS },
+        /* Nothing is passed over: the oldest, both that are listed, messages of other channels. */
+        { 1, { 0 }, 1, KEEPER_OK },
+        { 1, { 0, 2 }, 2, KEEPER_OK },
+        { 1, { 0, 2, 4 }, 3, KEEPER_OK },
+        { 1, { 1 }, 1, KEEPER_OK },
+        { 1, { 1, 5 }, 2, KEEPER_OK },
+        { 1, { 0, 1 }, 2, KEEPER_OK },
+        { 1, { 0, 1, 2, 5 }, 4, KEEPER_OK },
+        { 1, { 0, 1, 2, 4, 5 }, 5, KEEPER_OK },
+        { 2, { 3 }, 1, KEEPER_OK },
+        { 1, { 0 }, 0, KEEPER_OK },
+    };
+    static const size_t rooms[] = { 0, BYTES - 1, BYTES, BYTES + 5000 };
+    uint16_t after[NUMBERS];
+    uint8_t table[BYTES];
+    struct question q = about(SAVE, table, put_numbers(table, numbers, NUMBERS));
+    size_t i, k;
+    int c;
+    for (i = 0; i < sizeof lists / sizeof lists[0]; i++)
+        for (c = 0; c < 2; c++) {
+            q.call = c == 0 ? SAVE : RECEIVE;
+            q.from = lists[i].process;
+            q.list = lists[i].list;
+            q.list_length = lists[i].list_length;
+            if (lists[i].refusal != KEEPER_OK) {
+                /* 24 is before 16, too. */
+                for (k = 0; k < sizeof rooms / sizeof rooms[0]; k++) {
+                    q.room = rooms[k];
+                    refuses("lists in turn", &q, lists[i].refusal);
+                }
+                continue;
+            }
+            memcpy(after, numbers, sizeof after);
+            for (k = 0; k < q.list_length; k++)
+                after[FIRST_RECEIPT + 2 * q.list[k]] = 1;
+            if (c == 0)
+                after[2 + q.from] = 2;
+            of_numbers("lists in turn", q, after, NUMBERS);
+        }
+}
+
+/* What is received waits no longer, saved or not, and is not passed over; what waits again after a fall back is. Three
+   messages go from 0 to 1. */
+static void turns_of_one_channel(void)
+{
+    static const uint16_t one[] = { 1 }, two[] = { 2 }, both[] = { 1, 2 };
+    static const uint16_t unsaved_0[] = { 2, 3, 2, 1, 0, 0, 0, 0, 0, 0, 1, 1, 1, 0, 1, 0 };
+    static const uint16_t unsaved_1[] = { 2, 3, 2, 1, 0, 0, 0, 0, 0, 0, 1, 1, 1, 1, 1, 0 };
+    static const uint16_t unsaved_2[] = { 2, 3, 2, 1, 0, 0, 0, 0, 0, 0, 1, 1, 1, 1, 1, 1 };
+    static const uint16_t saved_2[] = { 2, 3, 2, 2, 0, 0, 0, 0, 0, 0, 1, 1, 1, 1, 1, 1 };
+    static const uint16_t fallen[] = { 2, 3, 2, 1, 0, 0, 0, 0, 0, 0, 1, 0, 1, 0, 1, 0 };
+    uint8_t table[32];
+    struct question q = about(RECEIVE, table, put_numbers(table, unsaved_0, 16));
+    int c;
+    q.from = 1;
+    for (c = 0; c < 2; c++) {
+        q.call = c == 0 ? SAVE : RECEIVE;
+        q.list = two, q.list_length = 1;
+        refuses("message 1 waits before 2", &q, KEEPER_MESSAGE_PASSED_OVER);
+    }
+    q.list = one;
+    of_numbers("message 1 behind 0, which is not saved yet", q, unsaved_1, 16);
+    q.list = both, q.list_length = 2;
+    of_numbers("messages 1 and 2 behind 0", q, unsaved_2, 16);
+    q.call = SAVE;
+    of_numbers("messages 1 and 2 behind 0", q, saved_2, 16);
+    put_numbers(table, unsaved_2, 16);
+    q.call = FALL_BACK;
+    of_numbers("all wait again", q, fallen, 16);
+    put_numbers(table, fallen, 16);
+    for (c = 0; c < 2; c++) {
+        q.call = c == 0 ? SAVE : RECEIVE;
+        q.list = both;
+        refuses("message 0 waits again", &q, KEEPER_MESSAGE_PASSED_OVER);
+    }
+}
+
+/* 24 is before 14: two messages wait for a process with 4,096 checkpoints. A receipt has no 14. */
+static void turns_of_a_full_count(void)
+{
+    static const uint16_t numbers[] = { 2, 2, 1, 4096, 0, 0, 0, 0, 1, 0, 1, 0 };
+    static const uint16_t received[] = { 2, 2, 1, 4096, 0, 0, 0, 0, 1, 4096, 1, 4096 };
+    static const uint16_t later[] = { 1 }, both[] = { 0, 1 }, beyond[] = { 1, 2 };
+    uint8_t table[24];
+    struct question q = about(SAVE, table, put_numbers(table, numbers, 12));
+    int c;
+    q.from = 1;
+    for (c = 0; c < 2; c++)
+        for (q.room = 0; q.room <= 24; q.room += 12) {
+            q.call = c == 0 ? SAVE : RECEIVE;
+            q.list = later, q.list_length = 1;
+            refuses("a full count, message 0 passed over", &q, KEEPER_MESSAGE_PASSED_OVER);
+            q.list = beyond, q.list_length = 2;
+            refuses("a full count, position 2", &q, KEEPER_BAD_LIST);
+        }
+    q.list = both;
+    q.call = SAVE;
+    for (q.room = 0; q.room <= 24; q.room += 12)
+        refuses("a full count, both listed", &q, KEEPER_TABLE_FULL);
+    q.call = RECEIVE;
+    of_numbers("a full count, both listed", q, received, 12);
+}
+
 /* ---- the largest tables: N = 32, counts 1, every message (0,0) to (1,0), waiting or received at 1 */
 static uint8_t large[KEEPER_LARGEST_TABLE], unsaved[KEEPER_LARGEST_TABLE], other[KEEPER_LARGEST_TABLE];
 
@@ -1122,8 +1293,8 @@ static void lines_of_unsaved(void)
     of_numbers("4,096 unsaved", about(RECOVERY_LINE, unsaved, KEEPER_LARGEST_TABLE), line, 32);
 }
 
-/* Receipts of 4,096 messages, all but the first and all but the last: their number is the count, which stays. There is no
-   14, and 13 where the list goes on to M. Then a save and a fall back; nothing is received twice. */
+/* Receipts of 4,096 messages, and of all but the last: their number is the count, which stays. There is no 14, 13 where the
+   list goes on to M, and 24 where it leaves one but the last out. Then a save and a fall back; nothing is received twice. */
 static void most_unsaved(void)
 {
     static uint16_t list[KEEPER_MOST_MESSAGES + 1];
@@ -1140,14 +1311,21 @@ static void most_unsaved(void)
     answers("4,096 messages received", q, a);
     memcpy(other, unsaved, sizeof other);
     a.bytes = other;
-    put_number(other, 35 + 2 * 4096, 0);
-    q.list = list + 1;
-    q.list_length = 4095;
-    answers("all but the first received", q, a);
-    put_number(other, 35 + 2 * 4096, 1);
     put_number(other, 35 + 2 * (4096 + 4095), 0);
-    q.list = list;
+    q.list_length = 4095;
     answers("all but the last received", q, a);
+    q.list = list + 1;
+    refuses("all but the first received", &q, KEEPER_MESSAGE_PASSED_OVER);
+    q.call = SAVE;
+    refuses("all but the first received", &q, KEEPER_MESSAGE_PASSED_OVER);
+    q.list = last, q.list_length = 1;
+    refuses("the last alone", &q, KEEPER_MESSAGE_PASSED_OVER);
+    q.call = RECEIVE;
+    refuses("the last alone", &q, KEEPER_MESSAGE_PASSED_OVER);
+    list[4094] = 4095;
+    q.list = list, q.list_length = 4095;
+    refuses("all but the one before the last", &q, KEEPER_MESSAGE_PASSED_OVER);
+    list[4094] = 4094;
     for (q.room = 0; q.room <= KEEPER_LARGEST_TABLE; q.room += KEEPER_LARGEST_TABLE) {
         q.from = 1, q.list_length = 4097;
         refuses("4,097 messages", &q, KEEPER_BAD_LIST);
@@ -1441,9 +1619,9 @@ static void domino(void)
         put_number(table, 1, MESSAGES);
         put_number(table, 2, COUNT);
         put_number(table, 3, COUNT);
-        /* With the latest message first, and with the first one first. */
+        /* With the two channels in turn, and with all of one behind all of the other. */
         for (i = 0; i < MESSAGES; i++) {
-            k = turn == 0 ? i : MESSAGES - 1 - i;
+            k = turn == 0 ? i : i < MESSAGES / 2 ? 2 * i + 1 : 2 * i - MESSAGES;
             put_number(table, 4 + 2 * i, k % 2);
             put_number(table, 5 + 2 * i, (uint16_t)(1 + k / 2 - k % 2));
             put_number(table, 4 + 2 * MESSAGES + 2 * i, 1 - k % 2);
@@ -1460,8 +1638,8 @@ static void domino(void)
 /* Messages that wait, of which there is no edge, and edges by which virtual checkpoints are reached. */
 static void waiting_and_new(void)
 {
-    /* (0,1) to (1,2); (1,2) to (2, waiting); (1,3) to (2,1); (2,0) to (0, waiting). */
-    static const uint16_t numbers[] = { 3, 4, 3, 4, 2, 0, 1, 1, 2, 1, 3, 2, 0, 1, 2, 2, 0, 2, 1, 0, 0 };
+    /* (0,1) to (1,2); (1,3) to (2,1); (1,3) to (2, waiting); (2,0) to (0, waiting). */
+    static const uint16_t numbers[] = { 3, 4, 3, 4, 2, 0, 1, 1, 3, 1, 3, 2, 0, 1, 2, 2, 1, 2, 0, 0, 0 };
     static const uint16_t lists[][3] = { { 3, 4, 2 }, { 2, 4, 2 }, { 1, 4, 2 }, { 0, 4, 2 }, { 3, 3, 2 }, { 3, 2, 2 },
                                          { 3, 2, 0 }, { 3, 4, 0 }, { 2, 2, 2 }, { 2, 1, 1 }, { 0, 0, 1 }, { 0, 0, 0 } };
     static const uint16_t lines[][3] = { { 3, 4, 2 }, { 2, 4, 2 }, { 1, 1, 0 }, { 0, 1, 0 }, { 3, 3, 0 }, { 3, 2, 0 },
@@ -1546,6 +1724,29 @@ static size_t chance(size_t bound)
     return (chance_state >> 16) % bound;
 }
 
+/* Puts each channel of a table in order: its messages keep their positions and share out their send numbers, rising, and
+   their receipt numbers, rising, with 0, of those that wait, behind all others. */
+static void in_order(uint8_t *table)
+{
+    size_t n = of_table(table, 0), m = of_table(table, 1), later, earlier;
+    for (later = 0; later < m; later++)
+        for (earlier = 0; earlier < later; earlier++) {
+            size_t one = 2 + n + 2 * earlier, other_one = 2 + n + 2 * later, part;
+            if (of_table(table, one) != of_table(table, other_one) ||
+                of_table(table, one + 2 * m) != of_table(table, other_one + 2 * m))
+                continue;
+            for (part = 1; part <= 1 + 2 * m; part += 2 * m) {
+                uint16_t before = (uint16_t)of_table(table, one + part), after = (uint16_t)of_table(table, other_one + part);
+                /* As unsigned numbers, 0 less 1 is the largest. */
+                int falls = part == 1 ? after < before : (uint16_t)(after - 1) < (uint16_t)(before - 1);
+                if (falls) {
+                    put_number(table, one + part, after);
+                    put_number(table, other_one + part, before);
+                }
+            }
+        }
+}
+
 static void both_methods(void)
 {
     uint8_t table[KEEPER_TABLE_SIZE(5, 24)], line[KEEPER_LARGEST_LINE];
@@ -1572,6 +1773,7 @@ static void both_methods(void)
             put_number(table, 2 + n + 2 * m + 2 * k, (uint16_t)i);
             put_number(table, 3 + n + 2 * m + 2 * k, (uint16_t)chance(counts[i] + 1));
         }
+        in_order(table);
         q = about(MARKED_LINE, table, KEEPER_TABLE_SIZE(n, m));
         q.list = list;
         q.list_length = n;
@@ -1771,6 +1973,7 @@ static void by_both_definitions(void)
             put_number(table, 2 + n + 2 * m + 2 * k, (uint16_t)i);
             put_number(table, 3 + n + 2 * m + 2 * k, (uint16_t)chance(counts[i] + 1));
         }
+        in_order(table);
         do {
             struct question q = about(STAND_TOGETHER, table, KEEPER_TABLE_SIZE(n, m));
             struct answer a = { KEEPER_OK, NULL, 0, NULL, 0, 0 };
@@ -1940,6 +2143,10 @@ int main(void)
     case_f();
     steps_with_receipts();
     refused_in_every_call();
+    accepted_in_every_call();
+    lists_in_turn();
+    turns_of_one_channel();
+    turns_of_a_full_count();
     largest();
     full_counts();
     full_unsaved();

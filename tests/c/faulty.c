@@ -75,9 +75,46 @@ static const uint8_t *lowered_if(int asked, const uint8_t *table, size_t length,
     return lowered(table, length, 0, by);
 }
 
+/* Whether the table is refused by 23. */
+static int out_of_order(const uint8_t *table, size_t length)
+{
+    return keeper_check_table(table, length) == KEEPER_CHANNEL_OUT_OF_ORDER;
+}
+
+/* Of a table that the checks 1 to 9 let through: whether two messages of one channel, the later one next to the earlier one
+   there or anywhere behind it, are such: the later one has a smaller or the same send number, is received while the earlier
+   one waits, or has a smaller or the same receipt number. */
+enum pair { SENT_BEFORE, SENT_WITH, OVERTAKES, RECEIVED_BEFORE, RECEIVED_WITH };
+
+static int has_pair(const uint8_t *table, enum pair pair)
+{
+    size_t m = keeper_u16_at(table, 2), sends = 4 + 2 * (size_t)keeper_u16_at(table, 0), k, q;
+    for (k = 0; k < m; k++)
+        for (q = 0; q < k; q++) {
+            unsigned y = keeper_u16_at(table, sends + 4 * k + 2), y_before = keeper_u16_at(table, sends + 4 * q + 2);
+            unsigned r = keeper_u16_at(table, receipt_place(table, k)), r_before = keeper_u16_at(table, receipt_place(table, q));
+            if (keeper_u16_at(table, sends + 4 * k) != keeper_u16_at(table, sends + 4 * q)) continue;
+            if (receiver_of(table, k) != receiver_of(table, q)) continue;
+            if (pair == SENT_BEFORE && y < y_before) return 1;
+            if (pair == SENT_WITH && y == y_before) return 1;
+            if (pair == OVERTAKES && r != 0 && r_before == 0) return 1;
+            if (pair == RECEIVED_BEFORE && r != 0 && r < r_before) return 1;
+            if (pair == RECEIVED_WITH && r != 0 && r == r_before) return 1;
+        }
+    return 0;
+}
+
 uint32_t faulty_check_table(const uint8_t *table, size_t length)
 {
     uint32_t r = keeper_check_table(table, length);
+    if (fault(389) && r == KEEPER_CHANNEL_OUT_OF_ORDER) return KEEPER_OK;
+    if (fault(390) && r == KEEPER_CHANNEL_OUT_OF_ORDER) return KEEPER_RECEIPT_NUMBER_TOO_HIGH;
+    if (fault(391) && r == KEEPER_CHANNEL_OUT_OF_ORDER && has_pair(table, SENT_BEFORE)) return KEEPER_OK;
+    if (fault(392) && r == KEEPER_CHANNEL_OUT_OF_ORDER && has_pair(table, OVERTAKES)) return KEEPER_OK;
+    if (fault(393) && r == KEEPER_CHANNEL_OUT_OF_ORDER && has_pair(table, RECEIVED_BEFORE)) return KEEPER_OK;
+    if (fault(394) && r == KEEPER_OK && has_pair(table, SENT_WITH)) return KEEPER_CHANNEL_OUT_OF_ORDER;
+    if (fault(395) && r == KEEPER_OK && has_pair(table, RECEIVED_WITH)) return KEEPER_CHANNEL_OUT_OF_ORDER;
+    if (fault(396) && r == KEEPER_RECEIPT_NUMBER_TOO_HIGH && has_pair(table, RECEIVED_BEFORE)) return KEEPER_CHANNEL_OUT_OF_ORDER;
     if (fault(164) && r == KEEPER_OK && memcmp(lowered(table, length, 0, 1), table, length) != 0) return KEEPER_RECEIPT_NUMBER_TOO_HIGH;
     if (fault(165) && r == KEEPER_RECEIPT_NUMBER_TOO_HIGH) return keeper_check_table(lowered(table, length, 1, 1), length);
     if (fault(1) && length == 0) return KEEPER_WRONG_LENGTH;
@@ -90,6 +127,7 @@ uint32_t faulty_check_table(const uint8_t *table, size_t length)
 
 uint32_t faulty_recovery_line(const uint8_t *table, size_t length, uint8_t *answer, size_t room, size_t *written)
 {
+    if (fault(397) && out_of_order(table, length)) return KEEPER_OK;
     uint32_t r = keeper_recovery_line(table, length, answer, room, written);
     if (fault(6) && r == KEEPER_OK) answer[*written] = 0;
     if (fault(7) && r == KEEPER_OK) answer[-1] = 0;
@@ -102,6 +140,7 @@ uint32_t faulty_recovery_line(const uint8_t *table, size_t length, uint8_t *answ
 
 uint32_t faulty_line_of_set(const uint8_t *table, size_t length, uint32_t set, uint8_t *answer, size_t room, size_t *written)
 {
+    if (fault(398) && out_of_order(table, length)) return KEEPER_RECEIPT_NUMBER_TOO_HIGH;
     if (fault(12)) set &= 0x7FFFFFFFu;
     if (fault(13) && keeper_check_table(table, length) == KEEPER_OK && (set >> 31) != 0) return KEEPER_UNKNOWN_PROCESS_IN_SET;
     if (fault(14) && room == 0 && keeper_check_table(table, length) == KEEPER_OK) return KEEPER_ANSWER_TOO_SHORT;
@@ -118,6 +157,7 @@ uint32_t faulty_line_of_set(const uint8_t *table, size_t length, uint32_t set, u
 uint32_t faulty_line_under(const uint8_t *table, size_t length, const uint16_t *ceilings, size_t ceilings_length,
                            uint8_t *answer, size_t room, size_t *written)
 {
+    if (fault(399) && out_of_order(table, length)) return KEEPER_OK;
     uint16_t counts[KEEPER_MOST_PROCESSES], other[KEEPER_MOST_PROCESSES];
     uint16_t *list = (uint16_t *)(uintptr_t)ceilings;
     size_t p, n = keeper_check_table(table, length) == KEEPER_OK ? table[0] : 0;
@@ -247,6 +287,7 @@ static size_t faulty_marks_size(size_t sum, size_t n)
 uint32_t faulty_marked_line(const uint8_t *table, size_t length, const uint16_t *ceilings, size_t ceilings_length,
                             uint8_t *marks, size_t marks_length, uint8_t *answer, size_t room, size_t *written)
 {
+    if (fault(400) && out_of_order(table, length)) return KEEPER_RECEIPT_NUMBER_TOO_HIGH;
     static uint8_t own[KEEPER_MARKS_ROOM], before[KEEPER_MARKS_ROOM];
     uint16_t root[KEEPER_MOST_PROCESSES], *list = (uint16_t *)(uintptr_t)ceilings;
     size_t p, n = keeper_check_table(table, length) == KEEPER_OK ? table[0] : 0, sum = n == 0 ? 0 : sum_of(table);
@@ -528,6 +569,7 @@ static uint32_t faulty_name_checks(const uint8_t *table, uint16_t *processes, si
 uint32_t faulty_stand_together(const uint8_t *table, size_t length, const uint16_t *processes, size_t processes_length,
                                const uint16_t *states, size_t states_length, uint8_t *answer, size_t room, size_t *written)
 {
+    if (fault(401) && out_of_order(table, length)) return KEEPER_OK;
     static uint16_t named[65536 + 2], of_named[65536 + 2];
     uint16_t *first = (uint16_t *)(uintptr_t)processes, *second = (uint16_t *)(uintptr_t)states;
     size_t n = keeper_check_table(table, length) == KEEPER_OK ? table[0] : 0;
@@ -585,6 +627,7 @@ uint32_t faulty_stand_together(const uint8_t *table, size_t length, const uint16
 
 uint32_t faulty_send(const uint8_t *table, size_t length, uint16_t from, uint16_t to, uint8_t *answer, size_t room, size_t *written)
 {
+    if (fault(402) && out_of_order(table, length)) return KEEPER_RECEIPT_NUMBER_TOO_HIGH;
     uint32_t r;
     if (fault(17)) { uint16_t other = from; from = to; to = other; }
     if (fault(18) && from == to && keeper_check_table(table, length) == KEEPER_OK) return KEEPER_SEND_TO_ITSELF;
@@ -601,6 +644,7 @@ uint32_t faulty_send(const uint8_t *table, size_t length, uint16_t from, uint16_
 uint32_t faulty_save(const uint8_t *table, size_t length, uint16_t process, const uint16_t *list, size_t list_length,
                      uint8_t *answer, size_t room, size_t *written)
 {
+    if (fault(403) && out_of_order(table, length)) return KEEPER_OK;
     size_t k, m;
     int any = 0;
     uint32_t r;
@@ -609,6 +653,18 @@ uint32_t faulty_save(const uint8_t *table, size_t length, uint16_t process, cons
     if (fault(173)) list_length &= 0xFFFF;
     if (fault(174)) list_length &= 0xFF;
     r = keeper_save(table, length, process, list, list_length, answer, room, written);
+    if (fault(409) && r == KEEPER_MESSAGE_PASSED_OVER) return KEEPER_OK;
+    if (fault(410) && r == KEEPER_MESSAGE_PASSED_OVER) return KEEPER_BAD_LIST;
+    if (fault(411) && r == KEEPER_MESSAGE_PASSED_OVER && room < length) return KEEPER_ANSWER_TOO_SHORT;
+    if (fault(412) && r == KEEPER_MESSAGE_PASSED_OVER && keeper_u16_at(table, 4 + 2 * (size_t)process) == 4096) return KEEPER_TABLE_FULL;
+    if (fault(413) && r == KEEPER_MESSAGE_PASSED_OVER && list_length > 1) return KEEPER_OK;
+    if (fault(414) && r == KEEPER_MESSAGE_PASSED_OVER && list[0] == 0) return KEEPER_OK;
+    if (fault(415) && r == KEEPER_MESSAGE_PASSED_OVER) *written = 0;
+    if (fault(416) && r == KEEPER_MESSAGE_PASSED_OVER && room > 0) answer[room - 1] = 0;
+    if (fault(417) && r == KEEPER_BAD_LIST && list_length == 2 && list[0] == 2) return KEEPER_MESSAGE_PASSED_OVER;
+    if (fault(418) && r == KEEPER_OK && list_length == 1 && list[0] > 0) return KEEPER_MESSAGE_PASSED_OVER;
+    if (fault(419) && r == KEEPER_OK && list_length > 1) return KEEPER_MESSAGE_PASSED_OVER;
+    if (fault(420) && r == KEEPER_MESSAGE_PASSED_OVER && list[0] == 1) return KEEPER_OK;
     if (fault(25) && r == KEEPER_OK && list_length > 0) ((uint16_t *)(uintptr_t)list)[0] ^= 1;
     if (fault(26) && r == KEEPER_BAD_LIST && length == 16) return KEEPER_TABLE_FULL;
     if (fault(27) && r == KEEPER_TABLE_FULL) return KEEPER_OK;
@@ -665,6 +721,7 @@ static void faulty_receipts(const uint8_t *table, size_t length, uint16_t proces
 uint32_t faulty_receive(const uint8_t *table, size_t length, uint16_t process, const uint16_t *list, size_t list_length,
                         uint8_t *answer, size_t room, size_t *written)
 {
+    if (fault(404) && out_of_order(table, length)) return KEEPER_RECEIPT_NUMBER_TOO_HIGH;
     static uint8_t large[KEEPER_LARGEST_TABLE + 8];
     uint16_t *entries = (uint16_t *)(uintptr_t)list;
     int accepted = keeper_check_table(table, length) == KEEPER_OK;
@@ -687,6 +744,18 @@ uint32_t faulty_receive(const uint8_t *table, size_t length, uint16_t process, c
     if (fault(209) && accepted && process < table[0] && list_length == 0 && room >= length) return *written = 0, KEEPER_OK;
     if (fault(210) && room == length + 5000) room = length - 1;
     r = keeper_receive(table, length, process, list, list_length, answer, room, written);
+    if (fault(421) && r == KEEPER_MESSAGE_PASSED_OVER) return KEEPER_OK;
+    if (fault(422) && r == KEEPER_MESSAGE_PASSED_OVER) return KEEPER_BAD_LIST;
+    if (fault(423) && r == KEEPER_MESSAGE_PASSED_OVER && room < length) return KEEPER_ANSWER_TOO_SHORT;
+    if (fault(424) && r == KEEPER_MESSAGE_PASSED_OVER && keeper_u16_at(table, 4 + 2 * (size_t)process) == 4096) return KEEPER_TABLE_FULL;
+    if (fault(425) && r == KEEPER_MESSAGE_PASSED_OVER && list_length > 1) return KEEPER_OK;
+    if (fault(426) && r == KEEPER_MESSAGE_PASSED_OVER && list[0] == 0) return KEEPER_OK;
+    if (fault(427) && r == KEEPER_MESSAGE_PASSED_OVER) *written = 0;
+    if (fault(428) && r == KEEPER_MESSAGE_PASSED_OVER && room > 0) answer[room - 1] = 0;
+    if (fault(429) && r == KEEPER_BAD_LIST && list_length == 2 && list[0] == 2) return KEEPER_MESSAGE_PASSED_OVER;
+    if (fault(430) && r == KEEPER_OK && list_length == 1 && list[0] > 0) return KEEPER_MESSAGE_PASSED_OVER;
+    if (fault(431) && r == KEEPER_OK && list_length > 1) return KEEPER_MESSAGE_PASSED_OVER;
+    if (fault(432) && r == KEEPER_MESSAGE_PASSED_OVER && keeper_u16_at(table, 2) == 4096) return KEEPER_OK;
     if (fault(211) && r == KEEPER_BAD_LIST)
         r = keeper_receive(lowered(table, length, 0, WAITS), length, process, list, list_length, answer, room, written);
     if (fault(212) && r == KEEPER_BAD_LIST) r = keeper_receive(table, length, process, list, list_length - 1, answer, room, written);
@@ -763,6 +832,7 @@ static size_t faulty_rollback(const uint8_t *table, size_t length, uint8_t *answ
 
 uint32_t faulty_fall_back(const uint8_t *table, size_t length, uint8_t *answer, size_t room, size_t *written)
 {
+    if (fault(405) && out_of_order(table, length)) return KEEPER_OK;
     static uint8_t own[KEEPER_LARGEST_TABLE];
     uint32_t r = keeper_fall_back(table, length, answer, room, written);
     if (r == KEEPER_OK) {
@@ -798,6 +868,8 @@ static size_t faulty_positions(const uint8_t *table, uint8_t *sheet, size_t room
 uint32_t faulty_keep_sheet(const uint8_t *table, size_t length, uint16_t *scratch, size_t numbers, uint8_t *answer, size_t room,
                            size_t *written)
 {
+    if (fault(408) && out_of_order(table, length) && numbers > 0) scratch[0] = 0;
+    if (fault(406) && out_of_order(table, length)) return KEEPER_RECEIPT_NUMBER_TOO_HIGH;
     static uint16_t other[KEEPER_SCRATCH_NUMBERS];
     uint32_t r;
     if (fault(34) && numbers <= KEEPER_SCRATCH_NUMBERS) {
@@ -865,6 +937,7 @@ static void put_faulty_share(const uint8_t *table, uint8_t *text, size_t room, s
 
 uint32_t faulty_listing(const uint8_t *table, size_t length, uint8_t *text, size_t room, size_t *written)
 {
+    if (fault(407) && out_of_order(table, length)) return KEEPER_CHANNEL_OUT_OF_ORDER;
     const uint8_t *read = lowered_if(fault(252), table, length, WAITS);
     uint32_t r = keeper_listing(read, length, text, room, written);
     if (fault(43) && r == KEEPER_OK && *written < room) text[*written] = 0;

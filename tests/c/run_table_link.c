@@ -135,6 +135,14 @@ int main(void)
             same("NULL", run_table_check(NULL, 0), RUN_TABLE_TOO_SHORT);
         same("memory of a refused table", memcmp(table, kept, 64) != 0, 0);
     }
+    for (i = 0; i < ACCEPTED_TABLES; i++) {
+        size_t length = put_refused(kept, &accepted_tables[i]);
+        memset(table, 0xA5, 64);
+        memcpy(table, kept, length);
+        memset(kept + length, 0xA5, 64 - length);
+        same(accepted_tables[i].what, run_table_check(table, length), RUN_TABLE_OK);
+        same("memory of an accepted table", memcmp(table, kept, 64) != 0, 0);
+    }
     same("floating point flags", (unsigned long)fetestexcept(FE_ALL_EXCEPT), 0);
     for (i = 0; i < 16; i++) {
         same("guard before", bytes[i], 0xA5);

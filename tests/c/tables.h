@@ -1,5 +1,6 @@
-/* Tables for the tests of the archives: example A of the format's document, and refused tables that
-   are A with one number changed or cut to another length. C and C++. */
+/* Tables for the tests of the archives: example A of the format's document; refused tables that are A
+   with one number changed or cut to another length; and accepted ones that are A with one number changed.
+   C and C++. */
 #ifndef TABLES_H
 #define TABLES_H
 
@@ -62,8 +63,38 @@ static const struct refused refused_tables[] = {
     { "first receipt (1,4)", 9, 15, 4, 48 },
     { "last receipt (0,259)", 9, 23, 259, 48 },
     { "last receipt (0,65535)", 9, 23, 65535, 48 },
+    /* Messages 0 and 3 are from 0 to 1, and 1, 2 and 4 from 1 to 0. A smaller send number: */
+    { "last send (1,0)", 23, 13, 0, 48 },
+    { "second send (1,2)", 23, 7, 2, 48 },
+    /* received while the earlier one waits: */
+    { "message 0 waits, 3 is received", 23, 15, 0, 48 },
+    { "message 1 waits, 2 is received", 23, 17, 0, 48 },
+    /* a smaller receipt number: */
+    { "message 3 received before 0", 23, 21, 1, 48 },
+    { "message 4 received before 2", 23, 23, 1, 48 },
+    { "message 0 not saved yet, 3 saved", 23, 15, 3, 48 },
+    { "message 1 not saved yet, 2 saved", 23, 17, 3, 48 },
 };
 #define REFUSED_TABLES (sizeof refused_tables / sizeof refused_tables[0])
+
+/* In order: equal numbers, and later ones that wait or are not saved yet. */
+static const struct refused accepted_tables[] = {
+    { "A", 0, 0, 2, 48 },
+    { "messages 1 and 2 sent at 0", 0, 9, 0, 48 },
+    { "messages 2 and 4 sent at 1", 0, 13, 1, 48 },
+    { "messages 2 and 4 sent at 2", 0, 9, 2, 48 },
+    { "messages 0 and 3 sent at 2", 0, 5, 2, 48 },
+    { "messages 1 and 2 received at 2", 0, 17, 2, 48 },
+    { "messages 1 and 2 received at 1", 0, 19, 1, 48 },
+    { "messages 2 and 4 received at 2", 0, 23, 2, 48 },
+    { "message 0 received at 1, 3 at 2", 0, 15, 1, 48 },
+    { "message 3 not saved yet", 0, 21, 3, 48 },
+    { "message 4 not saved yet", 0, 23, 3, 48 },
+    { "message 2 not saved yet, 4 waits", 0, 19, 3, 48 },
+    { "message 3 waits", 0, 21, 0, 48 },
+    { "messages 2 and 4 wait", 0, 19, 0, 48 },
+};
+#define ACCEPTED_TABLES (sizeof accepted_tables / sizeof accepted_tables[0])
 
 static size_t put_refused(uint8_t to[64], const struct refused *r)
 {
