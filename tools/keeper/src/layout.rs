@@ -2,7 +2,9 @@
 //!
 //! A table says of a send only that it lies between checkpoints y and y + 1 of
 //! its process, and of a receipt that it lies between r - 1 and r, the virtual
-//! checkpoints included. An order of time has these and every send before its receipt. Where there is one, each
+//! checkpoints included. An order of time has these and every send before its receipt;
+//! and of two messages of one channel, the earlier is sent and received first, for
+//! which there is room wherever there is for the rest. Where there is an order, each
 //! column takes at most one event of each process, as early as the order
 //! allows; where there is none, events stand by checkpoint number.
 //!
@@ -414,7 +416,10 @@ impl<'a> Timer<'a> {
         if let Some(k) = self.left[p].sends.pop() {
             self.place_send(k, row);
         } else if !self.left[p].ends.is_empty() {
+            // Of each channel the oldest: they stand by position.
+            let mut senders = BTreeSet::new();
             let ends = self.left[p].ends.iter().copied();
+            let ends = ends.filter(|k| senders.insert(self.view.run.messages[*k].from));
             let mut ready: Vec<usize> = ends.filter(|k| self.is_ready(*k, row)).collect();
             ready.sort_by_key(|k| (self.sends[*k], *k));
             // The first few are tried: one of them mostly is clear.

@@ -4,7 +4,7 @@
 mod common;
 mod xml;
 
-use std::collections::{BTreeMap, BTreeSet};
+use std::collections::{BTreeMap, BTreeSet, HashMap};
 use std::fs;
 use std::path::PathBuf;
 
@@ -362,7 +362,7 @@ fn any_runs(seed: u64, how_many: usize) -> Vec<(String, Run)> {
 
 #[test]
 fn arrows_go_forward_where_time_has_an_order() {
-    let mut timed = 0;
+    let (mut timed, mut turns) = (0, 0);
     for (name, run) in runs().into_iter().chain(histories(0..60, 13)) {
         if !layout::has_order(&run) {
             assert!(!name.starts_with("history"), "{name}");
@@ -378,11 +378,19 @@ fn arrows_go_forward_where_time_has_an_order() {
             assert!(own.windows(2).all(|pair| pair[0].1 < pair[1].1), "{name}");
             columns[p].extend(own.iter().map(|(_, column)| column));
         }
+        // By channel, the columns of the last send and receipt.
+        let mut last: HashMap<(usize, usize), (f64, f64)> = HashMap::new();
         for (k, arrow) in layout.arrows.iter().enumerate() {
             let message = &run.messages[k];
             let Arrow::Whole(corners) = arrow else {
                 panic!("{name}: {k} is not whole")
             };
+            let ends = (corners[0].0, corners[corners.len() - 1].0);
+            if let Some(before) = last.insert((message.from, message.to), ends) {
+                let in_turn = before.0 < ends.0 && before.1 < ends.1;
+                assert!(in_turn, "{name}: {k} is out of turn");
+                turns += 1;
+            }
             assert!(
                 corners.windows(2).all(|part| part[0].0 < part[1].0),
                 "{name}: {k}"
@@ -423,7 +431,7 @@ fn arrows_go_forward_where_time_has_an_order() {
             );
         }
     }
-    assert!(timed > 100, "{timed}");
+    assert!(timed > 100 && turns > 1_000, "{timed} {turns}");
 }
 
 /// What the table says of time: of events, which comes right before which. The

@@ -291,8 +291,9 @@ fn order_note(view: &View, timed: bool) -> String {
     match (timed, processes, messages) {
         (false, _, _) => "Grid: no order of time fits this table. Places are by checkpoint number; arrows may point back.",
         (true, _, 1..) => {
-            "Time runs to the right: from checkpoint to checkpoint of a process, and from a message's sending to its receipt. \
-             The table gives no other order, and the distances have no meaning."
+            "Time runs to the right: from checkpoint to checkpoint of a process, and from a message's sending to its receipt; \
+             messages from one process to another go in the order sent. The table gives no other order, and the distances \
+             have no meaning."
         }
         (true, 1, 0) => "Time runs to the right from checkpoint to checkpoint; the distances have no meaning.",
         (true, _, 0) => {
