@@ -192,7 +192,7 @@ static void fall_back(struct run *run)
 int main(void)
 {
     static struct run run;
-    static const uint16_t first[] = {0}, second[] = {1}, third[] = {2};
+    static const uint16_t first[] = {0}, second[] = {1}, third[] = {2}, both[] = {1, 2};
     size_t written = 0;
     uint32_t number;
 
@@ -223,5 +223,16 @@ int main(void)
 
     fall_back(&run);
     print_sheet(&run);
+
+    /* A channel delivers in the order sent: message 1 waits again, and what is sent behind it can't be received
+       before it. */
+    send_message(&run, 1, 0);
+    number = keeper_receive(table(&run), run.length, 0, third, 1, other(&run), KEEPER_LARGEST_TABLE, &written);
+    if (number != KEEPER_MESSAGE_PASSED_OVER) {
+        fprintf(stderr, "first_run: a receipt of message 2 before message 1 answered %u\n", (unsigned)number);
+        return 1;
+    }
+    printf("process 0 can't receive message 2 alone: refused %u: %s\n", (unsigned)number, keeper_refusal_words(number));
+    receive_messages(&run, 0, both, 2);
     return 0;
 }
