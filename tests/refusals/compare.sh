@@ -291,8 +291,11 @@ same tests/reference/src/table.rs
 expected table none no yes
 for file in table gen; do
     reads tests/reference/src/$file.rs
+    # A comment goes on in the next line until its full stop.
     awk "$shared"'
-    /^ *(\/\/|\/\/\/ Damage for ")[ ]*[0-9]+\. / { sub(/^ *\/\/(\/ Damage for ")? */, ""); sub(/"$/, ""); number = $1; sub(/^[^ ]+ /, ""); print row(number + 0, "", "", plain($0)) }
+    /^ *(\/\/|\/\/\/ Damage for ")[ ]*[0-9]+\. / { sub(/^ *\/\/(\/ Damage for ")? */, ""); number = $1; sub(/^[^ ]+ /, ""); words = $0; inside = 1 }
+    inside && /^ *\/\// { sub(/^ *\/\/+ */, ""); words = words " " $0 }
+    inside && words ~ /\."?$/ { sub(/"$/, "", words); print row(number + 0, "", "", plain(words)); inside = 0 }
     ' tests/reference/src/$file.rs >"$work/found"
     same tests/reference/src/$file.rs
 done
