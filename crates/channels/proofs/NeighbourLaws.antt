@@ -3,18 +3,18 @@
 --     neighbours-in-turn                       where each is in turn behind that one, every pair of a channel is in turn
 --     neighbours-enough                        so they find what all pairs of positions do
 -- Assumes nothing.
-use mathlib.Core.Bool.{Bool, true, false, cond, _&&_, false≢true}
+use mathlib.Core.Bool.{Bool, true, false, cond, false≢true}
 use mathlib.Core.Logic.{⊎-elim}
 use mathlib.Core.Path.{_≡_, refl, sym, ap, _∙_}
 use Prim.Native.Nat.{ℕ, zero, suc, _<_, _≤_, zero-le}
 use native.Mathlib.Decide.{ℕ-discrete}
 use native.Mathlib.Nat.{eq-or-lt-of-le, le-of-suc-le-suc, not-suc-le-zero}
 use native.Mathlib.Omega.{arith}
-use borrow.Author.Tests.{eq-eqb, eqb-true, ne-eqb}
+use borrow.Author.Tests.{eq-eqb, ne-eqb}
 use lib.Dec.{eqb}
 use Rattle.channels.specs.Neighbours.{behind, behindNeighbour, lastIn}
-use Rattle.tables.proofs.ListLaws.{anyBelow-found, anyBelow-none, found-below, none-below, or-false-left, or-false-right}
-use Rattle.tables.proofs.TurnLaws.{turn-on, turn-quiet, turn-read}
+use Rattle.tables.proofs.ListLaws.{anyBelow-found, anyBelow-none, found-below, or-false-left, or-false-right}
+use Rattle.tables.proofs.TurnLaws.{brokenPair, turn-on, turn-quiet, turn-read}
 use Rattle.tables.specs.Checks.{brokenBelow, outOfTurn, sameChannel}
 use Rattle.tables.specs.Lists.{anyBelow}
 use Rattle.tables.specs.Table.{Message}
@@ -105,21 +105,21 @@ module _ (channel : ℕ → ℕ) (message : ℕ → Message) where
   neighbours-enough m one = go (anyBelow m (behindNeighbour channel message)) refl
     where
       quiet : anyBelow m (behindNeighbour channel message) ≡ false → (k q : ℕ) → k < m → q < k → Dec (channel q ≡ channel k)
-          → (sameChannel (message q) (message k) && outOfTurn (message q) (message k)) ≡ false
+          → brokenPair message k q ≡ false
       quiet none k q within before (yes same) =
           rw (one q k (omega arith) within, eq-eqb (channel q) (channel k) same) (neighbours-in-turn m none q k before within same)
       quiet none k q within before (no other) = rw (one q k (omega arith) within, ne-eqb (channel q) (channel k) other)
 
       go : (b : Bool) → anyBelow m (behindNeighbour channel message) ≡ b
-          → b ≡ anyBelow m (λ k. anyBelow k (λ q. sameChannel (message q) (message k) && outOfTurn (message q) (message k)))
+          → b ≡ anyBelow m (λ k. anyBelow k (brokenPair message k))
       go true e =
           let (k, within, found) = found-below (behindNeighbour channel message) m e in
           let (q, before, (same, out)) = neighbour-found k found in
-          let here : (sameChannel (message q) (message k) && outOfTurn (message q) (message k)) ≡ true =
+          let here : brokenPair message k q ≡ true =
           rw (one q k (omega (arith, before, within)) within, eq-eqb (channel q) (channel k) same) out in
-          sym (anyBelow-found (λ k. anyBelow k (λ q. sameChannel (message q) (message k) && outOfTurn (message q) (message k))) m k within
-          (anyBelow-found (λ q. sameChannel (message q) (message k) && outOfTurn (message q) (message k)) k q before here))
+          sym (anyBelow-found (λ k. anyBelow k (brokenPair message k)) m k within
+          (anyBelow-found (brokenPair message k) k q before here))
       go false e =
-          sym (anyBelow-none (λ k. anyBelow k (λ q. sameChannel (message q) (message k) && outOfTurn (message q) (message k))) m (λ k within.
-          anyBelow-none (λ q. sameChannel (message q) (message k) && outOfTurn (message q) (message k)) k (λ q before.
+          sym (anyBelow-none (λ k. anyBelow k (brokenPair message k)) m (λ k within.
+          anyBelow-none (brokenPair message k) k (λ q before.
           quiet e k q within before (ℕ-discrete (channel q) (channel k)))))

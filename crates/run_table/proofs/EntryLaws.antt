@@ -8,7 +8,7 @@ use mathlib.Core.Path.{_≡_, refl, sym, ap, _∙_}
 use Prim.Native.Nat.{ℕ, _-_, _*_, _<_, _≤_}
 use native.Mathlib.Omega.{arith}
 use borrow.Author.Tests.{leb-false, lt-ltb, le-ltb, eq-eqb, ne-eqb}
-use lib.Dec.{eqb, leb, ltb}
+use lib.Dec.{leb, ltb}
 use lib.ListN.{length, getD, take, drop}
 use Rattle.run_table.proofs.FaultLaws.{none-caught, number-there, quiet-at}
 use Rattle.run_table.specs.EntryChecks.{FirstMessage, MessageCheck, aboveAt, badCountAt, checksBelow, firstPlace, messageChecks, notBelowAt}

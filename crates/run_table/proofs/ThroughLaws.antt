@@ -6,8 +6,7 @@
 use mathlib.Core.Bool.{Bool, true, false, cond}
 use mathlib.Core.List.{List}
 use mathlib.Core.Path.{_≡_, refl, sym, _∙_}
-use Prim.Native.Nat.{ℕ, suc, _+_, _*_, _<_, _≤_}
-use native.Mathlib.Nat.{not-suc-le-zero}
+use Prim.Native.Nat.{ℕ, suc, _+_, _<_, _≤_}
 use native.Mathlib.Omega.{arith}
 use borrow.Author.Count.{below-more, below-none}
 use borrow.Author.Tests.{leb-false}
@@ -23,7 +22,7 @@ use Rattle.tables.specs.Checks.{brokenBelow}
 use Rattle.tables.specs.Format.{messageAt, processAt}
 use Rattle.tables.specs.Lists.{anyBelow}
 use Rattle.tables.specs.Parts.{MessageThere}
-use Rattle.tables.specs.Table.{Message, mostMessages, mostProcesses}
+use Rattle.tables.specs.Table.{Message, mostProcesses}
 
 -- the first two of a list of checks catch nothing, where the first that catches stands further back
 two-passed : (a b : Bool) (rest : ℕ) → cond a 0 (suc (cond b 0 (suc rest))) ≡ 5 → (a ≡ false) × (b ≡ false)

@@ -6,7 +6,7 @@
 -- Assumes nothing.
 use mathlib.Core.Bool.{Bool, true, false, not, _&&_, _||_, true≢false}
 use mathlib.Core.Path.{_≡_, refl, ap, ap₂, _∙_}
-use Prim.Native.Nat.{ℕ, _+_, _<_, _≤_}
+use Prim.Native.Nat.{ℕ, _+_, _<_}
 use native.Mathlib.Omega.{arith}
 use borrow.Author.Tests.{eq-eqb, eqb-false, eqb-true, le-ltb, ltb-false, ne-eqb}
 use lib.Dec.{eqb, ltb}
@@ -73,6 +73,7 @@ module _ {m later : Message} where
       (λ e. ne-eqb (m .received) 0 (λ z. omega (arith, z, t .received-first (there e))))
       (λ e. le-ltb (later .received) (m .received) (t .receipts-rise (there e)))
 
+-- in turn behind one that is in turn: send numbers do not fall, and neither do receipt numbers, if one that waits is taken for the highest
 pub turn-on : {a b c : Message} → InTurn a b → InTurn b c → InTurn a c
 turn-on first then = record {
   sends-rise = omega (arith, first .sends-rise, then .sends-rise);
@@ -81,39 +82,39 @@ turn-on first then = record {
 }
 
 -- ---- check 23
-abbrev pair : (ℕ → Message) → ℕ → ℕ → Bool
-pair message k q = sameChannel (message q) (message k) && outOfTurn (message q) (message k)
+abbrev pub brokenPair : (ℕ → Message) → ℕ → ℕ → Bool
+brokenPair message k q = sameChannel (message q) (message k) && outOfTurn (message q) (message k)
 
 -- the same messages by position, so many of them
 pub broken-ext : {m m′ : ℕ} {f g : ℕ → Message} → m ≡ m′ → ((k : ℕ) → k < m′ → f k ≡ g k) → brokenBelow m f ≡ brokenBelow m′ g
 unfolding brokenBelow
 broken-ext {m} {m′} {f} {g} size same =
     ap (λ (n : ℕ). brokenBelow n f) size
-    ∙ anyBelow-ext (λ k. anyBelow k (pair f k)) (λ k. anyBelow k (pair g k)) m′ (λ k within.
-    anyBelow-ext (pair f k) (pair g k) k (λ q before. ap₂ (λ (a b : Message). sameChannel a b && outOfTurn a b) (same q (omega arith)) (same k within)))
+    ∙ anyBelow-ext (λ k. anyBelow k (brokenPair f k)) (λ k. anyBelow k (brokenPair g k)) m′ (λ k within.
+    anyBelow-ext (brokenPair f k) (brokenPair g k) k (λ q before. ap₂ (λ (a b : Message). sameChannel a b && outOfTurn a b) (same q (omega arith)) (same k within)))
 
 -- a channel that is broken stays so with further messages
 pub broken-on : (message : ℕ → Message) {k m : ℕ} → k < m → brokenBelow (k + 1) message ≡ true → brokenBelow m message ≡ true
 unfolding brokenBelow
 broken-on message {k} {m} l broken =
-    let (j, before, out) = found-below (λ k. anyBelow k (pair message k)) (k + 1) broken in
-    anyBelow-found (λ k. anyBelow k (pair message k)) m j (omega (arith, before, l)) out
+    let (j, before, out) = found-below (λ k. anyBelow k (brokenPair message k)) (k + 1) broken in
+    anyBelow-found (λ k. anyBelow k (brokenPair message k)) m j (omega (arith, before, l)) out
 
 module _ (t : Table) where
   pub turns-read : brokenChannel t ≡ false → (q k : ℕ) → q < k → k < messageCount t → sameChannel (messageOf t q) (messageOf t k) ≡ true
       → InTurn (messageOf t q) (messageOf t k)
   unfolding brokenChannel brokenBelow
   turns-read quiet q k before within same =
-      let all = none-below (λ k. anyBelow k (pair (messageOf t) k)) (messageCount t) quiet k within in
-      let here : pair (messageOf t) k q ≡ false = none-below (pair (messageOf t) k) k all q before in
+      let all = none-below (λ k. anyBelow k (brokenPair (messageOf t) k)) (messageCount t) quiet k within in
+      let here : brokenPair (messageOf t) k q ≡ false = none-below (brokenPair (messageOf t) k) k all q before in
       turn-read (rw same at here)
 
   pub turns-quiet : ((q k : ℕ) → q < k → k < messageCount t → sameChannel (messageOf t q) (messageOf t k) ≡ true
       → InTurn (messageOf t q) (messageOf t k)) → brokenChannel t ≡ false
   unfolding brokenChannel brokenBelow
   turns-quiet turns =
-      anyBelow-none (λ k. anyBelow k (pair (messageOf t) k)) (messageCount t) (λ k within.
-      anyBelow-none (pair (messageOf t) k) k (λ q before. go k q (sameChannel (messageOf t q) (messageOf t k)) refl (λ same. turns q k before within same)))
+      anyBelow-none (λ k. anyBelow k (brokenPair (messageOf t) k)) (messageCount t) (λ k within.
+      anyBelow-none (brokenPair (messageOf t) k) k (λ q before. go k q (sameChannel (messageOf t q) (messageOf t k)) refl (λ same. turns q k before within same)))
     where
       go : (k q : ℕ) (b : Bool) → sameChannel (messageOf t q) (messageOf t k) ≡ b
           → (sameChannel (messageOf t q) (messageOf t k) ≡ true → InTurn (messageOf t q) (messageOf t k))

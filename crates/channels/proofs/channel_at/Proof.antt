@@ -1,7 +1,6 @@
 -- `channel_at` meets its contract: the two processes that it reads are those of the channel.
 -- Assumes nothing.
 use borrow.Author.Needs.{needs}
-use native.Mathlib.Omega.{arith}
 use Rattle.channels.specs.Neighbours.{channelAt}
 use Rattle.tables.specs.Format.{processAt}
 use Rattle.channels.proofs.channel_at.Statement.{statement}
