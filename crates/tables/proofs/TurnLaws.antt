@@ -91,7 +91,8 @@ unfolding brokenBelow
 broken-ext {m} {m′} {f} {g} size same =
     ap (λ (n : ℕ). brokenBelow n f) size
     ∙ anyBelow-ext (λ k. anyBelow k (brokenPair f k)) (λ k. anyBelow k (brokenPair g k)) m′ (λ k within.
-    anyBelow-ext (brokenPair f k) (brokenPair g k) k (λ q before. ap₂ (λ (a b : Message). sameChannel a b && outOfTurn a b) (same q (omega arith)) (same k within)))
+    anyBelow-ext (brokenPair f k) (brokenPair g k) k (λ q before.
+    ap₂ (λ (a b : Message). sameChannel a b && outOfTurn a b) (same q (omega arith)) (same k within)))
 
 -- a channel that is broken stays so with further messages
 pub broken-on : (message : ℕ → Message) {k m : ℕ} → k < m → brokenBelow (k + 1) message ≡ true → brokenBelow m message ≡ true
@@ -114,7 +115,8 @@ module _ (t : Table) where
   unfolding brokenChannel brokenBelow
   turns-quiet turns =
       anyBelow-none (λ k. anyBelow k (brokenPair (messageOf t) k)) (messageCount t) (λ k within.
-      anyBelow-none (brokenPair (messageOf t) k) k (λ q before. go k q (sameChannel (messageOf t q) (messageOf t k)) refl (λ same. turns q k before within same)))
+      anyBelow-none (brokenPair (messageOf t) k) k (λ q before.
+      go k q (sameChannel (messageOf t q) (messageOf t k)) refl (λ same. turns q k before within same)))
     where
       go : (k q : ℕ) (b : Bool) → sameChannel (messageOf t q) (messageOf t k) ≡ b
           → (sameChannel (messageOf t q) (messageOf t k) ≡ true → InTurn (messageOf t q) (messageOf t k))
