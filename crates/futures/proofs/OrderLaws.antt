@@ -3,6 +3,7 @@
 --     channel-on                              of three messages, the first and the last have one channel
 --     Passed, passes-over, passed-over        a list passes over an older message just where one waits that is not listed
 --     OlderListed, passes-none, none-passed   it passes over none just where each that waits is listed
+--     waitsFrom, skippedFrom, passes-is       a message that the list leaves waiting; what it is to pass over one, by its sender and receiver
 --     neighbours-rise                         a list of which each entry rises above the one before it
 -- Assumes nothing.
 use mathlib.Core.Bool.{Bool, true, false, not, _&&_, true≢false}
@@ -17,7 +18,7 @@ use Rattle.futures.specs.Steps.{notRising, notRisingAfter, passesOver}
 use Rattle.tables.proofs.ListLaws.{and-left, and-right, anyBelow-found, found-below}
 use Rattle.tables.proofs.TurnLaws.{channel-same, one-channel}
 use Rattle.tables.specs.Checks.{sameChannel, waits}
-use Rattle.tables.specs.Lists.{any}
+use Rattle.tables.specs.Lists.{any, anyBelow}
 use Rattle.tables.specs.Table.{Message, Table, messageOf}
 
 module _ (m : Message) where
@@ -89,6 +90,21 @@ module _ (t : Table) (list : List ℕ) (k : ℕ) where
           let p = passes-over e .1 in
           absurd (true≢false (sym (listed _ (p .older) (p .channel) (p .undelivered)) ∙ p .unlisted))
       go false e = refl
+
+-- ---- the same, by the two processes of the channel
+-- Message q, from process p, waits for process i.
+abbrev pub waitsFrom : Table → ℕ → ℕ → ℕ → Bool
+waitsFrom t i p q = (eqb (messageOf t q .sender) p && eqb (messageOf t q .receiver) i) && waits (messageOf t q)
+
+-- It does, and the list does not have it.
+abbrev pub skippedFrom : Table → ℕ → List ℕ → ℕ → ℕ → Bool
+skippedFrom t i list p q = waitsFrom t i p q && not (any (eqb q) list)
+
+-- the definition, in these terms
+pub passes-is : (t : Table) (list : List ℕ) (k : ℕ)
+    → passesOver t list k ≡ anyBelow k (skippedFrom t (messageOf t k .receiver) list (messageOf t k .sender))
+unfolding passesOver sameChannel
+passes-is t list k = refl
 
 -- ---- a list of which each entry rises above the one before it
 follows-none : (x : ℕ) (rest : List ℕ) → ((a : ℕ) → a < length rest → getD (x ∷ rest) a 0 < getD rest a 0) → notRisingAfter x rest ≡ false

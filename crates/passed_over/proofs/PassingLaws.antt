@@ -1,12 +1,11 @@
 -- The loop of `passes_over`, which goes over the messages up to the last one listed.
---     waitsFrom, skippedFrom, passes-is     a message that the list leaves waiting; what it is to pass over one, by its sender
 --     Passing, passing-none, passing-all    the loop's invariant; how it begins and ends
 --     there                                 while it has a position to come to, it is at a message
 --     Next, sender-within                   it is at one whose sender was read
 --     passes-here, listed-here              that message is listed: what the mark of its sender says
 --     skips-elsewhere, skips-received, skipped-here    it is not: what the tests say of it
 -- Assumes nothing.
-use mathlib.Core.Bool.{Bool, true, false, not, _&&_, and-false}
+use mathlib.Core.Bool.{Bool, true, false, _&&_, and-false}
 use mathlib.Core.List.{List}
 use mathlib.Core.Path.{_≡_, refl, sym, ap, ap₂, _∙_, subst}
 use Prim.Native.Nat.{ℕ, _+_, _*_, _≤_, _<_}
@@ -17,29 +16,17 @@ use borrow.Author.Count.{below-more, below-none}
 use borrow.Author.Tests.{eq-eqb, ne-eqb}
 use lib.Dec.{eqb}
 use lib.ListN.{length, getD, set, replicate}
+use Rattle.futures.proofs.OrderLaws.{passes-is, skippedFrom, waitsFrom}
 use Rattle.futures.proofs.StepLaws.{Waiting, good-position, rising}
 use Rattle.futures.specs.Steps.{badPosition, notRising, passesOver}
 use Rattle.tables.proofs.ListLaws.{any-none, any-some, anyBelow-found, getD-tabulate, none-of, set-tabulate, tabulate-ext}
 use Rattle.tables.proofs.ReadLaws.{ReadMessages, messages-few, messages-read, received-is, receiver-is, sender-is, sender-small}
-use Rattle.tables.specs.Checks.{sameChannel, tableRefusal, waits}
+use Rattle.tables.proofs.TurnLaws.{waits-read}
+use Rattle.tables.specs.Checks.{tableRefusal}
 use Rattle.tables.specs.Format.{decode, receiptsPart, sendsPart}
 use Rattle.tables.specs.Lists.{any, anyBelow, tabulate}
 use Rattle.tables.specs.Numbers.{u16At}
 use Rattle.tables.specs.Table.{Table, messageCount, messageOf, mostMessages, mostProcesses}
-
--- Message q, from process p, waits for process i.
-abbrev waitsFrom : Table → ℕ → ℕ → ℕ → Bool
-waitsFrom t i p q = (eqb (messageOf t q .sender) p && eqb (messageOf t q .receiver) i) && waits (messageOf t q)
-
--- It does, and the list does not have it.
-abbrev skippedFrom : Table → ℕ → List ℕ → ℕ → ℕ → Bool
-skippedFrom t i list p q = waitsFrom t i p q && not (any (eqb q) list)
-
--- the definition, in these terms
-passes-is : (t : Table) (list : List ℕ) (k : ℕ)
-    → passesOver t list k ≡ anyBelow k (skippedFrom t (messageOf t k .receiver) list (messageOf t k .sender))
-unfolding passesOver sameChannel
-passes-is t list k = refl
 
 -- ---- the loop
 -- It has gone over the first k messages and the first a positions of the list.
@@ -188,8 +175,7 @@ module _ {table : List ℕ} {i : ℕ} {list sends receipts : List ℕ} {skipped 
 
       module _ {s : ℕ} (received : s ≡ u16At receipts (4 * k + 2)) where
         waits-is : (p : ℕ) → waitsFrom T i p k ≡ ((eqb j p && eqb r i) && eqb s 0)
-        unfolding waits
-        waits-is p = rw (← is-sender, ← to, ← received-is (w .read) here received)
+        waits-is p = rw (waits-read (messageOf T k) (received-is (w .read) here received), ← is-sender, ← to)
 
         -- it was received
         pub skips-received : (s ≡ 0 → ⊥) → Passing table i list sends receipts skipped a (k + 1)

@@ -1,11 +1,12 @@
 -- Channels that deliver in turn (check 23).
 --     one-channel, channel-same            two messages of one channel, and their processes
+--     waits-read                           a message that waits
 --     turn-read, turn-quiet, turn-on       out of turn or in turn; in turn behind one that is in turn
 --     broken-ext, broken-on                the same messages are broken alike, and with further ones
 --     turns-read, turns-quiet              check 23 is quiet just where the messages of each channel are in turn
 -- Assumes nothing.
 use mathlib.Core.Bool.{Bool, true, false, not, _&&_, _||_, true≢false}
-use mathlib.Core.Path.{_≡_, refl, ap, ap₂, _∙_}
+use mathlib.Core.Path.{_≡_, refl, sym, ap, ap₂, _∙_}
 use Prim.Native.Nat.{ℕ, _+_, _<_}
 use native.Mathlib.Omega.{arith}
 use borrow.Author.Tests.{eq-eqb, eqb-false, eqb-true, le-ltb, ltb-false, ne-eqb}
@@ -28,6 +29,11 @@ module _ (m later : Message) where
   pub channel-same : m .sender ≡ later .sender → m .receiver ≡ later .receiver → sameChannel m later ≡ true
   unfolding sameChannel
   channel-same senders receivers = rw (eq-eqb (m .sender) (later .sender) senders, eq-eqb (m .receiver) (later .receiver) receivers)
+
+-- ---- a message that waits, by its receipt number as it was read
+pub waits-read : (m : Message) {r : ℕ} → r ≡ m .received → waits m ≡ eqb r 0
+unfolding waits
+waits-read m e = ap (λ (x : ℕ). eqb x 0) (sym e)
 
 -- ---- in turn
 -- the three tests of a pair, by whether each of the two waits
