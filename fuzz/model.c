@@ -26,6 +26,33 @@ static unsigned number_at(const uint8_t *bytes, size_t at)
     return bytes[at] + 256u * bytes[at + 1];
 }
 
+/* "Channels deliver in turn", of the change requests: what the messages of a channel have so far, its highest send
+   and receipt numbers and whether one waits. So a message is compared with all earlier ones of its channel. One that
+   was received and is not saved yet is received. */
+struct channel {
+    unsigned y, r;
+    bool waits;
+};
+
+static bool out_of_turn(const struct channel *before, const struct message *message)
+{
+    bool received = message->r != 0;
+    if (message->y < before->y)
+        return true;
+    if (received && before->waits)
+        return true;
+    return received && message->r < before->r;
+}
+
+static void add_to_channel(struct channel *channel, const struct message *message)
+{
+    channel->y = message->y;
+    if (message->r == 0)
+        channel->waits = true;
+    else
+        channel->r = message->r;
+}
+
 /* "In checking order", the table's checks: each covers the whole table before the next begins. */
 static uint32_t read_run(const uint8_t *table, size_t length, struct run *run)
 {
@@ -69,6 +96,13 @@ static uint32_t read_run(const uint8_t *table, size_t length, struct run *run)
     for (unsigned k = m; k-- > 0;) {
         run->message[k].next = run->first[run->message[k].j];
         run->first[run->message[k].j] = (int)k;
+    }
+    struct channel channels[MOST_PROCESSES][MOST_PROCESSES] = {0};
+    for (unsigned k = 0; k < m; k++) {
+        struct channel *channel = &channels[run->message[k].j][run->message[k].i];
+        if (out_of_turn(channel, &run->message[k]))
+            return 23;
+        add_to_channel(channel, &run->message[k]);
     }
     return 0;
 }
@@ -468,6 +502,25 @@ static bool all_wait(const struct run *run, unsigned process, const uint16_t *li
     return true;
 }
 
+/* Whether such a list passes over a message: it has one, and an older one of the same sender that waits for the
+   process too is not on it. */
+static bool passes_over(const struct run *run, unsigned process, const uint16_t *list, size_t entries)
+{
+    static bool listed[MOST_MESSAGES];
+    memset(listed, 0, sizeof listed);
+    for (size_t at = 0; at < entries; at++)
+        listed[list[at]] = true;
+    for (size_t at = 0; at < entries; at++)
+        for (unsigned k = 0; k < list[at]; k++) {
+            const struct message *older = &run->message[k];
+            if (older->j != run->message[list[at]].j || older->i != process)
+                continue;
+            if (older->r == 0 && !listed[k])
+                return true;
+        }
+    return false;
+}
+
 /* The listed messages are received: the next state of the process, whose number is its count, will be the first
    that has them. */
 static void receive_listed(struct run *run, unsigned process, const uint16_t *list, size_t entries)
@@ -487,6 +540,8 @@ uint32_t MODEL(save)(const uint8_t *table, size_t length, uint16_t process, cons
         return 10;
     if (!all_wait(&run, process, list, entries))
         return 13;
+    if (passes_over(&run, process, list, entries))
+        return 24;
     if (run.count[process] == MOST_STATES)
         return 14;
     receive_listed(&run, process, list, entries);
@@ -505,6 +560,8 @@ uint32_t MODEL(receive)(const uint8_t *table, size_t length, uint16_t process, c
         return 10;
     if (!all_wait(&run, process, list, entries))
         return 13;
+    if (passes_over(&run, process, list, entries))
+        return 24;
     receive_listed(&run, process, list, entries);
     return answer_run(&run, answer, room, written);
 }

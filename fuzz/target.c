@@ -4,11 +4,12 @@
    An input is a mode byte, a table, and then calls until the bytes run out. A missing byte reads as 0.
 
    Mode, bit 0: the table is raw, else it is built. Raw: two bytes of length, then the bytes themselves.
-   Built: N, M and the counts, then four bytes for each message; the numbers are brought into their ranges, so
-   that the table is accepted. Bit 1: counts are near 4,096. Bit 2: one of the table's numbers is then replaced
-   by two bytes of the input. Bit 3: one byte is added to the table, or taken away. Bits 4 to 6 are 6: messages
-   may be received and unsaved. Bits 5 to 7 all set: the messages are repeated up to nearly 4,096, which is slow
-   and so is rare.
+   Built: N, M and the counts, then four bytes for each message; the numbers are brought into their ranges, and
+   each channel's are put in turn, so that the table is accepted. Bit 1: counts are near 4,096. Bit 2: one of the
+   table's numbers is then replaced by two bytes of the input. Bit 3: one byte is added to the table, or taken
+   away. Bits 4 to 6 are 6: messages may be received and unsaved; are 5: they may be too, and channels are left as
+   they come. Bits 5 to 7 all set: there are nearly 4,096 messages, the given ones over and over, which is slow and
+   so is rare.
 
    A call is a byte for which call, a byte for the lengths of the answer buffer and the scratch, and its
    arguments. The low four bits of the first byte say which: 14 and 15 are the line under a list of ceilings,
@@ -303,8 +304,53 @@ static size_t raw_table(struct input *input)
     return length;
 }
 
+/* Message k of a table whose sends and receipts begin at these numbers. */
+struct entry {
+    unsigned j, y, i, r;
+};
+
+static struct entry get_message(size_t sends, size_t receipts, size_t k)
+{
+    return (struct entry){get_number(sends + 2 * k), get_number(sends + 2 * k + 1), get_number(receipts + 2 * k),
+                          get_number(receipts + 2 * k + 1)};
+}
+
+static void set_message(size_t sends, size_t receipts, size_t k, struct entry entry)
+{
+    set_number(sends + 2 * k, entry.j);
+    set_number(sends + 2 * k + 1, entry.y);
+    set_number(receipts + 2 * k, entry.i);
+    set_number(receipts + 2 * k + 1, entry.r);
+}
+
+/* Exchanges two numbers of the table where the first is larger; a waiting receipt, 0, is above all numbers. */
+static void order_numbers(size_t first, size_t second, bool receipts)
+{
+    unsigned a = get_number(first), b = get_number(second);
+    if (receipts ? a - 1 > b - 1 : a > b) {
+        set_number(first, b);
+        set_number(second, a);
+    }
+}
+
+/* Puts the messages of each channel in turn: its send numbers rise, and so do its receipt numbers, those that wait
+   last. */
+static void put_in_turn(size_t sends, size_t receipts, size_t m)
+{
+    for (size_t k = 0; k < m; k++)
+        for (size_t later = k + 1; later < m; later++) {
+            size_t send = sends + 2 * k, receipt = receipts + 2 * k;
+            size_t later_send = sends + 2 * later, later_receipt = receipts + 2 * later;
+            if (get_number(send) != get_number(later_send) || get_number(receipt) != get_number(later_receipt))
+                continue;
+            order_numbers(send + 1, later_send + 1, false);
+            order_numbers(receipt + 1, later_receipt + 1, true);
+        }
+}
+
 static size_t built_table(struct input *input, unsigned mode)
 {
+    bool any_order = (mode & 0x70) == 0x50;
     unsigned shape = byte(input);
     unsigned n = 1 + (shape < 192 ? shape % 4 : shape % 32);
     unsigned given = byte(input) % 64;
@@ -320,30 +366,24 @@ static size_t built_table(struct input *input, unsigned mode)
         set_number(2 + p, (mode & 2) != 0 ? 4096 - low % 3 : 1 + low % 40);
     }
     size_t sends = 2 + n, receipts = sends + 2 * (size_t)m;
-    for (unsigned k = 0; k < m; k++) {
-        unsigned j, y, i, r;
-        if (k < given) {
-            j = byte(input) % n;
-            i = (j + 1 + byte(input) % (n - 1)) % n;
-            y = byte(input);
-            r = byte(input);
-            /* Counts near the limit have their own high numbers. */
-            unsigned of_j = get_number(2 + j), of_i = get_number(2 + i);
-            y = (mode & 2) != 0 && y >= 128 ? of_j - 1 - (y - 128) : y % of_j;
-            if ((mode & 0x70) == 0x60)
-                of_i++;
-            r = (mode & 2) != 0 && r >= 128 ? of_i - 1 - (r - 128) : r % of_i;
-        } else {
-            j = get_number(sends + 2 * (size_t)(k - given));
-            y = get_number(sends + 2 * (size_t)(k - given) + 1);
-            i = get_number(receipts + 2 * (size_t)(k - given));
-            r = get_number(receipts + 2 * (size_t)(k - given) + 1);
-        }
-        set_number(sends + 2 * (size_t)k, j);
-        set_number(sends + 2 * (size_t)k + 1, y);
-        set_number(receipts + 2 * (size_t)k, i);
-        set_number(receipts + 2 * (size_t)k + 1, r);
+    for (unsigned k = 0; k < given; k++) {
+        unsigned j = byte(input) % n;
+        unsigned i = (j + 1 + byte(input) % (n - 1)) % n;
+        unsigned y = byte(input);
+        unsigned r = byte(input);
+        /* Counts near the limit have their own high numbers. */
+        unsigned of_j = get_number(2 + j), of_i = get_number(2 + i);
+        y = (mode & 2) != 0 && y >= 128 ? of_j - 1 - (y - 128) : y % of_j;
+        if ((mode & 0x70) == 0x60 || any_order)
+            of_i++;
+        r = (mode & 2) != 0 && r >= 128 ? of_i - 1 - (r - 128) : r % of_i;
+        set_message(sends, receipts, k, (struct entry){j, y, i, r});
     }
+    if (!any_order)
+        put_in_turn(sends, receipts, given);
+    /* Where there are more than are given: each several times in its place, or all of them again and again. */
+    for (unsigned k = m; k-- > 0;)
+        set_message(sends, receipts, k, get_message(sends, receipts, any_order ? k % given : k * given / m));
     size_t numbers = receipts + 2 * (size_t)m;
     if ((mode & 4) != 0) {
         size_t place = number(input) % numbers;
