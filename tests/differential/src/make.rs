@@ -1,7 +1,7 @@
 //! Tables and arguments by chance, and the calls to make on a table.
 
 use keeper::LISTING_ROOM;
-use reference::gen::{self, Order, Rng};
+use reference::gen::{self, Fault, Order, Rng};
 use reference::marking::mark_bytes;
 use reference::table::{MOST_MESSAGES, MOST_STATES};
 use reference::{Message, Outcome, Table, TABLE_CHECKS};
@@ -10,25 +10,29 @@ use crate::compare::{Call, Comparison, Difference};
 
 /// The kinds of tables, each with the number of rounds out of a hundred that
 /// it gets.
-const KINDS: [(&str, usize); 18] = [
-    ("small history", 11),
-    ("history", 9),
-    ("small arbitrary", 13),
-    ("arbitrary", 8),
-    ("clustered", 6),
+const KINDS: [(&str, usize); 22] = [
+    ("small history", 10),
+    ("history", 8),
+    ("small arbitrary", 11),
+    ("arbitrary", 7),
+    ("clustered", 5),
     ("unsaved", 4),
-    ("domino", 5),
+    ("waiting", 9),
+    ("domino", 4),
     ("ring", 3),
     ("staircase", 2),
-    ("many waiting", 3),
+    ("many waiting", 2),
     ("many unsaved", 2),
     ("full", 1),
-    ("random body", 5),
-    ("random bytes", 4),
-    ("damaged", 9),
-    ("damaged more than once", 8),
+    ("random body", 4),
+    ("random bytes", 3),
+    ("damaged", 7),
+    ("damaged more than once", 6),
     ("damaged after the last check", 2),
-    ("a few bytes changed", 5),
+    ("a few bytes changed", 3),
+    ("out of turn", 4),
+    ("out of turn and damaged", 2),
+    ("in any order", 1),
 ];
 
 /// Counts that lie at or near their limit.
@@ -47,8 +51,16 @@ fn make_unsaved(rng: &mut Rng, table: &mut Table, of: usize) {
     }
 }
 
-/// An accepted table of moderate size.
+/// An accepted table of moderate size, all its channels in turn.
 fn accepted(rng: &mut Rng, kind: &str) -> Table {
+    let mut table = with_numbers(rng, kind);
+    gen::put_in_turn(&mut table.messages);
+    table
+}
+
+/// A table of a kind, whose numbers have yet to be put in turn where the kind
+/// chooses them anew.
+fn with_numbers(rng: &mut Rng, kind: &str) -> Table {
     match kind {
         "small history" => {
             let (n, m) = (rng.between(1, 5), rng.between(0, 12));
@@ -78,13 +90,38 @@ fn accepted(rng: &mut Rng, kind: &str) -> Table {
             make_unsaved(rng, &mut table, 4);
             table
         }
+        "waiting" => {
+            // Few channels in which several messages wait, behind others that are
+            // received; some counts are at the limit.
+            let (n, m) = (rng.between(2, 4), rng.between(2, 14));
+            let mut table = gen::arbitrary(rng, n, m, 4);
+            let (j, i) = (rng.between(0, n - 1), rng.between(1, n - 1));
+            for message in &mut table.messages {
+                if rng.chance(1, 3) {
+                    *message = Message::new((j, 0), ((j + i) % n, message.received));
+                    message.sent = rng.between(0, table.counts[j] as usize - 1) as u32;
+                }
+                let count = table.counts[message.receiver];
+                message.received = match rng.between(0, 7) {
+                    0 => count,
+                    1 | 2 => rng.between(0, count as usize) as u32,
+                    _ => 0,
+                };
+            }
+            for p in 0..n {
+                if rng.chance(1, 6) {
+                    table.counts[p] = high_count(rng);
+                }
+            }
+            table
+        }
         "domino" => {
-            let (m, order) = (rng.between(0, 80), Order::ALL[rng.between(0, 4)]);
+            let (m, order) = (rng.between(0, 80), Order::ALL[rng.between(0, 5)]);
             gen::domino_chain(rng, m, order)
         }
         "ring" => {
             let (n, m) = (rng.between(2, 32), rng.between(0, 120));
-            let order = Order::ALL[rng.between(0, 4)];
+            let order = Order::ALL[rng.between(0, 5)];
             gen::ring_domino(rng, n, m, order)
         }
         "staircase" => {
@@ -140,6 +177,11 @@ fn accepted(rng: &mut Rng, kind: &str) -> Table {
         }
         _ => unreachable!("{kind} is no kind of accepted table"),
     }
+}
+
+/// An accepted table in whose channels several messages wait.
+pub fn waiting(rng: &mut Rng) -> Table {
+    accepted(rng, "waiting")
 }
 
 /// An accepted table of any of the smaller kinds.
@@ -218,6 +260,24 @@ pub fn table(rng: &mut Rng) -> (&'static str, Vec<u8>) {
             }
             table.to_bytes()
         }
+        "out of turn" => out_of_turn(rng).to_bytes(),
+        "out of turn and damaged" => {
+            // Two messages out of turn, and then the damage of another check or of
+            // two, before them or behind them.
+            let broken = out_of_turn(rng).to_bytes();
+            let mut refusals = TABLE_CHECKS[4..TABLE_CHECKS.len() - 1].to_vec();
+            rng.shuffle(&mut refusals);
+            refusals.truncate(rng.between(1, 2));
+            gen::damage_many(rng, &broken, &refusals).expect("it has messages")
+        }
+        "in any order" => {
+            // As they come, so that some channels are in turn and some are not.
+            let kinds = ["history-unsaved", "arbitrary-unsaved", "clustered-unsaved"];
+            let (kind, n) = (kinds[rng.between(0, 2)], rng.between(2, 12));
+            let m = rng.between(2, 3 * n);
+            let table = gen::in_any_order(rng, kind, n, m).expect("a kind of it");
+            table.to_bytes()
+        }
         "a few bytes changed" => {
             let mut bytes = some_accepted(rng).to_bytes();
             for _ in 0..rng.between(1, 3) {
@@ -236,6 +296,23 @@ pub fn table(rng: &mut Rng) -> (&'static str, Vec<u8>) {
     (kind, bytes)
 }
 
+/// A table with two messages of a channel out of turn, in one of the three ways;
+/// others of it and of other channels may stand between them. Their receipts may be
+/// saved or not.
+pub fn out_of_turn(rng: &mut Rng) -> Table {
+    loop {
+        let whole = match rng.between(0, 3) {
+            0 => accepted(rng, "unsaved"),
+            1 => accepted(rng, "waiting"),
+            _ => some_accepted(rng),
+        };
+        let fault = Fault::ALL[rng.between(0, 2)];
+        if let Some(broken) = gen::put_out_of_turn(rng, &whole, fault) {
+            return broken;
+        }
+    }
+}
+
 /// A process for a send, save or receipt: mostly one of n, else n or above.
 pub fn process(rng: &mut Rng, n: usize) -> u16 {
     if n > 0 && rng.chance(9, 10) {
@@ -243,6 +320,21 @@ pub fn process(rng: &mut Rng, n: usize) -> u16 {
     }
     let beyond = [n, n + 1, 32, 33, 255, 256, 65_535];
     beyond[rng.between(0, beyond.len() - 1)] as u16
+}
+
+/// A process for a save or receipt: in two of three cases one that messages wait
+/// for, if there is one.
+fn receiver(rng: &mut Rng, table: &Table) -> u16 {
+    let waiting: Vec<usize> = table
+        .messages
+        .iter()
+        .filter(|message| message.waiting())
+        .map(|message| message.receiver)
+        .collect();
+    if waiting.is_empty() || rng.chance(1, 3) {
+        return process(rng, table.processes());
+    }
+    waiting[rng.between(0, waiting.len() - 1)] as u16
 }
 
 /// A set of processes: empty, all, one, all but one, any, or with bits at n
@@ -263,6 +355,27 @@ pub fn set(rng: &mut Rng, n: usize) -> u32 {
     }
 }
 
+/// Some of the messages that wait for `process`: of each channel the oldest, all of
+/// them, or any, which mostly pass over others; or all but one, or one alone.
+fn some_waiting(rng: &mut Rng, table: &Table, process: u16) -> Vec<u16> {
+    let waiting = table.waiting_for(process.into());
+    let mut chosen = waiting.clone();
+    let share = rng.between(1, 4);
+    if rng.chance(2, 3) {
+        chosen.retain(|_| rng.chance(share, 4));
+    }
+    if !waiting.is_empty() {
+        let one = waiting[rng.between(0, waiting.len() - 1)];
+        match rng.between(0, 11) {
+            0 => chosen = vec![one],
+            1 | 2 => chosen = waiting.iter().copied().filter(|&k| k != one).collect(),
+            3..=5 => {}
+            _ => chosen = gen::oldest_as_many(table, &waiting, &chosen),
+        }
+    }
+    chosen.into_iter().map(|position| position as u16).collect()
+}
+
 /// A list for a save or receipt by `process`, good or spoilt in one of many ways.
 pub fn list(rng: &mut Rng, table: &Table, process: u16) -> Vec<u16> {
     let m = table.messages.len();
@@ -271,11 +384,7 @@ pub fn list(rng: &mut Rng, table: &Table, process: u16) -> Vec<u16> {
         .into_iter()
         .map(|position| position as u16)
         .collect();
-    let mut list = waiting.clone();
-    let share = rng.between(1, 4);
-    if rng.chance(2, 3) {
-        list.retain(|_| rng.chance(share, 4));
-    }
+    let mut list = some_waiting(rng, table, process);
     match rng.between(0, 15) {
         0 => list.clear(),
         1..=5 => {}
@@ -549,7 +658,7 @@ fn calls(rng: &mut Rng, bytes: &[u8], few: bool) -> Vec<Call> {
         calls.push(Call::Send { from, to, room });
     }
     for _ in 0..times(8) {
-        let process = process(rng, n);
+        let process = receiver(rng, &values);
         let list = list(rng, &values, process);
         calls.push(Call::Save {
             process,
@@ -558,7 +667,7 @@ fn calls(rng: &mut Rng, bytes: &[u8], few: bool) -> Vec<Call> {
         });
     }
     for _ in 0..times(8) {
-        let process = process(rng, n);
+        let process = receiver(rng, &values);
         let list = list(rng, &values, process);
         calls.push(Call::Receive {
             process,
@@ -657,9 +766,13 @@ pub fn step(rng: &mut Rng, table: &Table) -> Call {
             let list = if rng.chance(1, 8) {
                 list(rng, table, process)
             } else {
-                let mut waiting = table.waiting_for(process.into());
-                waiting.retain(|_| rng.chance(2, 3));
-                waiting.into_iter().map(|k| k as u16).collect()
+                let waiting = table.waiting_for(process.into());
+                let mut chosen = waiting.clone();
+                chosen.retain(|_| rng.chance(2, 3));
+                if rng.chance(5, 6) {
+                    chosen = gen::oldest_as_many(table, &waiting, &chosen);
+                }
+                chosen.into_iter().map(|k| k as u16).collect()
             };
             if lot < 75 {
                 Call::Receive {

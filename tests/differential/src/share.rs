@@ -1,7 +1,7 @@
 //! The share of a listing: how it was rounded, and tables that have a chosen
 //! one. By chance a table rarely has an exact half.
 
-use reference::gen::Rng;
+use reference::gen::{self, Rng};
 use reference::table::{MOST_PROCESSES, MOST_STATES};
 use reference::{Message, Table};
 
@@ -87,7 +87,8 @@ pub fn near(kept: usize, total: usize) -> [(usize, usize); 5] {
 /// few processes before it, that of j sent at the end of j and received before
 /// state j + 1. So the line of j alone puts i back to j, and i keeps a state for
 /// each of its messages, and its last one. A few messages that wait are added,
-/// and the names of the processes and the order of messages are by chance.
+/// and the names of the processes and the order of messages are by chance, but
+/// that each channel is in turn.
 pub fn table(rng: &mut Rng, kept: usize, total: usize) -> Option<Table> {
     let most = MOST_STATES as usize;
     let fits = |n: &usize| (*n..=most_kept(*n)).contains(&kept) && total <= most * n;
@@ -126,10 +127,17 @@ pub fn table(rng: &mut Rng, kept: usize, total: usize) -> Option<Table> {
     for _ in 0..if n > 1 { rng.between(0, 3) } else { 0 } {
         let j = rng.between(0, n - 1);
         let i = (j + rng.between(1, n - 1)) % n;
-        let sent = rng.between(0, counts[j] - 1) as u32;
-        messages.push(Message::new((order[j], sent), (order[i], 0)));
+        // Behind a message of the stairs, which was sent at the end, as late.
+        let behind = j < received[i];
+        let sent = if behind {
+            counts[j] - 1
+        } else {
+            rng.between(0, counts[j] - 1)
+        };
+        messages.push(Message::new((order[j], sent as u32), (order[i], 0)));
     }
     rng.shuffle(&mut messages);
+    gen::put_in_turn(&mut messages);
     let mut named = vec![0; n];
     for p in 0..n {
         named[order[p]] = counts[p] as u32;

@@ -105,7 +105,7 @@ fn the_number_counts() {
     for room in [0, ENOUGH] {
         for call in all_calls(room) {
             let expected = call.expected(&table);
-            for number in (0..=22).filter(|&number| number != expected.number) {
+            for number in (0..=24).filter(|&number| number != expected.number) {
                 let mut spoilt = expected.clone();
                 spoilt.number = number;
                 assert!(fails(&table, &call, spoilt), "{call:?}, {number}");
@@ -214,10 +214,10 @@ fn the_lists_of_checks_count() {
     assert_eq!(checks_of("marked_line"), of_marking);
     let of_names = [&TABLE_CHECKS[..], &[20, 21, 22, 16]].concat();
     assert_eq!(checks_of("stand_together"), of_names);
-    // 14 is a check of a save, and none of a receipt.
-    let of_save = [&TABLE_CHECKS[..], &[10, 13, 14, 16]].concat();
+    // 14 is a check of a save, and none of a receipt; 24 is one of both.
+    let of_save = [&TABLE_CHECKS[..], &[10, 13, 24, 14, 16]].concat();
     assert_eq!(checks_of("save"), of_save);
-    let of_receipt = [&TABLE_CHECKS[..], &[10, 13, 16]].concat();
+    let of_receipt = [&TABLE_CHECKS[..], &[10, 13, 24, 16]].concat();
     assert_eq!(checks_of("receive"), of_receipt);
     let mut comparison = all_met();
     assert_eq!(comparison.strays(), [""; 0]);
@@ -341,6 +341,154 @@ fn the_refusals_of_receipts_count() {
         };
         assert_eq!(fails(&full.to_bytes(), &save, outcome()), number != 14);
         assert!(fails(&full.to_bytes(), &receive(0, &[4]), outcome()));
+    }
+}
+
+/// Both sides of 23, each of the three ways, and its place behind 9 and before all
+/// that a call checks besides: every other number is a difference, in every call.
+#[test]
+fn the_order_of_channels_counts() {
+    // Counts of 3, two messages from process 0 to process 1, and a third.
+    let back = Message::new((1, 1), (0, 0));
+    let with = |first: (u32, u32), second: (u32, u32), third: Message| {
+        let message = |(sent, received)| Message::new((0, sent), (1, received));
+        let table = Table {
+            counts: vec![3, 3],
+            messages: vec![message(first), third, message(second)],
+        };
+        table.to_bytes()
+    };
+    let cases = [
+        // Equal ones, one behind the other, waiting last, unsaved before waiting.
+        ((1, 1), (1, 1), back, 0),
+        ((0, 1), (2, 3), back, 0),
+        ((1, 3), (1, 0), back, 0),
+        ((1, 0), (1, 0), back, 0),
+        // Sent before it; received while it waits, saved or not; received before it.
+        ((1, 1), (0, 1), back, 23),
+        ((1, 0), (0, 0), back, 23),
+        ((1, 0), (1, 2), back, 23),
+        ((1, 0), (1, 3), back, 23),
+        ((1, 2), (1, 1), back, 23),
+        ((1, 3), (1, 2), back, 23),
+        // The same numbers in the other direction are of another channel.
+        ((1, 2), (1, 2), Message::new((1, 0), (0, 1)), 0),
+        // 9 and 8 of the third, and of one that is out of turn.
+        ((1, 2), (1, 1), Message::new((1, 1), (0, 4)), 9),
+        ((1, 2), (1, 1), Message::new((1, 3), (0, 0)), 8),
+        ((1, 4), (1, 1), back, 9),
+    ];
+    for (first, second, third, refusal) in cases {
+        let table = with(first, second, third);
+        for number in [0, 8, 9, 23] {
+            let outcome = Outcome::refused(number);
+            let difference = fails(&table, &Call::CheckTable, outcome);
+            assert_eq!(difference, number != refusal, "{first:?} {second:?}");
+        }
+        if refusal == 0 {
+            continue;
+        }
+        // In every other call, with arguments and rooms that are refused too.
+        let mut calls = all_calls(0);
+        calls.pop();
+        calls.extend([
+            Call::Send {
+                from: 2,
+                to: 2,
+                room: 0,
+            },
+            Call::Save {
+                process: 9,
+                list: vec![7],
+                room: 0,
+            },
+            Call::Receive {
+                process: 1,
+                list: vec![2, 2],
+                room: 0,
+            },
+        ]);
+        for call in calls {
+            for number in [0, 8, 9, 10, 11, 13, 15, 16, 17, 20, 23, 24] {
+                let difference = fails(&table, &call, Outcome::refused(number));
+                assert_eq!(difference, number != refusal, "{call:?} {number}");
+            }
+        }
+    }
+}
+
+/// A list that takes both of two waiting messages, or the older, is answered; one
+/// that passes over the older is refused by 24, of a save and of a receipt, behind 13
+/// and before 14 and 16. Of another sender, or received, it is not passed over.
+#[test]
+fn what_is_passed_over_counts() {
+    let table = |full: bool, older: u32| Table {
+        counts: vec![3, if full { 4_096 } else { 3 }, 3],
+        messages: vec![
+            Message::new((0, 0), (1, older)),
+            Message::new((0, 1), (1, 0)),
+            Message::new((2, 1), (1, 0)),
+        ],
+    };
+    let calls = |list: &[u16], room: usize| {
+        let list = list.to_vec();
+        [
+            Call::Save {
+                process: 1,
+                list: list.clone(),
+                room,
+            },
+            Call::Receive {
+                process: 1,
+                list,
+                room,
+            },
+        ]
+    };
+    let cases: [(&[u16], u32, u32); 12] = [
+        (&[0], 0, 0),
+        (&[0, 1], 0, 0),
+        (&[0, 1, 2], 0, 0),
+        (&[2], 0, 0),
+        (&[0, 2], 0, 0),
+        (&[1], 0, 24),
+        (&[1, 2], 0, 24),
+        (&[1], 2, 0),
+        (&[1], 3, 0),
+        (&[1, 1], 0, 13),
+        (&[1, 3], 0, 13),
+        (&[2, 1], 0, 13),
+    ];
+    for (list, older, refusal) in cases {
+        let bytes = table(false, older).to_bytes();
+        for call in calls(list, ENOUGH) {
+            for number in [13, 14, 16, 24] {
+                let difference = fails(&bytes, &call, Outcome::refused(number));
+                assert_eq!(difference, number != refusal, "{call:?} {number}");
+            }
+        }
+        // Without room, and at 4,096 states.
+        let [save, receive] = calls(list, 0);
+        for number in [0, 13, 14, 16, 24] {
+            let outcome = || Outcome::refused(number);
+            let short = if refusal == 0 { 16 } else { refusal };
+            assert_eq!(fails(&bytes, &save, outcome()), number != short);
+            assert_eq!(fails(&bytes, &receive, outcome()), number != short);
+            let full = table(true, older).to_bytes();
+            let at_most = if refusal == 0 { 14 } else { refusal };
+            assert_eq!(fails(&full, &save, outcome()), number != at_most);
+            assert_eq!(fails(&full, &receive, outcome()), number != short);
+        }
+    }
+    // Both: they get the count, and nothing else changes.
+    for received in 0..=4 {
+        let mut next = table(false, 0);
+        next.messages[0].received = received;
+        next.messages[1].received = 3;
+        let outcome = Outcome::answered(next.to_bytes(), ENOUGH);
+        let [_, receive] = calls(&[0, 1], ENOUGH);
+        let difference = fails(&table(false, 0).to_bytes(), &receive, outcome);
+        assert_eq!(difference, received != 3);
     }
 }
 

@@ -8,7 +8,7 @@ use std::time::Instant;
 
 use differential::compare::{Call, Comparison, Difference};
 use differential::{make, share};
-use reference::gen::{self, Order, Rng};
+use reference::gen::{self, Fault, Order, Rng};
 use reference::marking::mark_bytes;
 use reference::{Message, Outcome, Table, TABLE_CHECKS};
 
@@ -40,7 +40,7 @@ fn limits(comparison: &mut Comparison, seed: u64) -> Result<(), Box<Difference>>
     let rng = &mut Rng::new(seed);
     let mut tables = gen::limit_tables(rng);
     tables.push(make::fullest_sheet());
-    // Long dominoes in every order, of two processes and of more.
+    // Long dominoes in every order in turn, of two processes and of more.
     for order in Order::ALL {
         tables.push(gen::domino_chain(rng, 1_500, order));
         tables.push(gen::ring_domino(rng, 7, 1_000, order));
@@ -183,6 +183,17 @@ fn limits(comparison: &mut Comparison, seed: u64) -> Result<(), Box<Difference>>
         let last = unsaved.messages.len() - 1;
         unsaved.messages[last].received += 1;
         comparison.call(rng, &made_by, &unsaved.to_bytes(), &Call::CheckTable)?;
+        // Two messages out of turn, in each of the ways.
+        for fault in Fault::ALL {
+            let Some(broken) = gen::put_out_of_turn(rng, table, fault) else {
+                continue;
+            };
+            let broken = broken.to_bytes();
+            for call in &calls[..12] {
+                comparison.call(rng, &made_by, &broken, &call.with_room(64))?;
+            }
+            comparison.lookups(rng, &made_by, &broken, &indices)?;
+        }
         // One count more than there may be, and one message more.
         let mut over = table.clone();
         over.counts[n - 1] = 4_097;
@@ -253,7 +264,8 @@ fn damages(comparison: &mut Comparison, seed: u64) -> Result<(), Box<Difference>
             if first == 1 && second != 1 {
                 continue;
             }
-            for round in 0..4 {
+            let with_order = second == 23;
+            for round in 0..if with_order { 12 } else { 4 } {
                 let (n, m) = (rng.between(2, 6), rng.between(1, 8));
                 let whole = gen::arbitrary(rng, n, m, 5).to_bytes();
                 let pair = if first == second {
@@ -281,9 +293,9 @@ fn orders(comparison: &mut Comparison, seed: u64) -> Result<(), Box<Difference>>
     let small = Table {
         counts: vec![3, 2],
         messages: vec![
-            Message::new((1, 0), (0, 0)),
+            Message::new((1, 0), (0, 2)),
             Message::new((0, 2), (1, 0)),
-            Message::new((1, 1), (0, 2)),
+            Message::new((1, 1), (0, 0)),
             Message::new((1, 1), (0, 0)),
         ],
     };
@@ -292,12 +304,20 @@ fn orders(comparison: &mut Comparison, seed: u64) -> Result<(), Box<Difference>>
     let mut full_counts = small.clone();
     full_counts.counts = vec![4_096; 2];
     let mut full_of_messages = full_count.clone();
-    full_of_messages.messages = full_count.messages.repeat(1_024);
-    // Message 2 not saved yet; of the second table it is one above the count.
+    full_of_messages.messages.resize(4_096, small.messages[3]);
+    // Message 0 not saved yet; of the second table it is one above the count.
     let mut unsaved = full_count.clone();
-    unsaved.messages[2].received = 4_096;
+    unsaved.messages[0].received = 4_096;
     let mut above = full_count.clone();
-    above.messages[2].received = 4_097;
+    above.messages[0].received = 4_097;
+    // Message 3 out of turn, in each of the ways: received while message 2 waits,
+    // saved or not; sent before it; and received before message 0.
+    let [mut saved, mut not_saved, mut sent, mut received] = [(); 4].map(|()| full_count.clone());
+    saved.messages[3].received = 2;
+    not_saved.messages[3].received = 4_096;
+    sent.messages[3].sent = 0;
+    received.messages[2].received = 2;
+    received.messages[3].received = 1;
     let made = [
         &small,
         &full_count,
@@ -305,28 +325,35 @@ fn orders(comparison: &mut Comparison, seed: u64) -> Result<(), Box<Difference>>
         &full_of_messages,
         &unsaved,
         &above,
+        &saved,
+        &not_saved,
+        &sent,
+        &received,
     ];
     let mut tables: Vec<Vec<u8>> = made.map(Table::to_bytes).to_vec();
     for refusal in TABLE_CHECKS {
         tables.extend(gen::damage(rng, &full_count.to_bytes(), refusal));
     }
-    // Good for process 0, then a position of M and above, equal ones, falling
-    // ones, one of process 1, one that is received, and saved or not; and two
-    // faults at once.
-    let lists: [&[u16]; 13] = [
+    // Good for process 0, and one that passes over message 2; then a position of M
+    // and above, equal ones, falling ones, one of process 1, one that is received,
+    // and saved or not; and two faults at once, of which one is to pass over.
+    let lists: [&[u16]; 16] = [
         &[],
-        &[0],
+        &[2],
+        &[2, 3],
         &[3],
-        &[0, 3],
         &[1],
         &[4],
-        &[0, 4_096],
+        &[2, 4_096],
         &[65_535],
-        &[0, 0],
-        &[3, 0],
-        &[0, 1, 3],
+        &[2, 2],
+        &[3, 2],
+        &[1, 2, 3],
         &[0, 2],
-        &[2, 1, 65_535],
+        &[0, 1, 65_535],
+        &[3, 3],
+        &[3, 65_535],
+        &[1, 3],
     ];
     // Ceilings on both sides of every boundary, for each of the counts; many too
     // many of them, also so that a length cut to 8 or 16 bits would be right.
@@ -423,17 +450,24 @@ fn orders(comparison: &mut Comparison, seed: u64) -> Result<(), Box<Difference>>
 /// state, or are not saved yet, for this process and another.
 fn lists(comparison: &mut Comparison, seed: u64) -> Result<(), Box<Difference>> {
     let rng = &mut Rng::new(seed);
-    for (m, tables) in [(0, 1), (1, 3), (2, 6), (3, 8), (4, 3)] {
+    for (m, tables) in [(0, 1), (1, 3), (2, 8), (3, 12), (4, 6)] {
         for number in 0..tables {
             let made_by = format!("lists, seed {seed}, {m} messages, table {number}");
             let mut table = gen::arbitrary(rng, 2, m, 3);
+            let waiting = number % 2 == 0;
             for (k, message) in table.messages.iter_mut().enumerate() {
-                // Of three the first waits, and the second is unsaved.
+                // Of three the first waits, and the second is unsaved; in every
+                // second table all wait but one.
                 match (k + number) % 3 {
                     0 => message.received = 0,
-                    1 => message.received = table.counts[message.receiver],
+                    1 if !waiting => message.received = table.counts[message.receiver],
+                    _ if waiting && k > 0 => message.received = 0,
                     _ => {}
                 }
+            }
+            // Every fourth table is left as it came.
+            if number % 4 != 3 {
+                gen::put_in_turn(&mut table.messages);
             }
             let bytes = table.to_bytes();
             for process in 0..=2 {
@@ -461,6 +495,121 @@ fn lists(comparison: &mut Comparison, seed: u64) -> Result<(), Box<Difference>> 
     Ok(())
 }
 
+/// Tables in which several messages of a channel wait: for every process every set
+/// of at most six of the messages that wait for it, of a save and of a receipt, with
+/// room for the answer and without.
+fn sets(comparison: &mut Comparison, seed: u64) -> Result<(), Box<Difference>> {
+    let rng = &mut Rng::new(seed);
+    for number in 0..240 {
+        let made_by = format!("sets, seed {seed}, table {number}");
+        let table = make::waiting(rng);
+        let bytes = table.to_bytes();
+        for process in 0..table.processes() {
+            let mut waiting = table.waiting_for(process);
+            waiting.truncate(6);
+            for choice in 0..1 << waiting.len() {
+                let chosen = (0..waiting.len()).filter(|at| choice >> at & 1 == 1);
+                let list: Vec<u16> = chosen.map(|at| waiting[at] as u16).collect();
+                let (process, room) = (process as u16, [0, bytes.len()][rng.between(0, 1)]);
+                let save = Call::Save {
+                    process,
+                    list: list.clone(),
+                    room,
+                };
+                comparison.call(rng, &made_by, &bytes, &save)?;
+                let receive = Call::Receive {
+                    process,
+                    list,
+                    room,
+                };
+                comparison.call(rng, &made_by, &bytes, &receive)?;
+            }
+        }
+    }
+    Ok(())
+}
+
+/// Two messages of one channel at every two places of five, the others of other
+/// channels: numbers that are in turn and the same the other way round, so out of
+/// turn in each of the ways; equal ones; unsaved ones. The same numbers in two
+/// channels that have one end in common, or both, the other way round, are in turn.
+/// Each with every call; and, out of turn, beside the damage of each other check.
+fn channels(comparison: &mut Comparison, seed: u64) -> Result<(), Box<Difference>> {
+    let rng = &mut Rng::new(seed);
+    // Send and receipt numbers of the earlier and of the later, under counts of 3:
+    // that of the receipt is 0 to wait and 3 to be unsaved.
+    let pairs: [[(u32, u32); 2]; 10] = [
+        [(0, 1), (1, 1)],
+        [(0, 0), (2, 0)],
+        [(1, 1), (1, 2)],
+        [(1, 2), (1, 3)],
+        [(1, 2), (1, 0)],
+        [(1, 3), (1, 0)],
+        [(0, 3), (2, 3)],
+        [(1, 1), (1, 1)],
+        [(2, 3), (2, 3)],
+        [(2, 0), (2, 0)],
+    ];
+    // The channels of both: the same; another receiver, another sender, back.
+    let ends = [
+        [(0, 1), (0, 1)],
+        [(0, 1), (0, 2)],
+        [(0, 1), (2, 1)],
+        [(0, 1), (1, 0)],
+    ];
+    for (number, pair) in pairs.iter().enumerate() {
+        for [here, there] in ends {
+            for swapped in [false, true] {
+                for later in 1..5 {
+                    for earlier in 0..later {
+                        let [first, second] = if swapped { [pair[1], pair[0]] } else { *pair };
+                        let mut table = Table {
+                            counts: vec![3; 4],
+                            messages: [(3, 0), (3, 1), (3, 2), (1, 3), (2, 3)]
+                                .map(|(j, i)| Message::new((j, 1), (i, 2)))
+                                .to_vec(),
+                        };
+                        let message = |(j, i), (y, r)| Message::new((j, y), (i, r));
+                        table.messages[earlier] = message(here, first);
+                        table.messages[later] = message(there, second);
+                        let made_by = format!(
+                            "channels, seed {seed}, pair {number}, {here:?} {there:?}, places {earlier} {later}"
+                        );
+                        let bytes = table.to_bytes();
+                        let broken = here == there && swapped && pair[0] != pair[1];
+                        let refusal = if broken { 23 } else { 0 };
+                        let check = Outcome::refused(refusal);
+                        comparison.call_expecting(
+                            rng,
+                            &made_by,
+                            &bytes,
+                            &Call::CheckTable,
+                            check,
+                        )?;
+                        // All calls where it matters most, and on some of the others.
+                        if here == there && later - earlier != 2 || rng.chance(1, 8) {
+                            make::battery(comparison, rng, &made_by, &bytes, true)?;
+                        }
+                        if broken {
+                            let other = TABLE_CHECKS[rng.between(4, TABLE_CHECKS.len() - 2)];
+                            let both = gen::damage(rng, &bytes, other).expect("it has messages");
+                            let check = Outcome::refused(other);
+                            comparison.call_expecting(
+                                rng,
+                                &made_by,
+                                &both,
+                                &Call::CheckTable,
+                                check,
+                            )?;
+                        }
+                    }
+                }
+            }
+        }
+    }
+    Ok(())
+}
+
 /// Every two lists of at most two numbers each, processes up to N and states up to
 /// one above the highest count, on tables of two processes with every mixture of
 /// messages that wait, are received by a state, or are not saved yet; and of at
@@ -479,6 +628,10 @@ fn names(comparison: &mut Comparison, seed: u64) -> Result<(), Box<Difference>> 
                     1 => message.received = table.counts[message.receiver],
                     _ => {}
                 }
+            }
+            // Every eighth table is left as it came.
+            if number % 8 != 7 {
+                gen::put_in_turn(&mut table.messages);
             }
             let bytes = table.to_bytes();
             let highest = table.counts[0].max(table.counts[1]) as u16;
@@ -682,6 +835,13 @@ fn run(comparison: &mut Comparison, calls: u64, seed: u64) -> Result<(), Box<Dif
     }
     part(comparison, &format!("{round} tables by chance"));
     // Behind the others, so that they take nothing from the tables by chance.
+    channels(comparison, seed + 9)?;
+    part(
+        comparison,
+        "two messages at all places, in turn and out of turn",
+    );
+    sets(comparison, seed + 10)?;
+    part(comparison, "all sets of waiting messages");
     lists(comparison, seed + 7)?;
     part(comparison, "all lists of saves and receipts");
     names(comparison, seed + 8)?;
