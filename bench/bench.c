@@ -42,16 +42,17 @@ struct implementation {
     __typeof__(keeper_send) *send;
     __typeof__(keeper_save) *save;
     __typeof__(keeper_receive) *receive;
+    __typeof__(run_table_check) *check;
 };
 
 static const struct implementation implementations[IMPLEMENTATIONS] = {
-    {"archive", keeper_keep_sheet, keeper_recovery_line, keeper_line_under, keeper_marked_line, keeper_stand_together, keeper_fall_back, keeper_send, keeper_save, keeper_receive},
-    {"C", plain_keep_sheet, plain_recovery_line, plain_line_under, plain_marked_line, plain_stand_together, plain_fall_back, plain_send, plain_save, plain_receive},
-    {"C-without-checks", bare_keep_sheet, bare_recovery_line, bare_line_under, bare_marked_line, bare_stand_together, bare_fall_back, bare_send, bare_save, bare_receive},
-    {"Rust", rust_keep_sheet, rust_recovery_line, rust_line_under, rust_marked_line, rust_stand_together, rust_fall_back, rust_send, rust_save, rust_receive},
-    {"work-list-marks", marks_keep_sheet, marks_recovery_line, marks_line_under, NULL, marks_stand_together, marks_fall_back, NULL, NULL, NULL},
-    {"work-list-ranges", ranges_keep_sheet, ranges_recovery_line, ranges_line_under, NULL, ranges_stand_together, ranges_fall_back, NULL, NULL, NULL},
-    {"archive-line-under", NULL, NULL, keeper_line_under, NULL, NULL, NULL, NULL, NULL, NULL},
+    {"archive", keeper_keep_sheet, keeper_recovery_line, keeper_line_under, keeper_marked_line, keeper_stand_together, keeper_fall_back, keeper_send, keeper_save, keeper_receive, run_table_check},
+    {"C", plain_keep_sheet, plain_recovery_line, plain_line_under, plain_marked_line, plain_stand_together, plain_fall_back, plain_send, plain_save, plain_receive, plain_check_table},
+    {"C-without-checks", bare_keep_sheet, bare_recovery_line, bare_line_under, bare_marked_line, bare_stand_together, bare_fall_back, bare_send, bare_save, bare_receive, NULL},
+    {"Rust", rust_keep_sheet, rust_recovery_line, rust_line_under, rust_marked_line, rust_stand_together, rust_fall_back, rust_send, rust_save, rust_receive, rust_check_table},
+    {"work-list-marks", marks_keep_sheet, marks_recovery_line, marks_line_under, NULL, marks_stand_together, marks_fall_back, NULL, NULL, NULL, NULL},
+    {"work-list-ranges", ranges_keep_sheet, ranges_recovery_line, ranges_line_under, NULL, ranges_stand_together, ranges_fall_back, NULL, NULL, NULL, NULL},
+    {"archive-line-under", NULL, NULL, keeper_line_under, NULL, NULL, NULL, NULL, NULL, NULL, NULL},
 };
 
 /* A line under ceilings twice: under half of each count, and under the counts. By marking too; beside that, an
@@ -59,17 +60,17 @@ static const struct implementation implementations[IMPLEMENTATIONS] = {
    ones of the first and of the last process, which stand together on some rows; and all of a line, which do on every one. */
 enum {
     SHEET_CALL, LINE_CALL, HALVES_CALL, COUNTS_CALL, MARKED_HALVES_CALL, MARKED_COUNTS_CALL, STAND_LASTS_CALL, STAND_LINE_CALL,
-    FALL_BACK_CALL, SEND_CALL, SAVE_CALL, RECEIVE_CALL, CALLS
+    FALL_BACK_CALL, SEND_CALL, SAVE_CALL, RECEIVE_CALL, CHECK_CALL, CALLS
 };
 
 static const char *const call_names[CALLS] = {
     "keep-sheet", "recovery-line", "line-under-halves", "line-under-counts", "marked-line-under-halves",
-    "marked-line-under-counts", "stand-together-lasts", "stand-together-line", "fall-back", "send", "save", "receive",
+    "marked-line-under-counts", "stand-together-lasts", "stand-together-line", "fall-back", "send", "save", "receive", "check",
 };
 static const char *const call_titles[CALLS] = {
     "Keep sheet", "Recovery line", "Line under half of each count", "Line under the counts",
     "Line by marking, under half of each count", "Line by marking, under the counts", "Two last checkpoints, named",
-    "A line, all of it named", "Fall back", "Send", "Save", "Receipt",
+    "A line, all of it named", "Fall back", "Send", "Save", "Receipt", "Check of a table",
 };
 
 /* What Figure 3 on networkx is asked for, of the calls that it has. */
@@ -185,6 +186,8 @@ static uint32_t call(const struct row *row, int which, int call)
         return by->send(row->shorter, row->shorter_length, 0, 1, answer, sizeof answer, &written);
     case SAVE_CALL:
         return by->save(row->table, row->length, row->saver, row->list, row->entries, answer, sizeof answer, &written);
+    case CHECK_CALL:
+        return by->check(row->table, row->length);
     default:
         return by->receive(row->table, row->length, row->saver, row->list, row->entries, answer, sizeof answer, &written);
     }
@@ -192,6 +195,8 @@ static uint32_t call(const struct row *row, int which, int call)
 
 static bool has(int which, int call)
 {
+    if (call == CHECK_CALL)
+        return implementations[which].check != NULL;
     if (which == UNDER || is_marking(call))
         return is_marking(call);
     return implementations[which].send != NULL || call < SEND_CALL;
@@ -727,12 +732,12 @@ static void say_tables(void)
 
 static void say_call(int c, bool instructions, bool networkx)
 {
-    bool lists = has(MARKS, c), by_figure3 = figure3_words[c] != NULL;
-    SAY("| table | N | M |%s archive, µs | C, µs |%s%s / C | / C, fastest | / C without checks | / Rust |%s%s%s%s\n",
-        c == STAND_LASTS_CALL ? " answer |" : "", is_marking(c) ? " line under, µs |" : "", lists ? " work list, µs |" : "", is_marking(c) ? " / line under |" : "",
+    bool lists = has(MARKS, c), bare = has(BARE, c), by_figure3 = figure3_words[c] != NULL;
+    SAY("| table | N | M |%s archive, µs | C, µs |%s%s / C | / C, fastest |%s / Rust |%s%s%s%s\n",
+        c == STAND_LASTS_CALL ? " answer |" : "", is_marking(c) ? " line under, µs |" : "", lists ? " work list, µs |" : "", bare ? " / C without checks |" : "", is_marking(c) ? " / line under |" : "",
         lists ? " / work list | / its marks |" : "", instructions ? " instructions / C |" : "", by_figure3 ? " networkx, ms |" : "");
-    SAY("|---|---|---|%s---|---|%s%s---|---|---|---|%s%s%s%s\n", c == STAND_LASTS_CALL ? "---|" : "", is_marking(c) ? "---|" : "", lists ? "---|" : "",
-        is_marking(c) ? "---|" : "", lists ? "---|---|" : "", instructions ? "---|" : "", by_figure3 ? "---|" : "");
+    SAY("|---|---|---|%s---|---|%s%s---|---|%s---|%s%s%s%s\n", c == STAND_LASTS_CALL ? "---|" : "", is_marking(c) ? "---|" : "", lists ? "---|" : "",
+        bare ? "---|" : "", is_marking(c) ? "---|" : "", lists ? "---|---|" : "", instructions ? "---|" : "", by_figure3 ? "---|" : "");
     for (size_t r = 0; r < row_count; r++) {
         const struct row *row = &rows[r];
         const struct times *t = row->here.times[c];
@@ -744,8 +749,10 @@ static void say_call(int c, bool instructions, bool networkx)
             SAY(" %s |", brief(1e6 * t[UNDER].median));
         if (lists)
             SAY(" %s |", brief(1e6 * t[RANGES].median));
-        SAY(" %.2f | %.2f | %s | %.2f |", row->here.ratio[c][PLAIN], t[ARCHIVE].least / t[PLAIN].least,
-            brief(row->here.ratio[c][BARE]), row->here.ratio[c][RUST]);
+        SAY(" %.2f | %.2f |", row->here.ratio[c][PLAIN], t[ARCHIVE].least / t[PLAIN].least);
+        if (bare)
+            SAY(" %s |", brief(row->here.ratio[c][BARE]));
+        SAY(" %.2f |", row->here.ratio[c][RUST]);
         if (is_marking(c))
             SAY(" %s |", brief(row->here.ratio[c][UNDER]));
         if (lists)
@@ -907,6 +914,7 @@ static double counted_fall_back(const struct row *row) { return counted(row, FAL
 static double counted_send(const struct row *row) { return counted(row, SEND_CALL); }
 static double counted_save(const struct row *row) { return counted(row, SAVE_CALL); }
 static double counted_receive(const struct row *row) { return counted(row, RECEIVE_CALL); }
+static double counted_check(const struct row *row) { return counted(row, CHECK_CALL); }
 
 /* Figures that the text takes, by name. */
 static const struct {
@@ -941,6 +949,7 @@ static const struct {
     {"instructions-send", counted_send, ""},
     {"instructions-save", counted_save, ""},
     {"instructions-receive", counted_receive, ""},
+    {"instructions-check", counted_check, ""},
 };
 
 /* A line of text, each {name} in it replaced by the figure's range in this run. */

@@ -155,6 +155,17 @@ static inline uint32_t check_list(struct parts t, uint16_t process, const uint16
         if (u16_at(t.receipts + 4 * k) != process || u16_at(t.receipts + 4 * k + 2) != 0)
             return KEEPER_BAD_LIST;
     }
+    /* One walk up to the last position, with the senders of which a message was passed over. */
+    bool passed[KEEPER_MOST_PROCESSES] = {false};
+    for (size_t k = 0, a = 0; a < entries; k++) {
+        uint16_t sender = u16_at(t.sends + 4 * k);
+        if (k == list[a]) {
+            if (passed[sender])
+                return KEEPER_MESSAGE_PASSED_OVER;
+            a++;
+        } else if (u16_at(t.receipts + 4 * k) == process && u16_at(t.receipts + 4 * k + 2) == 0)
+            passed[sender] = true;
+    }
     return 0;
 }
 

@@ -16,6 +16,7 @@ cargo --quiet build --release --manifest-path bench/rust/Cargo.toml --target-dir
 for part in bench plain marking worklist; do
     gcc -std=gnu11 -Wall -Wextra -Werror -O3 -Iinclude -c -o "$out/$part.o" "bench/$part.c"
 done
+gcc -std=gnu11 -Wall -Wextra -Werror -O2 -o "$out/chain" bench/chain.c
 # The same code at four places: what is linked after a pad stands 16 bytes further for each 16 bytes of it.
 place() {
     gcc -c -DPAD="$2" -o "$out/pad-c-$1.o" bench/pad.S
@@ -29,10 +30,13 @@ place 2 16 16
 place 3 32 48
 place 4 48 0
 
-# A row: its label, whether the second goal is about it, kind, seed, N, M.
+# A row: its label, whether the second goal is about it, kind, seed, N, M. A chain has no seed.
 row() {
     file="$out/tables/$3-$4-$5-$6.table"
-    target/cargo/release/reference gen "$3" "$4" "$5" "$6" >"$file"
+    case $3 in
+    chain) "$out/chain" "$5" "$6" >"$file" ;;
+    *) target/cargo/release/reference gen "$3" "$4" "$5" "$6" >"$file" ;;
+    esac
     printf '%s\t%s\t%s\n' "$1" "$2" "$file" >>"$out/rows"
 }
 row 'random history' 1 history 1 2 512
@@ -53,15 +57,16 @@ row 'clustered, with receipts' 1 clustered-unsaved 1 8 4096
 row 'clustered, with receipts' 1 clustered-unsaved 1 32 4096
 row 'domino, time order' 1 domino-time 1 2 512
 row 'domino, time order' 1 domino-time 1 2 4096
-row 'domino, reverse' 0 domino-reverse 1 2 4096
+row 'domino, by sender' 0 domino-by-sender 1 2 4096
 row 'ring domino, time order' 0 ring-time 1 8 4096
-row 'ring domino, reverse' 0 ring-reverse 1 8 4096
-row 'ring domino, shuffled' 0 ring-shuffled 1 8 4096
+row 'ring domino, by round' 0 ring-rounds-along 1 8 4096
+row 'ring domino, by chance' 0 ring-interleaved 1 8 4096
+row 'chain through all channels' 0 chain 1 8 4096
 row 'ring domino, time order' 0 ring-time 1 32 4096
-row 'ring domino, reverse' 0 ring-reverse 1 32 4096
+row 'ring domino, by round' 0 ring-rounds-along 1 32 4096
 row 'ring domino, by sender' 0 ring-by-sender 1 32 4096
-row 'ring domino, every second' 0 ring-every-second 1 32 4096
-row 'ring domino, shuffled' 0 ring-shuffled 1 32 4096
+row 'ring domino, by chance' 0 ring-interleaved 1 32 4096
+row 'chain through all channels' 0 chain 1 32 4096
 
 if [ "${1-}" = stack ]; then
     say "measuring the stack"

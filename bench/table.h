@@ -37,24 +37,41 @@ static inline struct parts parts_of(const uint8_t *table)
 }
 
 /* The checks of messages, in checking order; after them, that none catches. */
-enum fault { UNKNOWN_PROCESS, TO_ITS_SENDER, SEND_TOO_HIGH, RECEIPT_TOO_HIGH, NO_FAULT };
+enum fault { UNKNOWN_PROCESS, TO_ITS_SENDER, SEND_TOO_HIGH, RECEIPT_TOO_HIGH, OUT_OF_TURN, NO_FAULT };
 static const uint32_t refusal_of[] = {
     KEEPER_UNKNOWN_PROCESS_IN_MESSAGE, KEEPER_MESSAGE_TO_ITS_SENDER, KEEPER_SEND_NUMBER_TOO_HIGH,
-    KEEPER_RECEIPT_NUMBER_TOO_HIGH, KEEPER_OK,
+    KEEPER_RECEIPT_NUMBER_TOO_HIGH, KEEPER_CHANNEL_OUT_OF_ORDER, KEEPER_OK,
 };
 
-/* The first of them that catches message k. A process is known before its count is read. */
-static inline enum fault fault_at(struct parts t, size_t k)
+/* What is known of a channel: the send number of its last message, and one less than the receipt number, so that
+   waiting is the highest. Zeros where it has no message yet: nothing is below them. */
+struct last {
+    uint16_t sent, received;
+};
+
+static inline int is_out_of_turn(struct last *last, uint16_t sent, uint16_t received)
+{
+    struct last now = {sent, (uint16_t)(received - 1)};
+    int behind = now.sent < last->sent || now.received < last->received;
+    *last = now;
+    return behind;
+}
+
+/* The first of them that catches message k. A process is known before its count is read, and before its channel is. */
+static inline enum fault fault_at(struct parts t, size_t k, struct last *lasts)
 {
     uint16_t sender = u16_at(t.sends + 4 * k), receiver = u16_at(t.receipts + 4 * k);
     if (sender >= t.n || receiver >= t.n)
         return UNKNOWN_PROCESS;
     if (sender == receiver)
         return TO_ITS_SENDER;
-    if (u16_at(t.sends + 4 * k + 2) >= u16_at(t.counts + 2 * sender))
+    uint16_t sent = u16_at(t.sends + 4 * k + 2), received = u16_at(t.receipts + 4 * k + 2);
+    if (sent >= u16_at(t.counts + 2 * sender))
         return SEND_TOO_HIGH;
-    if (u16_at(t.receipts + 4 * k + 2) > u16_at(t.counts + 2 * receiver))
+    if (received > u16_at(t.counts + 2 * receiver))
         return RECEIPT_TOO_HIGH;
+    if (is_out_of_turn(&lasts[KEEPER_MOST_PROCESSES * sender + receiver], sent, received))
+        return OUT_OF_TURN;
     return NO_FAULT;
 }
 
@@ -76,9 +93,10 @@ static uint32_t check(const uint8_t *table, size_t length)
         if (count == 0 || count > KEEPER_MOST_CHECKPOINTS)
             return KEEPER_COUNT_OUT_OF_RANGE;
     }
+    struct last lasts[KEEPER_MOST_PROCESSES * KEEPER_MOST_PROCESSES] = {{0, 0}};
     enum fault first = NO_FAULT;
     for (size_t k = 0; k < t.m; k++) {
-        enum fault fault = fault_at(t, k);
+        enum fault fault = fault_at(t, k, lasts);
         if (fault < first)
             first = fault;
     }

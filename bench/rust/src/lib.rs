@@ -75,6 +75,7 @@ enum Fault {
     ToItsSender,
     SendTooHigh,
     ReceiptTooHigh,
+    OutOfTurn,
     None,
 }
 
@@ -85,6 +86,7 @@ impl Fault {
             Fault::ToItsSender => 7,
             Fault::SendTooHigh => 8,
             Fault::ReceiptTooHigh => 9,
+            Fault::OutOfTurn => 23,
             Fault::None => 0,
         }
     }
@@ -115,7 +117,10 @@ fn check(table: &[u8]) -> u32 {
     if counts[..n].iter().any(|&c| c == 0 || c > MOST_STATES) {
         return 5;
     }
-    let fault = |((j, sent), (i, received)): ((usize, u16), (usize, u16))| {
+    // Of each channel the send number of its last message, and one less than its
+    // receipt number, so that waiting is the highest.
+    let mut lasts = [(0, 0); MOST_PROCESSES * MOST_PROCESSES];
+    let mut fault = |((j, sent), (i, received)): ((usize, u16), (usize, u16))| {
         if j >= n || i >= n {
             Fault::UnknownProcess
         } else if j == i {
@@ -125,7 +130,15 @@ fn check(table: &[u8]) -> u32 {
         } else if received > counts[i] {
             Fault::ReceiptTooHigh
         } else {
-            Fault::None
+            let last = &mut lasts[MOST_PROCESSES * j + i];
+            let now = (sent, received.wrapping_sub(1));
+            let behind = now.0 < last.0 || now.1 < last.1;
+            *last = now;
+            if behind {
+                Fault::OutOfTurn
+            } else {
+                Fault::None
+            }
         }
     };
     let mut first = Fault::None;
@@ -396,6 +409,23 @@ fn check_list(parts: &Parts, process: u16, list: &[u16]) -> u32 {
         || list.windows(2).any(|two| two[0] >= two[1])
     {
         return 13;
+    }
+    // One walk up to the last position, with the senders of which a message was
+    // passed over.
+    let mut passed = [false; MOST_PROCESSES];
+    let mut rest = list;
+    for (k, ((sender, _), (receiver, received))) in parts.messages().enumerate() {
+        let [first, others @ ..] = rest else {
+            break;
+        };
+        if k == usize::from(*first) {
+            if passed[sender] {
+                return 24;
+            }
+            rest = others;
+        } else if receiver == usize::from(process) && received == 0 {
+            passed[sender] = true;
+        }
     }
     0
 }
