@@ -196,7 +196,7 @@ changed include/keeper.h '/^\/\* The keep sheet/,/^uint32_t keeper_keep_sheet/s/
 changed include/keeper.h '/^\/\* The table after a receipt/,/^uint32_t keeper_receive/s/Stack: [0-9]*/Stack: 22/'
 changed include/keeper.h '/^\/\* Whether named checkpoints/,/^uint32_t keeper_stand_together/s/Stack: [0-9]*/Stack: 22/'
 changed include/listing_text.h 's/Stack: \([0-9]*\)[0-9],/Stack: \1,/'
-changed include/run_table.h 's/Stack: 48/Stack: 49/'
+changed include/run_table.h 's/Stack: 2120/Stack: 2121/'
 changed man/keeper.3 's/^\.It Fn keeper_save Ta [0-9]*/&0/'
 changed man/keeper.3 '/^\.It Fn keeper_listing Ta /d'
 changed man/keeper.3 '/^\.It Fn keeper_line_under Ta /d'
