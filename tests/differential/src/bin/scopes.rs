@@ -439,8 +439,9 @@ fn under(scope: Scope) -> Result<String, Failure> {
         loop {
             let bytes = table.to_bytes();
             let in_turn = met.is_in_turn(&table);
+            let here = if in_turn { rooms } else { &rooms[rooms.len() - 1..] };
             for (list, lined) in &expected {
-                for &room in rooms {
+                for &room in here {
                     calls += 1;
                     let wanted = match lined.number {
                         _ if !in_turn => Lined::refused(23),
@@ -457,7 +458,8 @@ fn under(scope: Scope) -> Result<String, Failure> {
                     }
                 }
             }
-            // The other lengths were tried on an order in turn, if it has one.
+            // The other lengths were tried on an order in turn; one out of turn has one
+            // length, none before that and the longest behind it.
             if in_turn {
                 rooms = &rooms[..1];
             }
@@ -525,8 +527,9 @@ fn marked(scope: Scope) -> Result<String, Failure> {
         loop {
             let bytes = table.to_bytes();
             let in_turn = met.is_in_turn(&table);
+            let here = if in_turn { &lengths[..] } else { &lengths[lengths.len() - 1..] };
             for (list, lined) in &expected {
-                for &(marks, room) in &lengths {
+                for &(marks, room) in here {
                     let fill = FILLS[(calls % 5) as usize];
                     calls += 1;
                     let wanted = match lined.number {
@@ -768,17 +771,21 @@ fn stand(scope: Scope) -> Result<String, Failure> {
         loop {
             let bytes = table.to_bytes();
             let in_turn = met.is_in_turn(&table);
-            if rooms.len() > 1 {
+            let here = if in_turn {
+                rooms
+            } else {
+                &rooms[rooms.len() - 1..]
+            };
+            if in_turn && rooms.len() > 1 {
                 for names in &spoilt {
                     for room in [2 * n + 3, 0] {
                         calls += 1;
-                        let refusal = if in_turn { names.refusal } else { 23 };
-                        names.compare(&bytes, n, room, Lined::refused(refusal))?;
+                        names.compare(&bytes, n, room, Lined::refused(names.refusal))?;
                     }
                 }
             }
             for (names, lined) in asked.iter().zip(&expected) {
-                for &room in rooms {
+                for &room in here {
                     calls += 1;
                     let lined = if in_turn { *lined } else { Lined::refused(23) };
                     names.compare(&bytes, n, room, lined)?;
