@@ -1,6 +1,4 @@
 -- Laws of a list of positions: which older messages of a channel it passes over (check 24), and how it rises.
---     waits-undelivered, undelivered-waits    a message that waits
---     channel-on                              of three messages, the first and the last have one channel
 --     Passed, passes-over, passed-over        a list passes over an older message just where one waits that is not listed
 --     OlderListed, passes-none, none-passed   it passes over none just where each that waits is listed
 --     waitsFrom, skippedFrom, passes-is       a message that the list leaves waiting; what it is to pass over one, by its sender and receiver
@@ -11,30 +9,15 @@ use mathlib.Core.List.{List, [], _∷_}
 use mathlib.Core.Path.{_≡_, refl, sym, _∙_}
 use Prim.Native.Nat.{ℕ, zero, suc, _-_, _<_, zero-le, suc-le-suc}
 use native.Mathlib.Omega.{arith}
-use borrow.Author.Tests.{eq-eqb, eqb-true, lt-leb, not-true}
+use borrow.Author.Tests.{lt-leb, not-true}
 use lib.Dec.{eqb}
 use lib.ListN.{length, getD}
 use Rattle.futures.specs.Steps.{notRising, notRisingAfter, passesOver}
 use Rattle.tables.proofs.ListLaws.{and-left, and-right, anyBelow-found, found-below}
-use Rattle.tables.proofs.TurnLaws.{channel-same, one-channel}
+use Rattle.tables.proofs.TurnLaws.{undelivered-waits, waits-undelivered}
 use Rattle.tables.specs.Checks.{sameChannel, waits}
 use Rattle.tables.specs.Lists.{any, anyBelow}
-use Rattle.tables.specs.Table.{Message, Table, messageOf}
-
-module _ (m : Message) where
-  pub waits-undelivered : waits m ≡ true → m .received ≡ 0
-  unfolding waits
-  waits-undelivered e = eqb-true (m .received) 0 e
-
-  pub undelivered-waits : m .received ≡ 0 → waits m ≡ true
-  unfolding waits
-  undelivered-waits e = eq-eqb (m .received) 0 e
-
-pub channel-on : (a b c : Message) → sameChannel a b ≡ true → sameChannel b c ≡ true → sameChannel a c ≡ true
-channel-on a b c first then =
-    let ab = one-channel a b first in
-    let bc = one-channel b c then in
-    channel-same a c (ab .0 ∙ bc .0) (ab .1 ∙ bc .1)
+use Rattle.tables.specs.Table.{Table, messageOf}
 
 -- ---- check 24
 -- The older message at position q, of the channel of position k, waits and is not listed.

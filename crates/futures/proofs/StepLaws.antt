@@ -40,14 +40,14 @@ use Rattle.consistency.proofs.CeilingLaws.{ceiling-at, set-latest, set-length}
 use Rattle.consistency.proofs.LineLaws.{latest-same}
 use Rattle.consistency.specs.Ceilings.{ceilingOf, lineOf, recoveryLine}
 use Rattle.consistency.specs.Lines.{AtOrBelow, Latest, Orphan, asLine}
-use Rattle.futures.proofs.OrderLaws.{OlderListed, none-passed, passes-none, undelivered-waits, waits-undelivered}
+use Rattle.futures.proofs.OrderLaws.{OlderListed, none-passed, passes-none}
 use Rattle.futures.specs.Steps.{Step, afterCheckpoint, afterReceipt, afterRollback, afterSend, badPosition, checkpoint, notRising, notRisingAfter}
 use Rattle.futures.specs.Steps.{passesOver, putBack, receiptChecks, receive, receivedAt, remaining, rollback, send, sendChecks, stays, step}
 use Rattle.futures.specs.Steps.{unlessCaught, waitsFor}
 use Rattle.tables.proofs.CheckLaws.{passed, quiet-cons, quiet-none}
 use Rattle.tables.proofs.FormatLaws.{count-beyond, message-beyond}
 use Rattle.tables.proofs.ListLaws.{and-left, and-right, any-none, getD-tabulate, length-tabulate, or-false-left, or-false-right}
-use Rattle.tables.proofs.TurnLaws.{one-channel}
+use Rattle.tables.proofs.TurnLaws.{one-channel, undelivered-waits, waits-undelivered}
 use Rattle.tables.specs.Checks.{Check, GoodMessage, InTurn, Limits, WellFormed, firstCaught, sameChannel, waits}
 use Rattle.tables.specs.Lists.{any}
 use Rattle.tables.specs.Table.{Message, Table, countOf, messageCount, messageOf, mostCheckpoints, mostMessages, noMessage, processCount}

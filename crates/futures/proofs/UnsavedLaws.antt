@@ -14,7 +14,7 @@ use Rattle.consistency.specs.Ceilings.{recoveryLine}
 use Rattle.consistency.specs.Lines.{asLine}
 use Rattle.futures.proofs.FutureLaws.{checkpoint-grown}
 use Rattle.futures.proofs.KeptLaws.{Ordered, listed-any, listed-at, select-listed, select-ordered}
-use Rattle.futures.proofs.OrderLaws.{OlderListed, channel-on, neighbours-rise, undelivered-waits, waits-undelivered}
+use Rattle.futures.proofs.OrderLaws.{OlderListed, neighbours-rise}
 use Rattle.futures.proofs.StepLaws.{Waiting, checkpoint-count-here, checkpoint-step, putBack-after, receipt-count, receipt-known, receipt-of-nothing}
 use Rattle.futures.proofs.StepLaws.{receipt-older, receipt-quiet, receipt-receives, receive-step, receivedAt-listed, receives-message}
 use Rattle.futures.proofs.StepLaws.{receives-messages, recovery-latest, rollback-count, rollback-each, rollback-message, step-cases, waits-for}
@@ -25,7 +25,7 @@ use Rattle.futures.specs.Steps.{afterCheckpoint, afterReceipt, afterRoll
 use Rattle.futures.specs.Steps.{rollback, stays, step, waitsFor}
 use Rattle.futures.specs.Unsaved.{Receipts, Unsaved, waitingUpTo}
 use Rattle.tables.proofs.ListLaws.{and-left, and-right, select-gap, select-more}
-use Rattle.tables.proofs.TurnLaws.{channel-same, one-channel}
+use Rattle.tables.proofs.TurnLaws.{channel-on, channel-same, one-channel, undelivered-waits, waits-undelivered}
 use Rattle.tables.specs.Checks.{WellFormed, firstCaught, sameChannel, waits}
 use Rattle.tables.specs.Lists.{any, anyBelow, select}
 use Rattle.tables.specs.Table.{Message, Table, countOf, messageCount, messageOf, processCount}

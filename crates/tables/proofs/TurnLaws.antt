@@ -1,6 +1,7 @@
 -- Channels that deliver in turn (check 23).
 --     one-channel, channel-same            two messages of one channel, and their processes
---     waits-read                           a message that waits
+--     channel-on                           of three messages, the first and the last have one channel
+--     waits-read, waits-undelivered, undelivered-waits    a message that waits
 --     turn-read, turn-quiet, turn-on       out of turn or in turn; in turn behind one that is in turn
 --     broken-ext, broken-on                the same messages are broken alike, and with further ones
 --     turns-read, turns-quiet              check 23 is quiet just where the messages of each channel are in turn
@@ -30,10 +31,26 @@ module _ (m later : Message) where
   unfolding sameChannel
   channel-same senders receivers = rw (eq-eqb (m .sender) (later .sender) senders, eq-eqb (m .receiver) (later .receiver) receivers)
 
--- ---- a message that waits, by its receipt number as it was read
-pub waits-read : (m : Message) {r : ℕ} → r ≡ m .received → waits m ≡ eqb r 0
-unfolding waits
-waits-read m e = ap (λ (x : ℕ). eqb x 0) (sym e)
+pub channel-on : (a b c : Message) → sameChannel a b ≡ true → sameChannel b c ≡ true → sameChannel a c ≡ true
+channel-on a b c first then =
+    let ab = one-channel a b first in
+    let bc = one-channel b c then in
+    channel-same a c (ab .0 ∙ bc .0) (ab .1 ∙ bc .1)
+
+-- ---- a message that waits
+module _ (m : Message) where
+  -- by its receipt number, as it was read
+  pub waits-read : {r : ℕ} → r ≡ m .received → waits m ≡ eqb r 0
+  unfolding waits
+  waits-read e = ap (λ (x : ℕ). eqb x 0) (sym e)
+
+  pub waits-undelivered : waits m ≡ true → m .received ≡ 0
+  unfolding waits
+  waits-undelivered e = eqb-true (m .received) 0 e
+
+  pub undelivered-waits : m .received ≡ 0 → waits m ≡ true
+  unfolding waits
+  undelivered-waits e = eq-eqb (m .received) 0 e
 
 -- ---- in turn
 -- the three tests of a pair, by whether each of the two waits
