@@ -81,7 +81,7 @@ check-spec =
     (λ c. search needs)
     (λ c. search needs)
     (λ c κs. search needs)
-    -- 5 to 9
+    -- 5 to 9, and 23
     (λ c.
     let placed = placed c in
     let whole = whole placed in
