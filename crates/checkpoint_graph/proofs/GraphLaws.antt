@@ -1,5 +1,4 @@
 -- Laws of the checkpoint graph.
---     message-in               a received message is one of the table's
 --     edge-from, edge-to       an edge of a well formed table goes from a checkpoint to a state: so no edge leads out of a new state
 --     leads-to                 so what a state leads to is a state
 --     leads-on                 two paths, one after the other
@@ -8,19 +7,11 @@
 -- Assumes nothing.
 use mathlib.Core.Path.{_≡_, ap, subst}
 use Prim.Native.Nat.{ℕ, zero, suc, _+_, _-_, _≤_, _<_}
-use native.Mathlib.Decide.{decLt}
 use native.Mathlib.Omega.{arith}
 use Rattle.checkpoint_graph.specs.Graph.{Edge, Leads, State, StateOf, edge, received, state, then, to-next}
-use Rattle.tables.proofs.FormatLaws.{message-beyond}
+use Rattle.tables.proofs.FormatLaws.{message-in}
 use Rattle.tables.specs.Checks.{WellFormed}
 use Rattle.tables.specs.Table.{Message, Table, countOf, messageCount, messageOf, processCount}
-
-pub message-in : (t : Table) (k : ℕ) → 0 < messageOf t k .received → k < messageCount t
-message-in t k d = go (decLt k (messageCount t))
-  where
-    go : Dec (k < messageCount t) → k < messageCount t
-    go (yes l) = l
-    go (no l) = absurd (omega (arith, d, ap (λ (m : Message). m .received) (message-beyond t k (omega arith))))
 
 -- ---- paths
 pub leads-on : {t : Table} {a b c : State} → Leads t a b → Leads t b c → Leads t a c

@@ -4,12 +4,12 @@ use lines::line_under;
 use lines::put_line;
 use tables::numbers::u16_at;
 use tables::parts;
+use tables::parts::number_array;
 ghost use mathlib.Core.Path.{_≡_};
 ghost use Prim.Native.Nat.{_*_, _≤_};
 ghost use lib.ListN.{length};
 ghost use Rattle.consistency.specs.Ceilings.{aboveCounts};
 ghost use Rattle.consistency.specs.Lowering.{lineUnder};
-ghost use Rattle.tables.specs.Arrays.{arrayOf};
 ghost use Rattle.tables.specs.Checks.{tableRefusal};
 ghost use Rattle.tables.specs.Format.{decode};
 ghost use Rattle.tables.specs.Numbers.{putAt, u16s};
@@ -32,20 +32,6 @@ pub fn above_counts(table: &[u8], ceilings: &[u16]) -> bool
     false
 }
 
-// Ceilings as an array, as a line is held.
-pub fn ceiling_array(ceilings: &[u16]) -> [u16; 32]
-    requires { ⌜ length (now ceilings) ≤ mostProcesses ⌝ }
-    ensures { λ r. ⌜ r ≡ arrayOf (now (ceilings .entry)) ⌝ }
-{
-    let mut ceiling = [0u16; 32];
-    let mut p = 0;
-    while p < ceilings.len() {
-        ceiling[p] = ceilings[p];
-        p += 1;
-    }
-    ceiling
-}
-
 // Writes the line under N ceilings in an accepted table to the front of a buffer that has room for it.
 pub fn put_line_under(table: &[u8], ceilings: &[u16], answer: &mut [u8])
     requires { ⌜ tableRefusal (now table) ≡ 0 ⌝ }
@@ -54,5 +40,5 @@ pub fn put_line_under(table: &[u8], ceilings: &[u16], answer: &mut [u8])
     ensures { λ _. ⌜ now (answer .exit) ≡ putAt (now (answer .entry)) 0
         (u16s (lineUnder (decode (now (table .entry)) .messages) (now (ceilings .entry)))) ⌝ }
 {
-    put_line(table, line_under(table, ceiling_array(ceilings)), answer);
+    put_line(table, line_under(table, number_array(ceilings)), answer);
 }

@@ -3,7 +3,6 @@
 --     under-length, under-below     the line under a ceiling
 --     ceiling-length, ceiling-at    the ceiling of a set, process by process
 --     set-ceiling                   it is a ceiling
---     orphan-in                     an orphan is a message of the table
 --     set-latest, set-length, set-below    the line of a set is the latest one under its ceiling
 --     counts-consistent, counts-latest    the counts are a consistent line, and the line under themselves
 --     line-of-none                  the line of the empty set is the counts
@@ -27,7 +26,7 @@ use Rattle.consistency.proofs.LoweringLaws.{line-is, line-latest, line-
 use Rattle.consistency.specs.Ceilings.{Ceiling, Holders, aboveCounts, ceilingOf, lineOf, single}
 use Rattle.consistency.specs.Lines.{AtOrBelow, Consistent, Latest, Line, Orphan, asLine}
 use Rattle.consistency.specs.Lowering.{lineUnder}
-use Rattle.tables.proofs.FormatLaws.{count-beyond, message-beyond}
+use Rattle.tables.proofs.FormatLaws.{count-beyond, message-in}
 use Rattle.tables.proofs.ListLaws.{anyBelow-none, getD-tabulate, length-tabulate, none-below}
 use Rattle.tables.specs.Checks.{WellFormed}
 use Rattle.tables.specs.Lists.{tabulate}
@@ -105,19 +104,11 @@ module _ (t : Table) (holds : Holders) where
   unfolding lineOf
   set-below = under-below t (ceilingOf t holds) set-ceiling
 
--- an orphan is a message of the table
-pub orphan-in : (t : Table) (k : ℕ) (l : Line) → Orphan (messageOf t k) l → k < messageCount t
-orphan-in t k l o = go (decLt k (messageCount t))
-  where
-    go : Dec (k < messageCount t) → k < messageCount t
-    go (yes b) = b
-    go (no b) = absurd (omega (arith, o .delivered, ap (λ (m : Message). m .received) (message-beyond t k (omega arith))))
-
 -- every message of a well formed table was sent before its sender's virtual checkpoint
 module _ (t : Table) (w : WellFormed t) where
   pub counts-consistent : Consistent (t .messages) (countOf t)
   unfolding messageOf
-  counts-consistent k o = omega (arith, o .sent-after, w .good-messages k (orphan-in t k (countOf t) o) .sent-below)
+  counts-consistent k o = omega (arith, o .sent-after, w .good-messages k (message-in t k (o .delivered)) .sent-below)
 
   pub counts-latest : Latest (t .messages) (countOf t) (countOf t)
   counts-latest = record { under = λ p. le-refl (countOf t p); consistent = counts-consistent; latest = λ other below _. below }

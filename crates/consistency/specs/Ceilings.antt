@@ -1,5 +1,5 @@
--- Ceilings; the ceiling of processes that do not checkpoint (that hold), their line, and the recovery line. Assumes
--- nothing.
+-- Ceilings; the ceiling of processes that do not checkpoint (that hold), their line, the recovery line, and the lines
+-- of single holders. Assumes nothing.
 use mathlib.Core.Bool.{Bool, cond, true}
 use mathlib.Core.List.{List}
 use mathlib.Core.Path.{_≡_}
@@ -8,7 +8,7 @@ use lib.Dec.{eqb, ltb}
 use lib.ListN.{length}
 use Rattle.consistency.specs.Lines.{AtOrBelow, asLine}
 use Rattle.consistency.specs.Lowering.{lineUnder}
-use Rattle.tables.specs.Lists.{anyBelow, tabulate}
+use Rattle.tables.specs.Lists.{anyBelow, rows, tabulate}
 use Rattle.tables.specs.Table.{Table, countOf, processCount}
 
 -- A ceiling of a run, the ceilings of its processes in docs/MANUAL.md: a number for each process, the latest at which
@@ -42,3 +42,11 @@ recoveryLine t = lineOf t (λ p. true)
 -- The set of one process.
 unfoldable pub single : ℕ → Holders
 single k p = eqb p k
+
+-- The line whose holding set is process k alone.
+unfoldable pub holderLine : Table → ℕ → List ℕ
+holderLine t k = lineOf t (single k)
+
+-- The N lines of single holders, each of N numbers, one after another: the line of process 0 first.
+unfoldable pub holderLines : Table → List ℕ
+holderLines t = rows (holderLine t) (processCount t)

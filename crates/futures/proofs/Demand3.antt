@@ -15,11 +15,12 @@ use Prim.Native.Nat.{ℕ, _<_}
 use lib.ListN.{length, getD}
 use Rattle.futures.proofs.NeedLaws.{checkpoint-all-back, checkpoint-need-kept, kept-on-held, kept-open, message-all-back, message-need-kept}
 use Rattle.futures.proofs.NeedLaws.{on-held-kept, open-kept}
-use Rattle.futures.proofs.KeptLaws.{checkpoints-listed, listed-at, messages-listed}
+use Rattle.keep_sheet.proofs.KeptLaws.{checkpoints-listed, listed-at, messages-listed}
 use Rattle.futures.proofs.WitnessLaws.{checkpoint-kept-needed, message-kept-needed}
-use Rattle.futures.specs.Demand3.{Demand3, Listed}
+use Rattle.futures.specs.Demand3.{Demand3}
+use Rattle.tables.specs.Lists.{Listed}
 use Rattle.futures.specs.Futures.{CheckpointNeeded, FollowedTo, Future, MessageNeeded, NeedsCheckpoint, NeedsMessage, StillThere, endOf}
-use Rattle.futures.specs.Sheet.{Checkpoint, keepsCheckpoint, keepsMessage, keptCheckpoints, keptMessages}
+use Rattle.keep_sheet.specs.Sheet.{Checkpoint, keepsCheckpoint, keepsMessage, keptCheckpoints, keptMessages}
 use Rattle.tables.specs.Checks.{WellFormed}
 use Rattle.tables.specs.Table.{Table, countOf, messageCount, messageOf}
 

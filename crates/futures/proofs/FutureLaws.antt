@@ -17,22 +17,22 @@ use mathlib.Core.List.{List, [], _∷_, _++_}
 use mathlib.Core.Logic.{_↔_, _⊎_}
 use mathlib.Core.Path.{_≡_, refl, sym, ap, _∙_, subst, subst⁻¹}
 use Prim.Native.Nat.{ℕ, _≤_, _<_}
-use native.Mathlib.Decide.{decLt, ℕ-discrete}
+use native.Mathlib.Decide.{ℕ-discrete}
 use native.Mathlib.Nat.{le-refl}
 use native.Mathlib.Omega.{arith}
 use lib.Dec.{eqb}
 use lib.ListN.{length, take}
 use Rattle.consistency.specs.Ceilings.{recoveryLine}
 use Rattle.consistency.specs.Lines.{AtOrBelow, asLine}
-use Rattle.futures.proofs.StepLaws.{Receives, checkpoint-receives, putBack-receiver, putBack-sender, putBack-sent, receipt-receives, receipt-waiting}
-use Rattle.futures.proofs.StepLaws.{receivedAt-listed, receivedAt-unlisted, receives-message, receives-messages, rollback-count, rollback-message}
-use Rattle.futures.proofs.StepLaws.{rollback-order, rollback-place, send-count, send-message-new, send-message-old, send-messages, step-cases}
-use Rattle.futures.proofs.StepLaws.{step-well-formed}
+use Rattle.steps.proofs.StepLaws.{Receives, checkpoint-receives, putBack-receiver, putBack-sender, putBack-sent, receipt-receives, receipt-waiting}
+use Rattle.steps.proofs.StepLaws.{receivedAt-listed, receivedAt-unlisted, receives-message, receives-messages, rollback-count, rollback-message}
+use Rattle.steps.proofs.StepLaws.{rollback-order, rollback-place, send-count, send-message-new, send-message-old, send-messages, step-cases}
+use Rattle.steps.proofs.StepLaws.{step-well-formed}
 use Rattle.futures.specs.Futures.{FollowedTo, Future, NeedsCheckpoint, NeedsMessage, Place, StepKeeps, StillThere, at-position, endOf, gone, moved}
 use Rattle.futures.specs.Futures.{placeOf}
-use Rattle.futures.specs.Steps.{Step, afterCheckpoint, afterReceipt, afterRollback, afterSend, checkpoint, putBack, receiptChecks, receive, receivedAt}
-use Rattle.futures.specs.Steps.{remaining, rollback, send, sendChecks, stays, step}
-use Rattle.tables.proofs.FormatLaws.{count-beyond, message-beyond}
+use Rattle.steps.specs.Steps.{Step, afterCheckpoint, afterReceipt, afterRollback, afterSend, checkpoint, putBack, receiptChecks, receive, receivedAt}
+use Rattle.steps.specs.Steps.{remaining, rollback, send, sendChecks, stays, step}
+use Rattle.tables.proofs.FormatLaws.{known-process, message-beyond}
 use Rattle.tables.specs.Checks.{WellFormed, firstCaught}
 use Rattle.tables.specs.Lists.{any}
 use Rattle.tables.specs.Table.{Message, Table, countOf, messageCount, messageOf, processCount}
@@ -43,14 +43,6 @@ end-well-formed t w [] = w
 end-well-formed t w (s ∷ rest) = end-well-formed (step t s) (step-well-formed t w s) rest
 
 -- ---- one step
--- a process that has a checkpoint is one of the table's
-pub known-process : (t : Table) (i c : ℕ) → c < countOf t i → i < processCount t
-known-process t i c b = go (decLt i (processCount t))
-  where
-    go : Dec (i < processCount t) → i < processCount t
-    go (yes l) = l
-    go (no l) = absurd (omega (arith, count-beyond t i (omega arith)))
-
 -- A message after a step, or after several, is the one that it was but for its receipt.
 pub record SameMessage (m m′ : Message) : Type 0 where
   pub sender-same : m′ .sender ≡ m .sender

@@ -1,9 +1,6 @@
--- The laws of steps, futures and the sheet.
---     OrderLaws      the list of a receipt or a checkpoint: what it passes over, and how it rises
---     StepLaws       what each step does
+-- The laws of futures.
 --     FutureLaws     what a list of steps keeps of the run that it starts from
 --     HeldLaws       held lines, and how they move over the steps
---     KeptLaws       what the sheet's lists hold, and their order
 --     NeedLaws       what a future needs is on the sheet
 --     WitnessLaws    what is on the sheet some future needs
 --     UnsavedLaws    messages that were received and are unsaved
@@ -11,9 +8,6 @@
 pub mod Demand3
 pub mod FutureLaws
 pub mod HeldLaws
-pub mod KeptLaws
 pub mod NeedLaws
-pub mod OrderLaws
-pub mod StepLaws
 pub mod UnsavedLaws
 pub mod WitnessLaws

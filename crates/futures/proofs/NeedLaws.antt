@@ -18,11 +18,12 @@ use Rattle.consistency.specs.Lines.{AtOrBelow, Line, asLine}
 use Rattle.futures.proofs.FutureLaws.{Grown, MovedTo, checkpoint-grown, followed-first, followed-here, moved-inside, rolled-message, rolled-to}
 use Rattle.futures.proofs.FutureLaws.{receipt-grown, same-position, send-grown, step-keeps-count}
 use Rattle.futures.proofs.HeldLaws.{Held, held-above, held-attained, held-before, set-held}
-use Rattle.futures.proofs.KeptLaws.{Across, HolderWith, keeps-checkpoint, keeps-message}
-use Rattle.futures.proofs.StepLaws.{putBack-before, recovery-latest, rollback-line, stays-sent, step-well-formed}
+use Rattle.keep_sheet.proofs.KeptLaws.{Across, HolderWith, keeps-checkpoint, keeps-message}
+use Rattle.steps.proofs.StepLaws.{putBack-before, recovery-latest, rollback-line, stays-sent, step-well-formed}
 use Rattle.futures.specs.Futures.{FollowedTo, Future, NeedsCheckpoint, NeedsMessage, StepKeeps, StillThere, at-position, endOf, moved}
-use Rattle.futures.specs.Sheet.{holderLine, keepsCheckpoint, keepsMessage}
-use Rattle.futures.specs.Steps.{Step, afterRollback, checkpoint, putBack, receive, rollback, send, step}
+use Rattle.consistency.specs.Ceilings.{holderLine}
+use Rattle.keep_sheet.specs.Sheet.{keepsCheckpoint, keepsMessage}
+use Rattle.steps.specs.Steps.{Step, afterRollback, checkpoint, putBack, receive, rollback, send, step}
 use Rattle.tables.specs.Checks.{WellFormed}
 use Rattle.tables.specs.Table.{Message, Table, countOf, messageCount, messageOf}
 

@@ -13,16 +13,17 @@ use lib.ListN.{length, getD, take}
 use Rattle.consistency.specs.Ceilings.{recoveryLine}
 use Rattle.consistency.specs.Lines.{asLine}
 use Rattle.futures.proofs.FutureLaws.{checkpoint-grown}
-use Rattle.futures.proofs.KeptLaws.{Ordered, listed-any, listed-at, select-listed, select-ordered}
-use Rattle.futures.proofs.OrderLaws.{OlderListed, neighbours-rise}
-use Rattle.futures.proofs.StepLaws.{Waiting, checkpoint-count-here, checkpoint-step, putBack-after, receipt-count, receipt-known, receipt-of-nothing}
-use Rattle.futures.proofs.StepLaws.{receipt-older, receipt-quiet, receipt-receives, receive-step, receivedAt-listed, receives-message}
-use Rattle.futures.proofs.StepLaws.{receives-messages, recovery-latest, rollback-count, rollback-each, rollback-message, step-cases, waits-for}
-use Rattle.futures.proofs.StepLaws.{withReceipt}
+use Rattle.keep_sheet.proofs.KeptLaws.{Ordered, listed-any, listed-at, select-listed, select-ordered}
+use Rattle.steps.proofs.OrderLaws.{OlderListed, neighbours-rise}
+use Rattle.steps.proofs.StepLaws.{Waiting, checkpoint-count-here, checkpoint-step, putBack-after, receipt-count, receipt-known, receipt-of-nothing}
+use Rattle.steps.proofs.StepLaws.{receipt-older, receipt-quiet, receipt-receives, receive-step, receivedAt-listed, receives-message}
+use Rattle.steps.proofs.StepLaws.{receives-messages, recovery-latest, rollback-count, rollback-each, rollback-message, step-cases, waits-for}
+use Rattle.steps.proofs.StepLaws.{withReceipt}
 use Rattle.futures.specs.Futures.{FollowedTo, StepKeeps, StillThere, endOf, moved, placeOf}
-use Rattle.futures.specs.Sheet.{crosses, holderLine, keepsMessage}
-use Rattle.futures.specs.Steps.{afterCheckpoint, afterReceipt, afterRollback, checkpoint, notRising, receiptChecks, receive, remaining}
-use Rattle.futures.specs.Steps.{rollback, stays, step, waitsFor}
+use Rattle.keep_sheet.specs.Sheet.{crosses, keepsMessage}
+use Rattle.consistency.specs.Ceilings.{holderLine}
+use Rattle.steps.specs.Steps.{afterCheckpoint, afterReceipt, afterRollback, checkpoint, notRising, receiptChecks, receive, remaining, rollback, stays}
+use Rattle.steps.specs.Steps.{step, waitsFor}
 use Rattle.futures.specs.Unsaved.{Receipts, Unsaved, waitingUpTo}
 use Rattle.tables.proofs.ListLaws.{and-left, and-right, select-gap, select-more}
 use Rattle.tables.proofs.TurnLaws.{channel-on, channel-same, one-channel, undelivered-waits, waits-undelivered}

@@ -22,13 +22,14 @@ use Rattle.consistency.proofs.CeilingLaws.{ceiling-at, ceiling-length, line-of-
 use Rattle.consistency.specs.Ceilings.{Holders, ceilingOf, lineOf, recoveryLine, single}
 use Rattle.consistency.specs.Lines.{asLine}
 use Rattle.consistency.specs.Lowering.{lineUnder}
-use Rattle.futures.proofs.KeptLaws.{Across, HolderWith, keeps-checkpoint, keeps-message}
-use Rattle.futures.proofs.StepLaws.{checkpoint-count-here, checkpoint-count-other, checkpoint-receives, checkpoint-step}
-use Rattle.futures.proofs.StepLaws.{nothing-quiet, receipt-of-nothing}
+use Rattle.keep_sheet.proofs.KeptLaws.{Across, HolderWith, keeps-checkpoint, keeps-message}
+use Rattle.steps.proofs.StepLaws.{checkpoint-count-here, checkpoint-count-other, checkpoint-receives, checkpoint-step, nothing-quiet}
+use Rattle.steps.proofs.StepLaws.{receipt-of-nothing}
 use Rattle.futures.specs.Futures.{CheckpointNeeded, FollowedTo, Future, MessageNeeded, NeedsCheckpoint, NeedsMessage, StepKeeps, StillThere, endOf}
 use Rattle.futures.specs.Futures.{moved, placeOf}
-use Rattle.futures.specs.Sheet.{holderLine, keepsCheckpoint, keepsMessage}
-use Rattle.futures.specs.Steps.{afterCheckpoint, checkpoint, step}
+use Rattle.consistency.specs.Ceilings.{holderLine}
+use Rattle.keep_sheet.specs.Sheet.{keepsCheckpoint, keepsMessage}
+use Rattle.steps.specs.Steps.{afterCheckpoint, checkpoint, step}
 use Rattle.tables.specs.Checks.{WellFormed}
 use Rattle.tables.specs.Table.{Message, Table, countOf, messageCount, messageOf, noMessage, processCount}
 

@@ -1,17 +1,11 @@
 -- Demand 3 (docs/MANUAL.md, "The keep sheet"): what any future needs is on the sheet, and what is on the sheet some
 -- future needs. Assumes nothing.
-use mathlib.Core.List.{List}
 use mathlib.Core.Logic.{_↔_}
-use mathlib.Core.Path.{_≡_}
-use Prim.Native.Nat.{ℕ, _<_}
-use lib.ListN.{length, getD}
+use Prim.Native.Nat.{ℕ}
 use Rattle.futures.specs.Futures.{CheckpointNeeded, MessageNeeded}
-use Rattle.futures.specs.Sheet.{Checkpoint, keptCheckpoints, keptMessages}
+use Rattle.keep_sheet.specs.Sheet.{Checkpoint, keptCheckpoints, keptMessages}
+use Rattle.tables.specs.Lists.{Listed}
 use Rattle.tables.specs.Table.{Table}
-
--- An entry is listed where it stands at some position of the list.
-unfoldable pub Listed : {A : Type 0} → A → List A → Type 0
-Listed x l = (n : ℕ) × (n < length l) × (getD l n x ≡ x)
 
 -- Checkpoint c of process i is listed just when some future needs it, and the message at position k just when some
 -- future needs it.

@@ -9,7 +9,7 @@ use Prim.Native.Nat.{ℕ, _≤_, _<_}
 use lib.ListN.{length, take}
 use Rattle.consistency.specs.Ceilings.{recoveryLine}
 use Rattle.consistency.specs.Lines.{asLine}
-use Rattle.futures.specs.Steps.{Step, checkpoint, receive, remaining, rollback, send, stays, step}
+use Rattle.steps.specs.Steps.{Step, checkpoint, receive, remaining, rollback, send, stays, step}
 use Rattle.tables.specs.Table.{Table, countOf, messageCount, messageOf}
 
 -- A future: any finite list of steps, the empty one included.

@@ -7,8 +7,9 @@ use Prim.Native.Nat.{ℕ, _+_, _<_}
 use Rattle.consistency.specs.Ceilings.{recoveryLine}
 use Rattle.consistency.specs.Lines.{asLine}
 use Rattle.futures.specs.Futures.{FollowedTo, StillThere, endOf}
-use Rattle.futures.specs.Sheet.{crosses, holderLine, keepsMessage}
-use Rattle.futures.specs.Steps.{checkpoint, receiptChecks, receive, rollback, stays, step, waitsFor}
+use Rattle.keep_sheet.specs.Sheet.{crosses, keepsMessage}
+use Rattle.consistency.specs.Ceilings.{holderLine}
+use Rattle.steps.specs.Steps.{checkpoint, receiptChecks, receive, rollback, stays, step, waitsFor}
 use Rattle.tables.specs.Checks.{firstCaught, sameChannel, waits}
 use Rattle.tables.specs.Lists.{anyBelow, select}
 use Rattle.tables.specs.Table.{Table, countOf, messageCount, messageOf, processCount}

@@ -1,1 +1,1 @@
-// Steps, futures and what they need: definitions and laws, and no code.
+// Futures and what they need: definitions and laws, and no code.

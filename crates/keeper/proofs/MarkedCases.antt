@@ -20,9 +20,10 @@ use Rattle.tables.specs.Table.{countOf, messageCount, messageOf, processCount}
 use Rattle.consistency.specs.Ceilings.{aboveCounts, ceilingOf, lineOf, recoveryLine, single}
 use Rattle.consistency.specs.Lowering.{isOrphan, lineUnder, lower, pass, passes}
 use Rattle.process_set.specs.Sets.{highBit, member}
-use Rattle.futures.specs.Steps.{afterCheckpoint, afterReceipt, afterRollback, badPosition, notRising, notRisingAfter, passesOver, putBack, receiptChecks}
-use Rattle.futures.specs.Steps.{receivedAt, remaining, stays, waitsFor}
-use Rattle.futures.specs.Sheet.{crosses, holderLine, keepsCheckpoint, keepsMessage, keptCheckpoints, keptMessages, sheet}
+use Rattle.steps.specs.Steps.{afterCheckpoint, afterReceipt, afterRollback, badPosition, notRising, notRisingAfter, passesOver, putBack}
+use Rattle.steps.specs.Steps.{receiptChecks, receivedAt, remaining, stays, waitsFor}
+use Rattle.keep_sheet.specs.Sheet.{crosses, keepsCheckpoint, keepsMessage, keptCheckpoints, keptMessages, sheet}
+use Rattle.consistency.specs.Ceilings.{holderLine}
 use Rattle.keeper.specs.Answers.{answer, unless}
 use Rattle.keeper.specs.Calls.{checkpointAnswer, keepSheetAnswer, lineAnswer, lineOfSetAnswer, lineUnderAnswer, markedLineAnswer, receiptAnswer}
 use Rattle.keeper.specs.Calls.{recoveryLineAnswer, rollbackAnswer, standTogetherAnswer, standingBytes}

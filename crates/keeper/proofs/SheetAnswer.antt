@@ -5,7 +5,7 @@ use mathlib.Core.List.{List}
 use mathlib.Core.Path.{_≡_, refl, sym, ap, _∙_}
 use Prim.Native.Nat.{ℕ, zero, suc}
 use lib.ListN.{length}
-use Rattle.futures.specs.Sheet.{holderLines}
+use Rattle.consistency.specs.Ceilings.{holderLines}
 use Rattle.keeper.proofs.AnswerLaws.{put-in-front}
 use Rattle.keeper.specs.Calls.{linesUnless, scratchAfter}
 use Rattle.refusals.proofs.RefusalLaws.{Quiet}

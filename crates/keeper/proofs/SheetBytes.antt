@@ -10,11 +10,12 @@ use native.Mathlib.Omega.{arith}
 use lib.ListN.{length, getD, drop, length-append, length-map, List·getD-append, List·getD-map}
 use lib.Seq.{getD-append-add}
 use Rattle.futures.proofs.Demand3.{demand-3}
-use Rattle.futures.proofs.FutureLaws.{known-process}
-use Rattle.futures.proofs.KeptLaws.{any-default, checkpoints-listed, keeps-checkpoint, listed-at, messages-listed}
-use Rattle.futures.specs.Demand3.{Demand3, Listed}
+use Rattle.tables.proofs.FormatLaws.{known-process}
+use Rattle.keep_sheet.proofs.KeptLaws.{any-default, checkpoints-listed, keeps-checkpoint, listed-at, messages-listed}
+use Rattle.futures.specs.Demand3.{Demand3}
+use Rattle.tables.specs.Lists.{Listed}
 use Rattle.futures.specs.Futures.{CheckpointNeeded, MessageNeeded}
-use Rattle.futures.specs.Sheet.{Checkpoint, keptCheckpoints, keptMessages, sheet}
+use Rattle.keep_sheet.specs.Sheet.{Checkpoint, keptCheckpoints, keptMessages, sheet}
 use Rattle.keeper.proofs.AnswerLaws.{put-in-front}
 use Rattle.keeper.specs.Calls.{HoldsSheet, ListsCheckpoint, ListsMessage}
 use Rattle.sheet_writer.proofs.SheetReads.{kept-few}

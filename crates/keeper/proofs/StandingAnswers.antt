@@ -16,8 +16,8 @@ use lib.ListN.{length, take}
 use Rattle.consistency.proofs.CeilingLaws.{ceiling-quiet, under-length}
 use Rattle.consistency.specs.Ceilings.{Ceiling}
 use Rattle.consistency.specs.Lines.{AtOrBelow, Line, asLine}
-use Rattle.futures.proofs.StepLaws.{rising}
-use Rattle.futures.specs.Steps.{notRising}
+use Rattle.steps.proofs.StepLaws.{rising}
+use Rattle.steps.specs.Steps.{notRising}
 use Rattle.keeper.proofs.AnswerLaws.{answered, put-in-front, refused, sixteen, too-short}
 use Rattle.keeper.proofs.LineAnswers.{numbers-read}
 use Rattle.keeper.specs.Answers.{Yields, answer, unless}

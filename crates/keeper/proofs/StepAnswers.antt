@@ -13,11 +13,11 @@ use native.Mathlib.Omega.{arith}
 use borrow.Author.Tests.{leb-false}
 use lib.ListN.{length, take, drop}
 use lib.Seq.{take-at}
-use Rattle.futures.proofs.StepLaws.{Receives, checkpoint-limits, checkpoint-step, quiet-send, receipt-known, receipt-limits, receipt-of-nothing}
-use Rattle.futures.proofs.StepLaws.{receipt-positions, receive-step, receives-messages, rollback-limits, rollback-processes, rollback-step, send-limits}
-use Rattle.futures.proofs.StepLaws.{send-messages, send-processes, send-step, step-well-formed}
-use Rattle.futures.specs.Steps.{Step, afterCheckpoint, afterReceipt, afterRollback, afterSend, checkpoint, receiptChecks, receive, rollback, send}
-use Rattle.futures.specs.Steps.{sendChecks, step}
+use Rattle.steps.proofs.StepLaws.{Receives, checkpoint-limits, checkpoint-step, quiet-send, receipt-known, receipt-limits, receipt-of-nothing}
+use Rattle.steps.proofs.StepLaws.{receipt-positions, receive-step, receives-messages, rollback-limits, rollback-processes, rollback-step, send-limits}
+use Rattle.steps.proofs.StepLaws.{send-messages, send-processes, send-step, step-well-formed}
+use Rattle.steps.specs.Steps.{Step, afterCheckpoint, afterReceipt, afterRollback, afterSend, checkpoint, receiptChecks, receive, rollback, send}
+use Rattle.steps.specs.Steps.{sendChecks, step}
 use Rattle.keeper.proofs.AnswerLaws.{put-in-front}
 use Rattle.refusals.proofs.RefusalLaws.{QuietCall, quiet-by}
 use Rattle.keeper.specs.Calls.{HoldsTable}
@@ -30,7 +30,7 @@ use Rattle.tables.specs.Checks.{Accepted, Limits, WellFormed, firstCaught, tabl
 use Rattle.tables.specs.Format.{decode, encode, tableLength}
 use Rattle.tables.specs.Numbers.{putAt}
 use Rattle.tables.specs.Table.{Table, messageCount, mostCheckpoints, mostMessages, processCount}
-use Rattle.steps.specs.Receipts.{CanReceive}
+use Rattle.step_writer.specs.Receipts.{CanReceive}
 
 -- ---- the length of the answer
 module _ (t : Table) where

@@ -10,8 +10,9 @@ use Rattle.consistency.specs.Ceilings.{ceilingOf}
 use Rattle.consistency.specs.Lines.{AtOrBelow, Latest, Line, asLine}
 use Rattle.consistency.specs.Lowering.{lineUnder}
 use Rattle.futures.specs.Futures.{CheckpointNeeded, MessageNeeded}
-use Rattle.futures.specs.Sheet.{holderLines, sheet}
-use Rattle.futures.specs.Steps.{afterCheckpoint, afterReceipt, afterRollback, afterSend}
+use Rattle.consistency.specs.Ceilings.{holderLines}
+use Rattle.keep_sheet.specs.Sheet.{sheet}
+use Rattle.steps.specs.Steps.{afterCheckpoint, afterReceipt, afterRollback, afterSend}
 use Rattle.keeper.specs.Answers.{Answer, Yields, answer}
 use Rattle.marking.specs.Procedure.{EndsWith}
 use Rattle.marks.specs.Room.{cleared, marksSize}

@@ -20,7 +20,7 @@
 // test_kit has the lines that build a table. A further call is an arm of `ask`, with LEN as its second
 // number.
 use libc::STDIN_FILENO;
-use table_writer::put_numbers;
+use number_writer::put_numbers;
 use tables::format::MOST_PROCESSES;
 use test_kit::SPACE;
 use test_kit::asked;

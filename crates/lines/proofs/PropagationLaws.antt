@@ -17,7 +17,8 @@ use native.Mathlib.Omega.{arith}
 use borrow.Author.Tests.{eqb-true, eq-eqb, ne-eqb, le-leb, lt-leb, lt-ltb}
 use lib.Dec.{eqb, leb, ltb}
 use lib.ListN.{set, replicate}
-use Rattle.consistency.proofs.CeilingLaws.{ceiling-at, orphan-in}
+use Rattle.consistency.proofs.CeilingLaws.{ceiling-at}
+use Rattle.tables.proofs.FormatLaws.{message-in}
 use Rattle.consistency.proofs.LoweringLaws.{line-consistent}
 use Rattle.consistency.specs.Ceilings.{Holders, ceilingOf, lineOf}
 use Rattle.consistency.specs.Lines.{Orphan, asLine}
@@ -150,11 +151,11 @@ module _ (t : Table) (w : WellFormed t) where
       go k o true e =
           let m = messageOf t k in
           let last : countOf t (m .sender) - 1 ≤ m .sent = omega (arith, o .sent-after, rw e at (ceiling-at t holds (m .sender))) in
-          false≢true (sym (none (m .sender) e) ∙ anyBelow-found _ (messageCount t) k (orphan-in t k _ o)
+          false≢true (sym (none (m .sender) e) ∙ anyBelow-found _ (messageCount t) k (message-in t k (o .delivered))
           (rw (eq-eqb (m .sender) (m .sender) refl, le-leb _ _ last, lt-ltb 0 (m .received) (o .delivered))))
       go k o false e =
           let m = messageOf t k in
-          omega (arith, o .sent-after, rw e at (ceiling-at t holds (m .sender)), w .good-messages k (orphan-in t k _ o) .sent-below)
+          omega (arith, o .sent-after, rw e at (ceiling-at t holds (m .sender)), w .good-messages k (message-in t k (o .delivered)) .sent-below)
 
 pub holder-ceiling : (bytes : List ℕ) → tableRefusal bytes ≡ 0 → (k : ℕ) → propagatesFrom (decode bytes) k ≡ false
     → ceilingOf (decode bytes) (member (2 ^ k)) ≡ lineOf (decode bytes) (member (2 ^ k))

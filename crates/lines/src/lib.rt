@@ -4,8 +4,8 @@ pub mod ceilings;
 pub mod lowering;
 pub mod propagation;
 
+use number_writer::put_numbers;
 use process_set::bit;
-use table_writer::put_numbers;
 use tables::parts;
 ghost use mathlib.Core.Path.{_≡_};
 ghost use Prim.Native.Nat.{_*_, _^_, _≤_, _<_};

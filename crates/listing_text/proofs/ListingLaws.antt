@@ -16,7 +16,8 @@ use lib.ListN.{length, take, drop, getD, length-append, length-drop, length-take
 use lib.Seq.{getD-drop, take-append-seam}
 use Rattle.consistency.proofs.CeilingLaws.{set-length}
 use Rattle.consistency.specs.Ceilings.{recoveryLine}
-use Rattle.futures.specs.Sheet.{Checkpoint, holderLine, holderLines, keptCheckpoints, keptMessages, sheet}
+use Rattle.keep_sheet.specs.Sheet.{Checkpoint, keptCheckpoints, keptMessages, sheet}
+use Rattle.consistency.specs.Ceilings.{holderLine, holderLines}
 use Rattle.keeper.proofs.AnswerLaws.{answered, put-in-front, refused, too-short}
 use Rattle.refusals.proofs.RefusalLaws.{Quiet, long-scratch, table-caught}
 use Rattle.keeper.proofs.SheetBytes.{read-checkpoint, read-kept, read-logged, read-position, read-process}

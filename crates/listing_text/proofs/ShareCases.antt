@@ -4,7 +4,8 @@ use mathlib.Core.Bool.{true}
 use mathlib.Core.Path.{_≡_, refl}
 use Rattle.consistency.specs.Ceilings.{ceilingOf, lineOf, single}
 use Rattle.consistency.specs.Lowering.{isOrphan, lineUnder, lower, pass, passes}
-use Rattle.futures.specs.Sheet.{holderLine, keepsCheckpoint, keptCheckpoints}
+use Rattle.consistency.specs.Ceilings.{holderLine}
+use Rattle.keep_sheet.specs.Sheet.{keepsCheckpoint, keptCheckpoints}
 use Rattle.keeper.specs.Cases.{tableA, tableB, tableC, tableD}
 use Rattle.listing_text.specs.Listing.{share}
 use Rattle.rounding.specs.Rounding.{evenOf, roundedQuotient}

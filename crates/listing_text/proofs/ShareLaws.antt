@@ -11,7 +11,7 @@ use native.Mathlib.Decide.{decLt}
 use native.Mathlib.Omega.{arith}
 use lib.ListN.{length, getD}
 use Rattle.consistency.proofs.LoweringLaws.{sum-zero}
-use Rattle.futures.specs.Sheet.{keptCheckpoints}
+use Rattle.keep_sheet.specs.Sheet.{keptCheckpoints}
 use Rattle.rounding.proofs.RoundingLaws.{quotient-rounded, rounded-most, rounded-once}
 use Rattle.listing_text.specs.Listing.{share}
 use Rattle.rounding.specs.Rounding.{Rounded}

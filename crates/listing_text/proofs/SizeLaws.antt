@@ -10,10 +10,11 @@ use native.Mathlib.Omega.{arith}
 use lib.ListN.{length, getD, length-append}
 use Rattle.consistency.proofs.CeilingLaws.{set-below, set-length}
 use Rattle.consistency.specs.Ceilings.{Holders, lineOf, recoveryLine, single}
-use Rattle.futures.proofs.FutureLaws.{known-process}
-use Rattle.futures.proofs.KeptLaws.{checkpoints-listed, keeps-checkpoint, listed-at, messages-listed}
-use Rattle.futures.specs.Demand3.{Listed}
-use Rattle.futures.specs.Sheet.{Checkpoint, holderLine, keptCheckpoints, keptMessages}
+use Rattle.tables.proofs.FormatLaws.{known-process}
+use Rattle.keep_sheet.proofs.KeptLaws.{checkpoints-listed, keeps-checkpoint, listed-at, messages-listed}
+use Rattle.tables.specs.Lists.{Listed}
+use Rattle.keep_sheet.specs.Sheet.{Checkpoint, keptCheckpoints, keptMessages}
+use Rattle.consistency.specs.Ceilings.{holderLine}
 use Rattle.listing_text.proofs.ShareLaws.{share-most}
 use Rattle.listing_text.proofs.TextLaws.{decimal-few, each-rows, tens}
 use Rattle.listing_text.specs.Listing.{checkpointRow, holdRow, lineRow, listing, listingOf, listingUnless, messageRow, refusedRow, share, shareRow}

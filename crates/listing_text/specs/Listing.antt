@@ -4,7 +4,8 @@ use mathlib.Core.Path.{_≡_}
 use Prim.Native.Nat.{ℕ, zero, suc, _*_}
 use lib.ListN.{length}
 use Rattle.consistency.specs.Ceilings.{recoveryLine}
-use Rattle.futures.specs.Sheet.{Checkpoint, holderLine, keptCheckpoints, keptMessages}
+use Rattle.keep_sheet.specs.Sheet.{Checkpoint, keptCheckpoints, keptMessages}
+use Rattle.consistency.specs.Ceilings.{holderLine}
 use Rattle.keeper.specs.Answers.{Answer, answer}
 use Rattle.rounding.specs.Rounding.{Rounded, roundedQuotient}
 use Rattle.listing_text.specs.Text.{each, row}

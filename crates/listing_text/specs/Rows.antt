@@ -3,7 +3,8 @@ use mathlib.Core.List.{List}
 use mathlib.Core.Path.{_≡_}
 use Prim.Native.Nat.{ℕ, _+_, _*_}
 use lib.ListN.{length, take, drop}
-use Rattle.futures.specs.Sheet.{Checkpoint, holderLines, sheet}
+use Rattle.keep_sheet.specs.Sheet.{Checkpoint, sheet}
+use Rattle.consistency.specs.Ceilings.{holderLines}
 use Rattle.listing_text.specs.Listing.{checkpointRow, holdRow, messageRow}
 use Rattle.tables.specs.Lists.{rows}
 use Rattle.tables.specs.Numbers.{u16At}

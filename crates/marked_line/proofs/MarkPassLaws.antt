@@ -20,7 +20,8 @@ use native.Mathlib.Omega.{arith}
 use borrow.Author.Tests.{eq-eqb, eqb-true, le-leb, leb-true, lt-ltb, ltb-true, ne-eqb}
 use lib.Dec.{eqb, leb, ltb}
 use lib.ListN.{getD, length}
-use Rattle.checkpoint_graph.proofs.GraphLaws.{leads-carry, leads-to, message-in}
+use Rattle.checkpoint_graph.proofs.GraphLaws.{leads-carry, leads-to}
+use Rattle.tables.proofs.FormatLaws.{message-in}
 use Rattle.checkpoint_graph.specs.Graph.{Edge, Leads, State, received, state, to-next}
 use Rattle.marked_line.proofs.MarkRowLaws.{bit-in, first-read, first-there, kept-both, kept-none, lent-kept, process-few, row-below, row-end}
 use Rattle.marked_line.proofs.MarkRowLaws.{row-here, row-kept, row-onwards, row-other, row-room, row-stay}

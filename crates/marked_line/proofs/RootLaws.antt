@@ -19,7 +19,8 @@ use borrow.Author.Tests.{le-ltb, lt-ltb, ltb-true}
 use lib.Dec.{ltb}
 use lib.ListN.{getD, length, length-set, replicate, set}
 use lib.Seq.{getD-set-other, getD-set-same}
-use Rattle.checkpoint_graph.proofs.GraphLaws.{leads-up, message-in}
+use Rattle.checkpoint_graph.proofs.GraphLaws.{leads-up}
+use Rattle.tables.proofs.FormatLaws.{message-in}
 use Rattle.checkpoint_graph.specs.Graph.{received, state}
 use Rattle.marked_line.proofs.MarkRowLaws.{bit-in, first-few, first-read, first-there, kept-both, kept-none, lent-kept, process-few, row-below}
 use Rattle.marked_line.proofs.MarkRowLaws.{row-end, row-here, row-kept, row-other, row-room}

@@ -1,6 +1,5 @@
 // The line under ceilings by the marking procedure: its root set is an array by value, its marks are the bits
 // of a lent buffer.
-use chosen_ceilings::ceiling_array;
 use lines::put_line;
 use marks::clear;
 use marks::first_bits;
@@ -11,6 +10,7 @@ use marks::row_end;
 use marks::state_bit;
 use tables::numbers::u16_at;
 use tables::parts;
+use tables::parts::number_array;
 ghost use mathlib.Core.Bool.{false, _||_};
 ghost use mathlib.Core.Path.{_≡_};
 ghost use Prim.Native.Nat.{_+_, _*_, _/_, _≤_, _<_};
@@ -186,7 +186,7 @@ fn last_roots(table: &[u8], ceilings: &[u16], first: &[usize], marks: &mut [u8])
         (take (processCount (decode (now (table .entry)))) r) ⌝ }
     ensures { λ _. ⌜ Kept (decode (now (table .entry))) (now (marks .entry)) (now (marks .exit)) ⌝ }
 {
-    let mut roots = ceiling_array(ceilings);
+    let mut roots = number_array(ceilings);
     start(table, ceilings, first, &roots, marks);
     while root_marked(table, first, &roots, marks) {
         roots = next_round(table, first, &roots, marks);

@@ -18,7 +18,8 @@ use borrow.Author.Tests.{le-leb, leb-true, lt-ltb, ltb-true}
 use lib.Dec.{leb, ltb}
 use lib.ListN.{getD, length, length-set, set}
 use lib.Seq.{getD-set-other, getD-set-same}
-use Rattle.checkpoint_graph.proofs.GraphLaws.{leads-carry, leads-on, leads-to, leads-up, message-in}
+use Rattle.checkpoint_graph.proofs.GraphLaws.{leads-carry, leads-on, leads-to, leads-up}
+use Rattle.tables.proofs.FormatLaws.{message-in}
 use Rattle.checkpoint_graph.specs.Graph.{Edge, Leads, State, edge, received, state, then, to-next}
 use Rattle.consistency.proofs.LoweringLaws.{sum-falls}
 use Rattle.marking.specs.Procedure.{Marks, MarksReachable, Reachable}

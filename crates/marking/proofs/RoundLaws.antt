@@ -16,7 +16,8 @@ use native.Mathlib.Decide.{decLe, decLt, ℕ-discrete}
 use native.Mathlib.Nat.{le-refl, le-trans}
 use native.Mathlib.Omega.{arith}
 use lib.ListN.{getD, length}
-use Rattle.checkpoint_graph.proofs.GraphLaws.{leads-carry, leads-up, message-in}
+use Rattle.checkpoint_graph.proofs.GraphLaws.{leads-carry, leads-up}
+use Rattle.tables.proofs.FormatLaws.{message-in}
 use Rattle.checkpoint_graph.specs.Graph.{Edge, Leads, State, received, state, to-next}
 use Rattle.consistency.proofs.LineLaws.{orphan-free, zero-consistent}
 use Rattle.consistency.specs.Ceilings.{Ceiling}

@@ -21,7 +21,7 @@ use native.Mathlib.Omega.{arith}
 use borrow.Author.Tests.{le-leb, le-ltb, lt-leb, lt-ltb, ltb-false}
 use lib.Dec.{leb, ltb}
 use Rattle.marks.specs.Room.{marksSize}
-use Rattle.futures.specs.Steps.{receiptChecks}
+use Rattle.steps.specs.Steps.{receiptChecks}
 use Rattle.refusals.specs.CallChecks.{checkpointCallChecks, keepSheetChecks, lineUnderChecks, markedLineChecks, onTable, receiptCallChecks}
 use Rattle.tables.proofs.CheckLaws.{append-alike, append-passed, areRefusals, caught-first, caughtBy, passed, quiet-front, quiet-none, quiet-number}
 use Rattle.tables.proofs.CheckLaws.{stopped, table-refusals}

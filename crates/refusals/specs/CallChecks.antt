@@ -6,7 +6,7 @@ use Prim.Native.Nat.{ℕ, _*_}
 use lib.Dec.{eqb, leb, ltb}
 use lib.ListN.{length}
 use Rattle.consistency.specs.Ceilings.{aboveCounts}
-use Rattle.futures.specs.Steps.{notRising, receiptChecks, sendChecks}
+use Rattle.steps.specs.Steps.{notRising, receiptChecks, sendChecks}
 use Rattle.marks.specs.Room.{marksSize}
 use Rattle.process_set.specs.Sets.{highBit}
 use Rattle.tables.specs.Checks.{Check, tableChecks}

@@ -1,14 +1,14 @@
 // The refusals of the calls: the number of the first check before 16 that catches, or 0. The table's
 // checks come first, so what stands behind them judges an accepted table.
 use chosen_ceilings::above_counts;
+use list_checks::bad_position;
+use list_checks::not_rising;
+use list_checks::passes_over;
 use marks::marks_size;
 use named_checkpoints::not_below_counts;
 use named_checkpoints::unknown_process;
-use passed_over::passes_over;
 use process_set::has_high_bit;
 use run_table::checks::check;
-use steps::receipts::bad_position;
-use steps::receipts::not_rising;
 use tables::format::MOST_CHECKPOINTS;
 use tables::format::MOST_MESSAGES;
 use tables::lookups;

@@ -20,15 +20,15 @@ use lib.ListN.{length, getD, take, length-append}
 use lib.Seq.{take-all}
 use Rattle.consistency.specs.Ceilings.{recoveryLine}
 use Rattle.consistency.specs.Lines.{asLine}
-use Rattle.futures.proofs.StepLaws.{putBack-receiver, putBack-sender, putBack-sent, recovery-latest, recovery-length, rollback-count, rollback-fewer}
-use Rattle.futures.proofs.StepLaws.{rollback-place, rollback-processes, withReceipt}
-use Rattle.futures.specs.Steps.{afterRollback, putBack, remaining, stays}
+use Rattle.steps.proofs.StepLaws.{putBack-receiver, putBack-sender, putBack-sent, recovery-latest, recovery-length, rollback-count, rollback-fewer}
+use Rattle.steps.proofs.StepLaws.{rollback-place, rollback-processes, withReceipt}
+use Rattle.steps.specs.Steps.{afterRollback, putBack, remaining, stays}
 use Rattle.tables.proofs.AcceptLaws.{facts}
 use Rattle.tables.proofs.ArrayLaws.{array-at, array-front}
 use Rattle.tables.proofs.CodingLaws.{entries-append}
 use Rattle.tables.proofs.FormatLaws.{length-entries}
 use Rattle.tables.proofs.NumberLaws.{length-putAt, length-u16s, putAt-none, u16s-append}
-use Rattle.table_writer.proofs.PlaceLaws.{both-more}
+use Rattle.number_writer.proofs.PlaceLaws.{both-more}
 use Rattle.tables.proofs.ReadLaws.{ReadMessages, messages-read, processes-few, received-is, receiver-is, sender-is, sent-is}
 use Rattle.tables.specs.Arrays.{arrayOf}
 use Rattle.tables.specs.Format.{decode, entriesOf, receiptsOf, receiptsPart, sendsOf, sendsPart}

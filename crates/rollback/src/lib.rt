@@ -7,7 +7,7 @@ use tables::parts;
 ghost use mathlib.Core.Path.{_≡_};
 ghost use Prim.Native.Nat.{_+_, _*_, _≤_};
 ghost use lib.ListN.{length};
-ghost use Rattle.futures.specs.Steps.{afterRollback};
+ghost use Rattle.steps.specs.Steps.{afterRollback};
 ghost use Rattle.tables.specs.Arrays.{arrayOf};
 ghost use Rattle.tables.specs.Format.{decode, encode, receiptsOf, sendsOf, tableLength};
 ghost use Rattle.tables.specs.Numbers.{putAt, u16s};

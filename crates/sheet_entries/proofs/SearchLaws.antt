@@ -21,7 +21,7 @@ use borrow.Author.Tests.{eq-eqb, eqb-false, eqb-true, ne-eqb, lt-ltb, le-ltb}
 use lib.Dec.{eqb, ltb}
 use lib.ListN.{length, getD, set, replicate, length-append, length-map}
 use Rattle.consistency.specs.Lines.{Line}
-use Rattle.futures.specs.Sheet.{Checkpoint, crosses}
+use Rattle.keep_sheet.specs.Sheet.{Checkpoint, crosses}
 use Rattle.tables.proofs.ArrayLaws.{Filling, array-at, filling-array, filling-more, filling-none}
 use Rattle.tables.proofs.ListLaws.{anyBelow-found, anyBelow-more, anyBelow-none, found-below, getD-tabulate, length-tabulate, none-below}
 use Rattle.tables.proofs.ListLaws.{rows-more, select-gap, select-more, select-skip, select-small}

@@ -6,7 +6,7 @@ use mathlib.Core.Path.{_≡_}
 use Prim.Native.Nat.{ℕ, zero, suc, min, _≤_, _<_}
 use lib.Dec.{eqb}
 use Rattle.consistency.specs.Lines.{Line}
-use Rattle.futures.specs.Sheet.{Checkpoint, crosses}
+use Rattle.keep_sheet.specs.Sheet.{Checkpoint, crosses}
 use Rattle.tables.specs.Arrays.{arrayOf}
 use Rattle.tables.specs.Format.{countAt, messageAt}
 use Rattle.tables.specs.Lists.{anyBelow, rows, select, tabulate}

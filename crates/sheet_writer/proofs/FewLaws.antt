@@ -14,7 +14,8 @@ use borrow.Author.Tests.{eq-eqb, lt-ltb, ne-eqb}
 use lib.Dec.{eqb}
 use lib.ListN.{length, length-append, length-map}
 use Rattle.consistency.specs.Lines.{asLine}
-use Rattle.futures.specs.Sheet.{Checkpoint, holderLine, keepsCheckpoint, keptCheckpoints}
+use Rattle.keep_sheet.specs.Sheet.{Checkpoint, keepsCheckpoint, keptCheckpoints}
+use Rattle.consistency.specs.Ceilings.{holderLine}
 use Rattle.tables.proofs.ListLaws.{rows-sum, select-ext, select-gap, select-small, sum-same, tabulate-getD}
 use Rattle.tables.specs.Lists.{anyBelow, select, sum, tabulate}
 use Rattle.tables.specs.Table.{Table, countOf, processCount}

@@ -11,7 +11,7 @@ use Prim.Native.Nat.{ℕ, _+_, _*_, _≤_}
 use native.Mathlib.Omega.{arith}
 use denote.Ref.{RefT, now}
 use lib.ListN.{length, length-append}
-use Rattle.futures.specs.Sheet.{keptCheckpoints, sheet}
+use Rattle.keep_sheet.specs.Sheet.{keptCheckpoints, sheet}
 use Rattle.tables.proofs.NumberLaws.{length-u16s}
 use Rattle.tables.proofs.ReadLaws.{ReadMessages}
 use Rattle.tables.specs.Format.{countsPart, decode}

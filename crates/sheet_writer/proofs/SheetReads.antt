@@ -22,7 +22,8 @@ use Rattle.consistency.proofs.CeilingLaws.{set-length}
 use Rattle.consistency.specs.Ceilings.{ceilingOf, lineOf, single}
 use Rattle.consistency.specs.Lines.{Line, asLine}
 use Rattle.consistency.specs.Lowering.{lineUnder}
-use Rattle.futures.specs.Sheet.{Checkpoint, crosses, holderLine, holderLines, keepsCheckpoint, keepsMessage, keptCheckpoints, keptMessages, sheet}
+use Rattle.keep_sheet.specs.Sheet.{Checkpoint, crosses, keepsCheckpoint, keepsMessage, keptCheckpoints, keptMessages, sheet}
+use Rattle.consistency.specs.Ceilings.{holderLine, holderLines}
 use Rattle.lines.proofs.LineReads.{set-front}
 use Rattle.lines.specs.Propagation.{propagatesFrom}
 use Rattle.process_set.proofs.SetLaws.{member-one}
@@ -42,7 +43,7 @@ use Rattle.sheet_entries.specs.Kept.{checkpointsAt, checkpointsOf, columnAt, co
 use Rattle.sheet_entries.specs.Scratch.{HoldsLines, linesIn}
 use Rattle.sheet_writer.proofs.FewLaws.{checkpoints-few}
 use Rattle.sheet_writer.specs.SheetParts.{LinesOf}
-use Rattle.table_writer.proofs.WriteLaws.{Written, written-all, written-more, written-none, written-room}
+use Rattle.number_writer.proofs.WriteLaws.{Written, written-all, written-more, written-none, written-room}
 
 -- ---- the lines of single holders
 module _ (t : Table) where

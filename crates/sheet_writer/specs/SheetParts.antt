@@ -4,7 +4,8 @@ use mathlib.Core.List.{List, [], _∷_, map}
 use mathlib.Core.Path.{_≡_}
 use Prim.Native.Nat.{ℕ, _+_, _*_, _≤_}
 use lib.ListN.{length, take}
-use Rattle.futures.specs.Sheet.{holderLines, keptCheckpoints, keptMessages}
+use Rattle.consistency.specs.Ceilings.{holderLines}
+use Rattle.keep_sheet.specs.Sheet.{keptCheckpoints, keptMessages}
 use Rattle.sheet_writer.specs.declared.writing.Part.{Part}
 use Rattle.sheet_writer.specs.declared.writing.Part.the-variants.{Checkpoints, Positions, Processes, Sizes}
 use Rattle.tables.specs.Checks.{tableRefusal}

@@ -1,7 +1,5 @@
--- The laws of the code of send, receipt and checkpoint.
---     SendLaws          what a step has read of a table; the bytes of the table after a send
---     PositionLaws      the list of a receipt or a checkpoint, and what it changes
---     ReceiptLaws       the bytes of the table after a receipt or a checkpoint
-mod PositionLaws
-mod ReceiptLaws
-pub mod SendLaws
+-- The laws of steps.
+--     OrderLaws      the list of a receipt or a checkpoint: what it passes over, and how it rises
+--     StepLaws       what each step does
+pub mod OrderLaws
+pub mod StepLaws

@@ -1,3 +1,3 @@
--- What the code of a receipt and of a checkpoint is given and writes.
---     Receipts    one that can be taken, and the table after it
-pub mod Receipts
+-- How a run goes on (docs/MANUAL.md, "Steps").
+--     Steps      send, receive, checkpoint and rollback on tables
+pub mod Steps

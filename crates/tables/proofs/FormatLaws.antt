@@ -4,12 +4,14 @@
 --     decode-count, decode-message                      its entries
 --     count-place, send-place, receipt-place            where the numbers of the parts stand among the bytes
 --     count-beyond, message-beyond                      what stands beyond the last process and the last message
+--     known-process, message-in                         a process that has a checkpoint, and a message that was received, are the table's
 --     ReadSizes, count-none .. received-there           the lookups, from the numbers that the code read
 --     length-entries, encode-length                     the length of an encoded table
 -- Assumes nothing.
 use mathlib.Core.List.{List, [], _∷_, _++_}
 use mathlib.Core.Path.{_≡_, refl, sym, ap, ap₂, _∙_, subst, subst⁻¹}
 use Prim.Native.Nat.{ℕ, _+_, _*_, _<_, _≤_}
+use native.Mathlib.Decide.{decLt}
 use native.Mathlib.Nat.{add-zero}
 use native.Mathlib.Omega.{arith}
 use lib.ListN.{length, length-append, drop, length-take, length-drop, List·getD-eq-default}
@@ -77,6 +79,22 @@ count-beyond t p l = List·getD-eq-default (t .counts) 0 l
 pub message-beyond : (t : Table) (k : ℕ) → messageCount t ≤ k → messageOf t k ≡ noMessage
 unfolding messageOf messageCount
 message-beyond t k l = List·getD-eq-default (t .messages) noMessage l
+
+-- a process that has a checkpoint is one of the table's
+pub known-process : (t : Table) (i c : ℕ) → c < countOf t i → i < processCount t
+known-process t i c b = go (decLt i (processCount t))
+  where
+    go : Dec (i < processCount t) → i < processCount t
+    go (yes l) = l
+    go (no l) = absurd (omega (arith, count-beyond t i (omega arith)))
+
+-- a message that was received is one of the table's
+pub message-in : (t : Table) (k : ℕ) → 0 < messageOf t k .received → k < messageCount t
+message-in t k d = go (decLt k (messageCount t))
+  where
+    go : Dec (k < messageCount t) → k < messageCount t
+    go (yes l) = l
+    go (no l) = absurd (omega (arith, d, ap (λ (m : Message). m .received) (message-beyond t k (omega arith))))
 
 -- ---- the lookups of a decoded table, from the numbers that the code read of any bytes
 pub record ReadSizes (bytes : List ℕ) (n m : ℕ) : Type 0 where

@@ -1,7 +1,9 @@
 -- Lists that are given by their entries, and searches in lists and among numbers. Assumes nothing.
 use mathlib.Core.Bool.{Bool, cond, false, _||_}
 use mathlib.Core.List.{List, [], _∷_, _++_}
-use Prim.Native.Nat.{ℕ, zero, suc, _+_}
+use mathlib.Core.Path.{_≡_}
+use Prim.Native.Nat.{ℕ, zero, suc, _+_, _<_}
+use lib.ListN.{length, getD}
 
 -- The list of n entries whose entry k is f k.
 unfoldable pub tabulate : {A : Type 0} → ℕ → (ℕ → A) → List A
@@ -27,6 +29,10 @@ any test (x ∷ rest) = test x || any test rest
 unfoldable pub anyBelow : ℕ → (ℕ → Bool) → Bool
 anyBelow zero test = false
 anyBelow (suc n) test = test n || anyBelow n test
+
+-- An entry is listed where it stands at some position of the list.
+unfoldable pub Listed : {A : Type 0} → A → List A → Type 0
+Listed x l = (n : ℕ) × (n < length l) × (getD l n x ≡ x)
 
 -- The sum of a list.
 unfoldable pub sum : List ℕ → ℕ

@@ -5,10 +5,12 @@ use crate::format::receipts_at;
 use crate::format::sends_at;
 use crate::numbers::u16_at;
 ghost use mathlib.Core.Path.{_≡_};
+ghost use Prim.Native.Nat.{_≤_};
+ghost use lib.ListN.{length};
 ghost use Rattle.tables.specs.Arrays.{arrayOf};
 ghost use Rattle.tables.specs.Checks.{tableRefusal};
 ghost use Rattle.tables.specs.Format.{countsPart, decode, receiptsPart, sendsPart};
-ghost use Rattle.tables.specs.Table.{messageCount, processCount};
+ghost use Rattle.tables.specs.Table.{messageCount, mostProcesses, processCount};
 
 // N.
 pub fn process_count(table: &[u8]) -> usize
@@ -49,6 +51,20 @@ pub fn count_array(table: &[u8]) -> [u16; 32]
         p += 1;
     }
     counts
+}
+
+// A number for each process, at most 32 of them, as an array.
+pub fn number_array(numbers: &[u16]) -> [u16; 32]
+    requires { ⌜ length (now numbers) ≤ mostProcesses ⌝ }
+    ensures { λ r. ⌜ r ≡ arrayOf (now (numbers .entry)) ⌝ }
+{
+    let mut array = [0u16; 32];
+    let mut p = 0;
+    while p < numbers.len() {
+        array[p] = numbers[p];
+        p += 1;
+    }
+    array
 }
 
 // The sends.

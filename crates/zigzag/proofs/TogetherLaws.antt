@@ -19,9 +19,10 @@ use borrow.Author.Tests.{eq-eqb, eqb-true, not-false}
 use lib.Dec.{eqb}
 use lib.ListN.{length, getD, set}
 use lib.Seq.{getD-set-other}
-use Rattle.consistency.proofs.CeilingLaws.{orphan-in, under-below}
+use Rattle.consistency.proofs.CeilingLaws.{under-below}
 use Rattle.consistency.proofs.LoweringLaws.{line-carries, line-latest, put-back-here}
 use Rattle.consistency.specs.Lines.{AtOrBelow, Line, Orphan, asLine}
+use Rattle.tables.proofs.FormatLaws.{message-in}
 use Rattle.tables.proofs.ListLaws.{found-below, none-below}
 use Rattle.tables.specs.Checks.{WellFormed}
 use Rattle.tables.specs.Table.{Table, countOf, messageOf}
@@ -74,7 +75,7 @@ module _ {t : Table} (w : WellFormed t) {processes states : List ℕ} (names : N
           (λ (named : Named processes states (messageOf t k .sender) (asLine ceiling (messageOf t k .sender))).
           ended named (first k (record { delivered = o .delivered; by-process = refl; after = omega (arith, e, o .sent-after) })))
           (λ (count : asLine ceiling (messageOf t k .sender) ≡ countOf t (messageOf t k .sender)).
-          absurd (omega (arith, e, count, o .sent-after, w .good-messages k (orphan-in t k (asLine l) o) .sent-below)))
+          absurd (omega (arith, e, count, o .sent-after, w .good-messages k (message-in t k (o .delivered)) .sent-below)))
           (ceiling-else names (messageOf t k .sender))
 
       at-end : ChainEnd t processes states (messageOf t k .sender) (asLine l (messageOf t k .sender))

@@ -8,7 +8,7 @@ use Rattle.chosen_ceilings.proofs.put_line_under.Statement.{statement}
 use Rattle.chosen_ceilings.proofs.put_line_under.Tie as tie
 
 -- ---- the places: the entry, from where the ceilings were read; that, from where the line was put
-abbrev entry : tie.After-ceiling-array → tie.Start
+abbrev entry : tie.After-number-array → tie.Start
 entry c = c .before .before .before .before
 
 abbrev lined : tie.After-put-line → tie.After-line-under
@@ -29,4 +29,4 @@ put-line-under-spec =
     let put = c .before .before in
     let read = lined put .before in
     let asked = entry read .pre in
-    rw (under-read _ (asked .0) _ (asked .1 .0) (read .ceiling-array .ensures) _ (lined put .line-under .ensures)) at (put .put-line .ensures)))
+    rw (under-read _ (asked .0) _ (asked .1 .0) (read .number-array .ensures) _ (lined put .line-under .ensures)) at (put .put-line .ensures)))

@@ -7,7 +7,7 @@ use mathlib.Core.Path.{_≡_, refl}
 use Prim.Native.Nat.{ℕ}
 use denote.Ref.{now}
 use lib.ListN.{length}
-use Rattle.futures.specs.Sheet.{sheet}
+use Rattle.keep_sheet.specs.Sheet.{sheet}
 use Rattle.keeper.proofs.AnswerLaws.{answered, refused, sixteen, too-short}
 use Rattle.refusals.proofs.RefusalLaws.{QuietCall, quiet-call, scratch-long}
 use Rattle.keeper.proofs.SheetBytes.{sheet-holds}

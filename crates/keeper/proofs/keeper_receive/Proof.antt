@@ -2,7 +2,7 @@
 -- Assumes nothing.
 use borrow.Author.Needs.{needs}
 use denote.Ref.{now}
-use Rattle.futures.proofs.StepLaws.{receipt-receives}
+use Rattle.steps.proofs.StepLaws.{receipt-receives}
 use Rattle.keeper.proofs.AnswerLaws.{answered, refused, sixteen, too-short}
 use Rattle.refusals.proofs.RefusalLaws.{QuietCall, quiet-receiving}
 use Rattle.keeper.proofs.StepAnswers.{can-receive, receipt-taken, received-bytes, received-room, table-holds}

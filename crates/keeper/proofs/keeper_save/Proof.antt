@@ -2,7 +2,7 @@
 -- Assumes nothing.
 use borrow.Author.Needs.{needs}
 use denote.Ref.{now}
-use Rattle.futures.proofs.StepLaws.{checkpoint-receives}
+use Rattle.steps.proofs.StepLaws.{checkpoint-receives}
 use Rattle.keeper.proofs.AnswerLaws.{answered, refused, sixteen, too-short}
 use Rattle.refusals.proofs.RefusalLaws.{QuietCall, quiet-checkpoint, quiet-receipt}
 use Rattle.keeper.proofs.StepAnswers.{can-receive, checkpoint-taken, received-bytes, received-room, table-holds}

@@ -3,7 +3,7 @@
 use borrow.Author.Needs.{needs}
 use mathlib.Core.Path.{refl}
 use denote.Ref.{now}
-use Rattle.futures.specs.Steps.{sendChecks}
+use Rattle.steps.specs.Steps.{sendChecks}
 use Rattle.keeper.proofs.AnswerLaws.{answered, refused, sixteen, too-short}
 use Rattle.refusals.proofs.RefusalLaws.{QuietCall, quiet-call}
 use Rattle.keeper.proofs.StepAnswers.{send-room, send-taken, sender-known, table-holds}

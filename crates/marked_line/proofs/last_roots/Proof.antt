@@ -20,7 +20,7 @@ abbrev μ-loop : tie.MeasureT-loop
 μ-loop table ceilings first marks₀ roots₀ marks roots = sum (take (processCount (decode table)) roots)
 
 -- ---- the places: the entry, from where the ceilings were read; a round, from where it was asked whether a root is marked
-abbrev entry : tie.After-ceiling-array Inv-loop μ-loop → tie.Start Inv-loop μ-loop
+abbrev entry : tie.After-number-array Inv-loop μ-loop → tie.Start Inv-loop μ-loop
 entry c = c .before .before .before .before .before
 
 abbrev round : tie.After-root-marked Inv-loop μ-loop → tie.At-loop Inv-loop μ-loop
@@ -47,7 +47,7 @@ last-roots-spec =
     μ-loop
     (λ c κs. given-few (c .before .before .before .before .pre))
     (λ c. search needs)
-    (λ c κs. given-roots (entry (c .before .before) .pre) (c .before .before .ceiling-array .ensures))
+    (λ c κs. given-roots (entry (c .before .before) .pre) (c .before .before .number-array .ensures))
     (λ c. running-since (c .before .before .start .ensures))
     -- a round
     (λ c. search needs)

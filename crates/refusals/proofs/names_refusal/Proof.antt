@@ -7,7 +7,7 @@ use mathlib.Core.Path.{_≡_, sym, ap, _∙_}
 use denote.Ref.{now}
 use lib.Dec.{eqb}
 use lib.ListN.{length}
-use Rattle.futures.specs.Steps.{notRising}
+use Rattle.steps.specs.Steps.{notRising}
 use Rattle.named_checkpoints.proofs.NamedLaws.{parallel}
 use Rattle.refusals.proofs.RefusalLaws.{first-of, neither, own-caught, second-of, table-caught}
 use Rattle.refusals.specs.CallChecks.{standTogetherChecks}

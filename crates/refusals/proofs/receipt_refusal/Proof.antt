@@ -5,7 +5,7 @@ use mathlib.Core.Bool.{false, _||_}
 use mathlib.Core.Path.{_≡_, sym, _∙_}
 use denote.Ref.{now}
 use lib.Dec.{leb}
-use Rattle.futures.specs.Steps.{badPosition, receiptChecks, notRising}
+use Rattle.steps.specs.Steps.{badPosition, notRising, receiptChecks}
 use Rattle.refusals.proofs.RefusalLaws.{first-of, neither, own-caught, read-le, read-lt, second-of, table-caught}
 use Rattle.refusals.specs.CallChecks.{receiptCallChecks}
 use Rattle.tables.proofs.CheckLaws.{passed, quiet-none, stopped}

@@ -6,7 +6,7 @@ use mathlib.Core.Bool.{false, _||_}
 use mathlib.Core.Path.{_≡_, sym, _∙_}
 use denote.Ref.{now}
 use lib.Dec.{leb}
-use Rattle.futures.specs.Steps.{sendChecks}
+use Rattle.steps.specs.Steps.{sendChecks}
 use Rattle.refusals.proofs.RefusalLaws.{first-of, le-read, lt-read, neither, own-caught, read-le, read-lt, second-of, table-caught}
 use Rattle.refusals.specs.CallChecks.{sendCallChecks}
 use Rattle.tables.proofs.CheckLaws.{passed, quiet-none, stopped}

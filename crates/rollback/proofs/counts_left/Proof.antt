@@ -5,8 +5,8 @@ use borrow.Author.Needs.{needs}
 use mathlib.Core.Path.{sym, _∙_}
 use Prim.Native.Nat.{_-_, _≤_}
 use lib.ListN.{getD}
-use Rattle.futures.proofs.StepLaws.{rollback-processes}
-use Rattle.futures.specs.Steps.{afterRollback}
+use Rattle.steps.proofs.StepLaws.{rollback-processes}
+use Rattle.steps.specs.Steps.{afterRollback}
 use Rattle.rollback.proofs.RollbackLaws.{count-left, line-small}
 use Rattle.tables.proofs.ArrayLaws.{Filling, filling-array, filling-more, filling-none}
 use Rattle.tables.proofs.ReadLaws.{processes-few}

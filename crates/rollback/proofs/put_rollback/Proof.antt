@@ -7,10 +7,10 @@ use Prim.Native.Nat.{_≤_}
 use denote.Ref.{now}
 use lib.ListN.{length, take}
 use lib.Seq.{length-take-le}
-use Rattle.futures.proofs.StepLaws.{rollback-fewer, rollback-processes}
+use Rattle.steps.proofs.StepLaws.{rollback-fewer, rollback-processes}
 use Rattle.tables.proofs.ArrayLaws.{array-length}
 use Rattle.tables.proofs.ReadLaws.{messages-few, processes-few}
-use Rattle.table_writer.proofs.WriteLaws.{table-put}
+use Rattle.table_writer.proofs.TablePutLaws.{table-put}
 use Rattle.tables.specs.Format.{decode}
 use Rattle.rollback.proofs.RollbackLaws.{counts-front}
 use Rattle.tables.specs.Table.{mostMessages, mostProcesses}

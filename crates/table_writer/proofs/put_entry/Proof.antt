@@ -1,7 +1,7 @@
 -- `put_entry` meets its contract: one number after the other.
 -- Assumes nothing.
 use borrow.Author.Needs.{needs}
-use Rattle.table_writer.proofs.WriteLaws.{pair-put}
+use Rattle.table_writer.proofs.TablePutLaws.{pair-put}
 use Rattle.table_writer.proofs.put_entry.Statement.{statement}
 use Rattle.table_writer.proofs.put_entry.Tie as tie
 

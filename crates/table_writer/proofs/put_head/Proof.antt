@@ -1,7 +1,7 @@
 -- `put_head` meets its contract: the sizes, then the counts.
 -- Assumes nothing.
 use borrow.Author.Needs.{needs}
-use Rattle.table_writer.proofs.WriteLaws.{head-put}
+use Rattle.table_writer.proofs.TablePutLaws.{head-put}
 use Rattle.table_writer.proofs.put_head.Statement.{statement}
 use Rattle.table_writer.proofs.put_head.Tie as tie
 

@@ -3,7 +3,7 @@
 use borrow.Author.Needs.{needs}
 use native.Mathlib.Omega.{arith}
 use denote.Ref.{now}
-use Rattle.futures.proofs.StepLaws.{rollback-fewer}
+use Rattle.steps.proofs.StepLaws.{rollback-fewer}
 use Rattle.keeper.proofs.StepAnswers.{rollback-bytes}
 use Rattle.tables.proofs.ReadLaws.{messages-few, processes-few}
 use Rattle.tables.specs.Format.{decode}

@@ -1,0 +1,1 @@
+// The keep sheet: definitions and laws, and no code.
