@@ -1,10 +1,10 @@
 -- The lists of named checkpoints, as the code goes over them.
 --     parallel, place-inside                lists of which each process is known, and so has a place in an array
---     Searched, searched-none, searched-more, searched-all, searched-here    a loop that looks for a name that passes a test
---     Known, known-all, unknown-here, known-here    one that looks for a process of N or above
---     Compared, compared-none, compared-all    one that looks for a number that is not below its count
+--     Known, known-all, unknown-here, known-here    a loop that looks for a process of N or above
+--     NamedIn                               what the next two are given
+--     NamedBelow, below-all                 a loop that looks for a number that is not below its count
 --     not-below-here, below-here            what its test says
---     Putting, putting-none, putting-more, putting-all    a loop that puts the named numbers into an array of the counts
+--     NamedPut, put-none, put-more, put-all    a loop that puts the named numbers into an array of the counts
 --     line-put                              the line under that array
 --     misses-found, line-found              the line found as an array: whether it misses a name, and its first N numbers
 -- Assumes nothing.
@@ -23,12 +23,12 @@ use Rattle.consistency.specs.Lowering.{lineUnder}
 use Rattle.lines.proofs.LineReads.{array-line}
 use Rattle.named_checkpoints.specs.Lists.{Parallel}
 use Rattle.tables.proofs.ArrayLaws.{array-at, array-front, array-set}
-use Rattle.tables.proofs.ListLaws.{anyBelow-ext, anyBelow-found, anyBelow-more, none-below}
+use Rattle.tables.proofs.ListLaws.{anyBelow-ext, none-below}
 use Rattle.tables.proofs.ReadLaws.{processes-few}
+use Rattle.tables.proofs.SearchedLaws.{Searched, searched-all, searched-here, searched-more, searched-none}
 use Rattle.tables.specs.Arrays.{arrayOf}
 use Rattle.tables.specs.Checks.{tableRefusal}
 use Rattle.tables.specs.Format.{decode}
-use Rattle.tables.specs.Lists.{anyBelow}
 use Rattle.tables.specs.Table.{Table, countOf, mostProcesses, processCount}
 use Rattle.zigzag.proofs.NameLaws.{put-length}
 use Rattle.zigzag.specs.Names.{notBelowCounts, unknownNamed}
@@ -47,28 +47,6 @@ parallel t processes states e none = record {
 pub place-inside : (table : List ℕ) → tableRefusal table ≡ 0 → {processes states : List ℕ} → Parallel (processCount (decode table)) processes states
     → {k : ℕ} → k < length processes → getD processes k 0 < mostProcesses
 place-inside table accepted lists l = omega (arith, lists .known _ l, processes-few table accepted)
-
--- ---- a loop that looks for a name that passes a test
--- It has found none of the first k of n.
-pub record Searched (n : ℕ) (test : ℕ → Bool) (k : ℕ) : Type 0 where
-  pub within : k ≤ n
-  pub none : anyBelow k test ≡ false
-
-module _ {n : ℕ} {test : ℕ → Bool} where
-  pub searched-none : Searched n test 0
-  unfolding anyBelow
-  searched-none = record { within = zero-le; none = refl }
-
-  module _ {k : ℕ} (w : Searched n test k) where
-    pub searched-all : n ≤ k → false ≡ anyBelow n test
-    searched-all l = sym (w .none) ∙ ap (λ (j : ℕ). anyBelow j test) (le-antisymm (w .within) l)
-
-    module _ (l : k < n) where
-      pub searched-here : test k ≡ true → true ≡ anyBelow n test
-      searched-here passes = sym (anyBelow-found test n k l passes)
-
-      pub searched-more : test k ≡ false → Searched n test (k + 1)
-      searched-more fails = record { within = omega arith; none = anyBelow-more test k (w .none) fails }
 
 -- ---- a loop that looks for a process of N or above
 pub record Known (table processes : List ℕ) (n k : ℕ) : Type 0 where
@@ -96,75 +74,71 @@ module _ {table processes : List ℕ} {n k : ℕ} (w : Known table processes n k
 abbrev notBelow : Table → List ℕ → List ℕ → ℕ → Bool
 notBelow t processes states k = leb (countOf t (getD processes k 0)) (getD states k 0)
 
-pub record Compared (table processes states counts : List ℕ) (k : ℕ) : Type 0 where
+-- the lists, beside an accepted table
+pub record NamedIn (table processes states : List ℕ) : Type 0 where
   pub accepted : tableRefusal table ≡ 0
   pub lists : Parallel (processCount (decode table)) processes states
+
+pub record NamedBelow (table processes states counts : List ℕ) (k : ℕ) : Type 0 where
+  pub given : NamedIn table processes states
   pub counts-are : counts ≡ arrayOf (decode table .counts)
   pub searched : Searched (length processes) (notBelow (decode table) processes states) k
 
-module _ {table processes states counts : List ℕ} where
-  pub compared-none : tableRefusal table ≡ 0 → Parallel (processCount (decode table)) processes states → counts ≡ arrayOf (decode table .counts)
-      → Compared table processes states counts 0
-  compared-none accepted lists are = record { accepted = accepted; lists = lists; counts-are = are; searched = searched-none }
+module _ {table processes states counts : List ℕ} {k : ℕ} (w : NamedBelow table processes states counts k) where
+  pub below-all : length processes ≤ k → false ≡ notBelowCounts (decode table) processes states
+  unfolding notBelowCounts
+  below-all l = searched-all (w .searched) l
 
-  module _ {k : ℕ} (w : Compared table processes states counts k) where
-    pub compared-all : length processes ≤ k → false ≡ notBelowCounts (decode table) processes states
+  module _ (l : k < length processes) where
+    count-here : getD counts (getD processes k 0) 0 ≡ countOf (decode table) (getD processes k 0)
+    unfolding countOf processCount
+    count-here =
+        ap (λ (a : List ℕ). getD a (getD processes k 0) 0) (w .counts-are)
+        ∙ array-at (decode table .counts) (processes-few table (w .given .accepted)) (getD processes k 0)
+
+    pub not-below-here : getD counts (getD processes k 0) 0 ≤ getD states k 0 → true ≡ notBelowCounts (decode table) processes states
     unfolding notBelowCounts
-    compared-all l = searched-all (w .searched) l
+    not-below-here h = searched-here (w .searched) l (le-leb (countOf (decode table) (getD processes k 0)) (getD states k 0) (omega (arith, count-here)))
 
-    module _ (l : k < length processes) where
-      count-here : getD counts (getD processes k 0) 0 ≡ countOf (decode table) (getD processes k 0)
-      unfolding countOf processCount
-      count-here =
-          ap (λ (a : List ℕ). getD a (getD processes k 0) 0) (w .counts-are)
-          ∙ array-at (decode table .counts) (processes-few table (w .accepted)) (getD processes k 0)
-
-      pub not-below-here : getD counts (getD processes k 0) 0 ≤ getD states k 0 → true ≡ notBelowCounts (decode table) processes states
-      unfolding notBelowCounts
-      not-below-here h = searched-here (w .searched) l (le-leb (countOf (decode table) (getD processes k 0)) (getD states k 0) (omega (arith, count-here)))
-
-      pub below-here : getD states k 0 < getD counts (getD processes k 0) 0 → Compared table processes states counts (k + 1)
-      below-here h = record {
-        accepted = w .accepted;
-        lists = w .lists;
-        counts-are = w .counts-are;
-        searched = searched-more (w .searched) l (lt-leb (countOf (decode table) (getD processes k 0)) (getD states k 0) (omega (arith, count-here)));
-      }
+    pub below-here : getD states k 0 < getD counts (getD processes k 0) 0 → NamedBelow table processes states counts (k + 1)
+    below-here h = record {
+      given = w .given;
+      counts-are = w .counts-are;
+      searched = searched-more (w .searched) l (lt-leb (countOf (decode table) (getD processes k 0)) (getD states k 0) (omega (arith, count-here)));
+    }
 
 -- ---- a loop that puts the named numbers into an array of the counts
 -- It has put the first k.
-pub record Putting (table processes states ceiling : List ℕ) (k : ℕ) : Type 0 where
-  pub accepted : tableRefusal table ≡ 0
-  pub lists : Parallel (processCount (decode table)) processes states
+pub record NamedPut (table processes states ceiling : List ℕ) (k : ℕ) : Type 0 where
+  pub given : NamedIn table processes states
   pub within : k ≤ length processes
   pub put : ceiling ≡ arrayOf (putNamed k processes states (decode table .counts))
 
 module _ {table processes states : List ℕ} where
-  pub putting-none : tableRefusal table ≡ 0 → Parallel (processCount (decode table)) processes states
-      → {ceiling : List ℕ} → ceiling ≡ arrayOf (decode table .counts) → Putting table processes states ceiling 0
+  pub put-none : NamedIn table processes states → {ceiling : List ℕ} → ceiling ≡ arrayOf (decode table .counts)
+      → NamedPut table processes states ceiling 0
   unfolding putNamed
-  putting-none accepted lists read = record { accepted = accepted; lists = lists; within = zero-le; put = read }
+  put-none given read = record { given = given; within = zero-le; put = read }
 
-  module _ {ceiling : List ℕ} {k : ℕ} (w : Putting table processes states ceiling k) where
-    pub putting-more : k < length processes → Putting table processes states (set ceiling (getD processes k 0) (getD states k 0)) (k + 1)
+  module _ {ceiling : List ℕ} {k : ℕ} (w : NamedPut table processes states ceiling k) where
+    pub put-more : k < length processes → NamedPut table processes states (set ceiling (getD processes k 0) (getD states k 0)) (k + 1)
     unfolding putNamed processCount
-    putting-more l =
+    put-more l =
         let before : List ℕ = putNamed k processes states (decode table .counts) in
         let size : length before ≡ length (decode table .counts) = put-length processes states k (decode table .counts) in
         record {
-          accepted = w .accepted;
-          lists = w .lists;
+          given = w .given;
           within = omega arith;
           put =
               ap (λ (a : List ℕ). set a (getD processes k 0) (getD states k 0)) (w .put)
-              ∙ array-set before (getD processes k 0) (getD states k 0) (omega (arith, size, w .lists .known k l))
-              (omega (arith, size, processes-few table (w .accepted)))
+              ∙ array-set before (getD processes k 0) (getD states k 0) (omega (arith, size, w .given .lists .known k l))
+              (omega (arith, size, processes-few table (w .given .accepted)))
               ∙ ap (λ (j : ℕ). arrayOf (putNamed j processes states (decode table .counts))) (sym (add-one k));
         }
 
-    pub putting-all : length processes ≤ k → ceiling ≡ arrayOf (namedCeiling (decode table) processes states)
+    pub put-all : length processes ≤ k → ceiling ≡ arrayOf (namedCeiling (decode table) processes states)
     unfolding namedCeiling
-    putting-all l =
+    put-all l =
         w .put ∙ ap (λ (j : ℕ). arrayOf (putNamed j processes states (decode table .counts))) (le-antisymm (w .within) l)
 
 -- the line under that array

@@ -1,6 +1,7 @@
 -- The laws of this crate, for its own proofs and for the crates above.
 --     ArrayLaws     arrays of 32 numbers that begin with a list, and a loop that fills one
 --     ListLaws      lists given by their entries; searches in lists and among numbers
+--     SearchedLaws  a loop that looks for a number that passes a test
 --     NumberLaws    16-bit numbers in bytes
 --     FormatLaws    the parts of a table's bytes, and the entries of the decoded table
 --     CodingLaws    reading and writing undo each other
@@ -16,4 +17,5 @@ pub mod FormatLaws
 pub mod ListLaws
 pub mod NumberLaws
 pub mod ReadLaws
+pub mod SearchedLaws
 pub mod TurnLaws

@@ -4,12 +4,14 @@ use borrow.Author.Needs.{needs}
 use native.Mathlib.Omega.{arith}
 use Prim.Native.Nat.{_-_}
 use lib.ListN.{length}
-use Rattle.chosen_ceilings.proofs.ChosenLaws.{Compared, above-here, below-here, compared-all, compared-none}
+use Rattle.chosen_ceilings.proofs.ChosenLaws.{CeilingsBelow, above-here, below-all, below-here}
+use Rattle.tables.proofs.ReadLaws.{counts-read}
+use Rattle.tables.proofs.SearchedLaws.{searched-none}
 use Rattle.chosen_ceilings.proofs.above_counts.Statement.{statement}
 use Rattle.chosen_ceilings.proofs.above_counts.Tie as tie
 
 abbrev Inv-loop : tie.InvT-loop
-Inv-loop table ceilings counts p₀ p = Compared table ceilings counts p
+Inv-loop table ceilings counts p₀ p = CeilingsBelow table ceilings counts p
 
 abbrev μ-loop : tie.MeasureT-loop
 μ-loop table ceilings counts p₀ p = length ceilings - p
@@ -29,7 +31,7 @@ above-counts-spec =
     Inv-loop
     μ-loop
     (λ c κs. search needs)
-    (λ c. compared-none (entry c .pre .0) (entry c .pre .1) (c .counts .ensures))
+    (λ c. record { read = counts-read (entry c .pre .0) (entry c .pre .1) (c .counts .ensures); searched = searched-none })
     -- the count and the ceiling
     (λ c. omega arith)
     (λ c κs. omega arith)
@@ -45,4 +47,4 @@ above-counts-spec =
     (λ c.
     let here = turn (c .before) in
     below-here (here .before .loop .inv) (here .loop-test .taken) (c .before .before .u16-at .ensures) (c .if1 .left))
-    (λ c. compared-all (c .before .loop .inv) (c .loop-test .left)))
+    (λ c. below-all (c .before .loop .inv) (c .loop-test .left)))

@@ -7,10 +7,10 @@ use mathlib.Core.Path.{ap}
 use Prim.Native.Nat.{_-_}
 use lib.Dec.{eqb}
 use lib.ListN.{getD, length}
-use Rattle.named_checkpoints.proofs.NamedLaws.{Searched, searched-all, searched-here, searched-more, searched-none}
 use Rattle.named_checkpoints.specs.Lists.{Parallel}
 use Rattle.tables.specs.Table.{mostProcesses}
 use Rattle.zigzag.specs.Together.{misses}
+use Rattle.tables.proofs.SearchedLaws.{Searched, searched-all, searched-here, searched-more, searched-none}
 use Rattle.named_checkpoints.proofs.misses_named.Statement.{statement}
 use Rattle.named_checkpoints.proofs.misses_named.Tie as tie
 

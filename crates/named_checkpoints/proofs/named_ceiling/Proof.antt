@@ -5,13 +5,13 @@ use native.Mathlib.Omega.{arith}
 use denote.Ref.{now}
 use Prim.Native.Nat.{_-_, _<_}
 use lib.ListN.{getD, length}
-use Rattle.named_checkpoints.proofs.NamedLaws.{Putting, place-inside, putting-all, putting-more, putting-none}
+use Rattle.named_checkpoints.proofs.NamedLaws.{NamedPut, place-inside, put-all, put-more, put-none}
 use Rattle.tables.specs.Table.{mostProcesses}
 use Rattle.named_checkpoints.proofs.named_ceiling.Statement.{statement}
 use Rattle.named_checkpoints.proofs.named_ceiling.Tie as tie
 
 abbrev Inv-loop : tie.InvT-loop
-Inv-loop table processes states ceiling₀ k₀ ceiling k = Putting table processes states ceiling k
+Inv-loop table processes states ceiling₀ k₀ ceiling k = NamedPut table processes states ceiling k
 
 abbrev μ-loop : tie.MeasureT-loop
 μ-loop table processes states ceiling₀ k₀ ceiling k = length processes - k
@@ -31,7 +31,7 @@ inside : (c : tie.After-shared-slice-known4 Inv-loop μ-loop)
     → getD (now (entry (turn c .before .before) .args .processes)) (turn c .before .loop .k) 0 < mostProcesses
 inside c =
     let here = turn c in
-    place-inside _ (here .before .loop .inv .accepted) (here .before .loop .inv .lists) (here .loop-test .taken)
+    place-inside _ (here .before .loop .inv .given .accepted) (here .before .loop .inv .given .lists) (here .loop-test .taken)
 
 -- ---- the needs, in the code's course
 pub named-ceiling-spec : {M : Type 1} → statement M
@@ -41,13 +41,13 @@ named-ceiling-spec =
     Inv-loop
     μ-loop
     (λ c κs. search needs)
-    (λ c. putting-none (entry c .pre .0) (entry c .pre .1) (c .count-array .ensures))
+    (λ c. put-none (record { accepted = entry c .pre .0; lists = entry c .pre .1 }) (c .count-array .ensures))
     -- the process and the number
     (λ c. omega arith)
     (λ c. omega arith)
     (λ c. omega (arith, inside c))
     (λ c. omega arith)
-    (λ c. omega (arith, turn (named c) .before .loop .inv .lists .for-each))
+    (λ c. omega (arith, turn (named c) .before .loop .inv .given .lists .for-each))
     (λ c. omega (arith, inside (named c)))
     (λ c. inside (named c))
     -- one more is put
@@ -55,5 +55,5 @@ named-ceiling-spec =
     (λ c. omega arith)
     (λ c.
     let here = turn (named c) in
-    putting-more (here .before .loop .inv) (here .loop-test .taken))
-    (λ c. putting-all (c .before .loop .inv) (c .loop-test .left)))
+    put-more (here .before .loop .inv) (here .loop-test .taken))
+    (λ c. put-all (c .before .loop .inv) (c .loop-test .left)))

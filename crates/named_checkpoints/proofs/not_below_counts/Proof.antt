@@ -5,13 +5,14 @@ use native.Mathlib.Omega.{arith}
 use denote.Ref.{now}
 use Prim.Native.Nat.{_-_, _<_}
 use lib.ListN.{getD, length}
-use Rattle.named_checkpoints.proofs.NamedLaws.{Compared, below-here, compared-all, compared-none, not-below-here, place-inside}
+use Rattle.named_checkpoints.proofs.NamedLaws.{NamedBelow, below-all, below-here, not-below-here, place-inside}
+use Rattle.tables.proofs.SearchedLaws.{searched-none}
 use Rattle.tables.specs.Table.{mostProcesses}
 use Rattle.named_checkpoints.proofs.not_below_counts.Statement.{statement}
 use Rattle.named_checkpoints.proofs.not_below_counts.Tie as tie
 
 abbrev Inv-loop : tie.InvT-loop
-Inv-loop table processes states counts k₀ k = Compared table processes states counts k
+Inv-loop table processes states counts k₀ k = NamedBelow table processes states counts k
 
 abbrev μ-loop : tie.MeasureT-loop
 μ-loop table processes states counts k₀ k = length processes - k
@@ -31,7 +32,7 @@ inside : (c : tie.After-shared-slice-known4 Inv-loop μ-loop)
     → getD (now (entry (turn c .before .before) .args .processes)) (turn c .before .loop .k) 0 < mostProcesses
 inside c =
     let here = turn c in
-    place-inside _ (here .before .loop .inv .accepted) (here .before .loop .inv .lists) (here .loop-test .taken)
+    place-inside _ (here .before .loop .inv .given .accepted) (here .before .loop .inv .given .lists) (here .loop-test .taken)
 
 -- ---- the needs, in the code's course
 pub not-below-counts-spec : {M : Type 1} → statement M
@@ -41,7 +42,9 @@ not-below-counts-spec =
     Inv-loop
     μ-loop
     (λ c κs. search needs)
-    (λ c. compared-none (entry c .pre .0) (entry c .pre .1) (c .count-array .ensures))
+    (λ c.
+    let asked = entry c .pre in
+    record { given = record { accepted = asked .0; lists = asked .1 }; counts-are = c .count-array .ensures; searched = searched-none })
     -- the process, its count and the number
     (λ c. omega arith)
     (λ c. omega arith)
@@ -49,7 +52,7 @@ not-below-counts-spec =
     (λ c. omega (arith, inside c))
     (λ c. inside c)
     (λ c. omega arith)
-    (λ c. omega (arith, turn (named c) .before .loop .inv .lists .for-each))
+    (λ c. omega (arith, turn (named c) .before .loop .inv .given .lists .for-each))
     -- it is not below
     (λ c.
     let here = turn (named (c .before)) in
@@ -60,4 +63,4 @@ not-below-counts-spec =
     (λ c.
     let here = turn (named (c .before)) in
     below-here (here .before .loop .inv) (here .loop-test .taken) (c .if1 .left))
-    (λ c. compared-all (c .before .loop .inv) (c .loop-test .left)))
+    (λ c. below-all (c .before .loop .inv) (c .loop-test .left)))

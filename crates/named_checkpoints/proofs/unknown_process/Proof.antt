@@ -4,7 +4,8 @@ use borrow.Author.Needs.{needs}
 use native.Mathlib.Omega.{arith}
 use Prim.Native.Nat.{_-_}
 use lib.ListN.{length}
-use Rattle.named_checkpoints.proofs.NamedLaws.{Known, known-all, known-here, searched-none, unknown-here}
+use Rattle.named_checkpoints.proofs.NamedLaws.{Known, known-all, known-here, unknown-here}
+use Rattle.tables.proofs.SearchedLaws.{searched-none}
 use Rattle.named_checkpoints.proofs.unknown_process.Statement.{statement}
 use Rattle.named_checkpoints.proofs.unknown_process.Tie as tie
 

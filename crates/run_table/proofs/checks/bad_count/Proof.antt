@@ -2,13 +2,15 @@
 -- Assumes nothing.
 use native.Mathlib.Omega.{arith}
 use Prim.Native.Nat.{_-_}
-use Rattle.run_table.proofs.ScanLaws.{Passed, passed-all, passed-bad, passed-more, passed-none}
+use Rattle.run_table.proofs.ScanLaws.{bad-is}
+use Rattle.run_table.specs.EntryChecks.{badCountAt}
 use Rattle.tables.proofs.CheckLaws.{inside, outside-above, outside-zero}
+use Rattle.tables.proofs.SearchedLaws.{Searched, searched-all, searched-here, searched-more, searched-none}
 use Rattle.run_table.proofs.checks.bad_count.Statement.{statement}
 use Rattle.run_table.proofs.checks.bad_count.Tie as tie
 
 abbrev Inv-loop : tie.InvT-loop
-Inv-loop counts n p₀ p = Passed counts n p
+Inv-loop counts n p₀ p = Searched n (badCountAt counts) p
 
 abbrev μ-loop : tie.MeasureT-loop
 μ-loop counts n p₀ p = n - p
@@ -24,21 +26,22 @@ bad-count-spec =
     (tie.spec
     Inv-loop
     μ-loop
-    (λ c. passed-none)
+    (λ c. searched-none)
     (λ c. omega arith)
     (λ c κs. omega arith)
     -- it is 0
     (λ c.
     let read = c .before in
-    passed-bad (turn read .before .loop .inv) (turn read .loop-test .taken) (read .u16-at .ensures) (outside-zero _ _ (c .if1 .taken)))
+    searched-here (turn read .before .loop .inv) (turn read .loop-test .taken) (bad-is _ _ (read .u16-at .ensures) (outside-zero _ _ (c .if1 .taken))))
     -- it is above 4,096
     (λ c.
     let read = c .before .before in
-    passed-bad (turn read .before .loop .inv) (turn read .loop-test .taken) (read .u16-at .ensures) (outside-above _ _ (c .if2 .taken)))
+    searched-here (turn read .before .loop .inv) (turn read .loop-test .taken) (bad-is _ _ (read .u16-at .ensures) (outside-above _ _ (c .if2 .taken))))
     -- it is neither
     (λ c. omega arith)
     (λ c. omega arith)
     (λ c.
     let read = c .before .before in
-    passed-more (turn read .before .loop .inv) (turn read .loop-test .taken) (read .u16-at .ensures) (inside _ _ (c .before .if1 .left) (c .if2 .left)))
-    (λ c. passed-all (c .before .loop .inv) (c .loop-test .left)))
+    let good = inside _ _ (c .before .if1 .left) (c .if2 .left) in
+    searched-more (turn read .before .loop .inv) (turn read .loop-test .taken) (bad-is _ _ (read .u16-at .ensures) good))
+    (λ c. searched-all (c .before .loop .inv) (c .loop-test .left)))
