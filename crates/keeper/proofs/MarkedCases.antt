@@ -16,7 +16,7 @@ use Rattle.tables.specs.Format.{checkpointAt, countAt, countsPart, decode, enco
 use Rattle.tables.specs.Format.{receiptsPart, sendsPart}
 use Rattle.tables.specs.Lists.{any, anyBelow, rows, select, sum, tabulate}
 use Rattle.tables.specs.Numbers.{u16At, u16Bytes, u16s}
-use Rattle.tables.specs.Table.{countOf, messageCount, messageOf, processCount}
+use Rattle.tables.specs.Table.{checkpointTotal, countOf, messageCount, messageOf, processCount}
 use Rattle.consistency.specs.Ceilings.{aboveCounts, ceilingOf, lineOf, recoveryLine, single}
 use Rattle.consistency.specs.Lowering.{isOrphan, lineUnder, lower, pass, passes}
 use Rattle.process_set.specs.Sets.{highBit, member}
@@ -60,7 +60,7 @@ unfolding firstCaught outside tooShort badProcessCount tooManyMessages badLength
     outOfTurn brokenBelow brokenChannel tableChecks tableRefusal processesIn messagesIn countsPart sendsPart receiptsPart countAt processAt
     checkpointAt messageAt decode u16At u16Bytes u16s tabulate any anyBelow processCount messageCount countOf messageOf isOrphan lower pass passes sum
     lineUnder unless answer lineAnswer tableA tableB tableD nineMarks tenMarks lateReceipt answerOf sameBytes sameAnswer allHold aboveCounts
-    lineUnderChecks marksSize markedLineChecks markedLineAnswer markingCases
+    lineUnderChecks marksSize checkpointTotal markedLineChecks markedLineAnswer markingCases
 marking-cases = refl
 
 pub receipt-cases : allHold receiptCases ≡ true
@@ -69,7 +69,7 @@ unfolding firstCaught outside tooShort badProcessCount tooManyMessages badLength
     checkpointAt messageAt decode entriesOf encode u16At u16Bytes u16s tabulate any anyBelow processCount messageCount countOf messageOf ceilingOf
     lineOf recoveryLine single isOrphan lower pass passes sum lineUnder member highBit stays putBack remaining afterRollback holderLine
     keepsCheckpoint crosses keepsMessage select rows keptCheckpoints keptMessages sheet unless answer lineAnswer lineOfSetChecks lineOfSetAnswer
-    keepSheetChecks keepSheetAnswer rollbackAnswer aboveCounts lineUnderChecks marksSize markedLineChecks markedLineAnswer waitsFor badPosition
+    keepSheetChecks keepSheetAnswer rollbackAnswer aboveCounts lineUnderChecks marksSize checkpointTotal markedLineChecks markedLineAnswer waitsFor badPosition
     notRisingAfter notRising passesOver receiptChecks receivedAt afterReceipt afterCheckpoint receiptCallChecks checkpointCallChecks receiptAnswer
     checkpointAnswer tableA lateReceipt unsavedA savedA crossing oneMessage full answerOf sameBytes sameAnswer allHold receiptCases
 receipt-cases = refl

@@ -16,7 +16,7 @@ use Rattle.sheet_entries.proofs.ScratchLaws.{cell-below}
 use Rattle.tables.proofs.ListLaws.{sum-more, tabulate-getD}
 use Rattle.tables.specs.Lists.{sum, tabulate}
 use Rattle.tables.specs.Numbers.{u16At}
-use Rattle.tables.specs.Table.{Table, countOf, processCount}
+use Rattle.tables.specs.Table.{Table, checkpointTotal, countOf, processCount}
 
 pub checkpoint-read : (sheet : List ℕ) (k e : ℕ) {process number : ℕ} → process ≡ u16At sheet (4 + 2 * e)
     → number ≡ u16At sheet (4 + 2 * k + 2 * e)
@@ -53,7 +53,7 @@ module _ (t : Table) where
       number = omega (arith, h .number, ap (λ (n : ℕ). sum (tabulate n (countOf t))) (add-one p), sum-more p (countOf t));
     }
 
-    pub summed-all : processCount t ≤ p → total ≡ sum (t .counts)
-    unfolding processCount countOf
+    pub summed-all : processCount t ≤ p → total ≡ checkpointTotal t
+    unfolding processCount countOf checkpointTotal
     summed-all l =
         h .number ∙ ap (λ (n : ℕ). sum (tabulate n (countOf t))) (le-antisymm (h .within) l) ∙ ap sum (tabulate-getD (t .counts) 0)

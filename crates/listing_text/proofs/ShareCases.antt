@@ -13,14 +13,14 @@ use Rattle.listing_text.specs.ShareCases.{allPortions, allShares, portio
 use Rattle.tables.specs.Format.{checkpointAt, countAt, countsPart, decode, messageAt, messagesIn, processAt, processesIn, receiptsPart, sendsPart}
 use Rattle.tables.specs.Lists.{anyBelow, rows, select, sum, tabulate}
 use Rattle.tables.specs.Numbers.{u16At, u16Bytes, u16s}
-use Rattle.tables.specs.Table.{countOf, messageCount, messageOf, processCount}
+use Rattle.tables.specs.Table.{checkpointTotal, countOf, messageCount, messageOf, processCount}
 
 pub all-portions : allPortions portions ≡ true
 unfolding evenOf roundedQuotient allPortions portions
 all-portions = refl
 
 pub share-cases : allShares shareCases ≡ true
-unfolding evenOf roundedQuotient allShares shareCases share tableA tableB tableC tableD processesIn messagesIn countsPart sendsPart receiptsPart countAt
+unfolding evenOf roundedQuotient allShares shareCases share checkpointTotal tableA tableB tableC tableD processesIn messagesIn countsPart sendsPart receiptsPart countAt
     processAt checkpointAt messageAt decode u16At u16Bytes u16s tabulate anyBelow rows select sum processCount messageCount countOf messageOf ceilingOf
     lineOf single isOrphan lower pass passes lineUnder holderLine keepsCheckpoint keptCheckpoints
 share-cases = refl

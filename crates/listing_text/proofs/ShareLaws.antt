@@ -19,11 +19,11 @@ use Rattle.tables.proofs.AcceptLaws.{facts}
 use Rattle.tables.specs.Checks.{tableRefusal}
 use Rattle.tables.specs.Format.{decode}
 use Rattle.tables.specs.Lists.{sum}
-use Rattle.tables.specs.Table.{Table, countOf}
+use Rattle.tables.specs.Table.{Table, checkpointTotal, countOf}
 use Rattle.sheet_writer.proofs.FewLaws.{checkpoints-within}
 
-pub sum-positive : (table : List ℕ) → tableRefusal table ≡ 0 → 0 < sum (decode table .counts)
-unfolding countOf
+pub sum-positive : (table : List ℕ) → tableRefusal table ≡ 0 → 0 < checkpointTotal (decode table)
+unfolding countOf checkpointTotal
 sum-positive table accepted = go (decLt 0 (sum counts)) where
   counts : List ℕ
   counts = decode table .counts
@@ -39,12 +39,13 @@ module _ (table : List ℕ) (accepted : tableRefusal table ≡ 0) where
   abbrev t : Table
   t = decode table
 
-  pub share-rounded : Rounded (100 * length (keptCheckpoints t)) (sum (t .counts)) (share t)
+  pub share-rounded : Rounded (100 * length (keptCheckpoints t)) (checkpointTotal t) (share t)
   unfolding share
   share-rounded = quotient-rounded _ _ (sum-positive table accepted)
 
-  pub rounded-share : (n : ℕ) {k s : ℕ} → k ≡ length (keptCheckpoints t) → s ≡ sum (t .counts) → Rounded (100 * k) s n → n ≡ share t
+  pub rounded-share : (n : ℕ) {k s : ℕ} → k ≡ length (keptCheckpoints t) → s ≡ checkpointTotal t → Rounded (100 * k) s n → n ≡ share t
   rounded-share n kept total h = rounded-once _ _ (sum-positive table accepted) n (share t) (rw (kept, total) at h) share-rounded
 
   pub share-most : share t ≤ 100
+  unfolding checkpointTotal
   share-most = rounded-most _ _ (sum-positive table accepted) _ 100 share-rounded (omega (arith, checkpoints-within t))

@@ -11,8 +11,8 @@ use Rattle.rounding.specs.Rounding.{Rounded, roundedQuotient}
 use Rattle.listing_text.specs.Text.{each, row}
 use Rattle.tables.specs.Checks.{tableRefusal}
 use Rattle.tables.specs.Format.{decode}
-use Rattle.tables.specs.Lists.{rows, sum}
-use Rattle.tables.specs.Table.{Table, processCount}
+use Rattle.tables.specs.Lists.{rows}
+use Rattle.tables.specs.Table.{Table, checkpointTotal, processCount}
 
 -- `line` and a line.
 unfoldable pub lineRow : List ℕ → List ℕ
@@ -42,7 +42,7 @@ refusedRow number = row (114 ∷ 101 ∷ 102 ∷ 117 ∷ 115 ∷ 101 ∷ 100 ∷
 
 -- 100 × K divided by the sum of counts, rounded.
 unfoldable pub share : Table → ℕ
-share t = roundedQuotient (100 * length (keptCheckpoints t)) (sum (t .counts))
+share t = roundedQuotient (100 * length (keptCheckpoints t)) (checkpointTotal t)
 
 -- The listing of a table: the recovery line, the lines of single holders, what is kept, and the share.
 unfoldable pub listing : Table → List ℕ
@@ -56,7 +56,7 @@ pub record EndsInShare (t : Table) (text : List ℕ) : Type 0 where
   pub before : List ℕ
   pub percent : ℕ
   pub text-is : text ≡ before ++ shareRow percent
-  pub is-rounded : Rounded (100 * length (keptCheckpoints t)) (sum (t .counts)) percent
+  pub is-rounded : Rounded (100 * length (keptCheckpoints t)) (checkpointTotal t) percent
 
 -- A refusal of 0 is none; any other is all that is listed.
 unfoldable pub listingUnless : ℕ → List ℕ → List ℕ

@@ -18,12 +18,12 @@ ghost use Rattle.listing_text.specs.Rows.{Answered};
 ghost use Rattle.listing_text.specs.Text.{Laid};
 ghost use Rattle.tables.specs.Checks.{tableRefusal};
 ghost use Rattle.tables.specs.Format.{decode};
-ghost use Rattle.tables.specs.Lists.{sum};
+ghost use Rattle.tables.specs.Table.{checkpointTotal};
 
-// The sum of the counts of an accepted table.
-fn count_sum(table: &[u8]) -> usize
+// How many checkpoints the run of an accepted table holds.
+fn checkpoint_total(table: &[u8]) -> usize
     requires { ⌜ tableRefusal (now table) ≡ 0 ⌝ }
-    ensures { λ r. ⌜ r ≡ sum (decode (now (table .entry)) .counts) ⌝ }
+    ensures { λ r. ⌜ r ≡ checkpointTotal (decode (now (table .entry))) ⌝ }
 {
     let n = parts::process_count(table);
     let mut total = 0;
@@ -41,7 +41,7 @@ fn share_of(table: &[u8], kept: usize) -> u32
     requires { ⌜ kept ≡ length (keptCheckpoints (decode (now table))) ⌝ }
     ensures { λ r. ⌜ r ≡ share (decode (now (table .entry))) ⌝ }
 {
-    rounded_quotient(100 * kept, count_sum(table)) as u32
+    rounded_quotient(100 * kept, checkpoint_total(table)) as u32
 }
 
 // Puts the listing of an accepted table, from the lines of single holders at the front of a scratch and

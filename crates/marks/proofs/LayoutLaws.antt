@@ -25,7 +25,7 @@ use Rattle.tables.specs.Arrays.{Filled}
 use Rattle.tables.specs.Checks.{tableRefusal}
 use Rattle.tables.specs.Format.{decode}
 use Rattle.tables.specs.Lists.{sum, tabulate}
-use Rattle.tables.specs.Table.{Table, countOf, mostCheckpoints, processCount}
+use Rattle.tables.specs.Table.{Table, checkpointTotal, countOf, mostCheckpoints, processCount}
 
 module _ (counts : List ℕ) where
   pub first-none : firstBit counts 0 ≡ 0
@@ -56,7 +56,7 @@ module _ (counts : List ℕ) where
 
 module _ (t : Table) (p : ℕ) (known : p < processCount t) where
   pub process-inside : firstBit (t .counts) (suc p) ≤ 8 * marksSize t
-  unfolding marksSize processCount
+  unfolding marksSize processCount checkpointTotal
   process-inside = go (ℕ-discrete (suc p) (length (t .counts)))
     where
       room : sum (t .counts) + length (t .counts) ≤ 8 * ((sum (t .counts) + length (t .counts) + 7) / 8)
@@ -137,8 +137,8 @@ pub first-at : (t : Table) {first : List ℕ} → first ≡ tabulate 33 (firstBi
     → getD first p 0 ≡ firstBit (t .counts) p
 first-at t are p l = ap (λ (l : List ℕ). getD l p 0) are ∙ getD-tabulate 33 (firstBit (t .counts)) p 0 (omega arith)
 
-pub first-last : (t : Table) → firstBit (t .counts) (processCount t) ≡ sum (t .counts) + processCount t
-unfolding processCount
+pub first-last : (t : Table) → firstBit (t .counts) (processCount t) ≡ checkpointTotal t + processCount t
+unfolding processCount checkpointTotal
 first-last t = first-all (t .counts)
 
 module _ (table : List ℕ) (accepted : tableRefusal table ≡ 0) {first : List ℕ} {n : ℕ} (are : first ≡ tabulate 33 (firstBit (decode table .counts)))
@@ -146,7 +146,7 @@ module _ (table : List ℕ) (accepted : tableRefusal table ≡ 0) {first : List 
   pub few : n ≤ 32
   few = omega (arith, n-is, processes-few table accepted)
 
-  pub all-bits : getD first n 0 ≡ sum (decode table .counts) + processCount (decode table)
+  pub all-bits : getD first n 0 ≡ checkpointTotal (decode table) + processCount (decode table)
   all-bits = first-at (decode table) are n few ∙ ap (firstBit (decode table .counts)) n-is ∙ first-last (decode table)
 
   pub all-small : getD first n 0 ≤ mostBits

@@ -8,14 +8,15 @@ use lib.Bits.{bitOr}
 use lib.ListN.{getD, length, set}
 use Rattle.process_set.specs.Sets.{member}
 use Rattle.tables.specs.Lists.{sum, tabulate}
+use Rattle.tables.specs.Table.{mostCheckpoints, mostProcesses}
 
 -- The first bit of process p, by the counts: each process before it has its checkpoints and its new state.
 unfoldable pub firstBit : List ℕ → ℕ → ℕ
 firstBit counts p = sum (tabulate p (λ q. suc (getD counts q 0)))
 
--- No run has more: 32 processes, each with 4,096 checkpoints and its new state.
+-- No run has more: each of the most processes with the most checkpoints and its new state.
 abbrev pub mostBits : ℕ
-mostBits = 131104
+mostBits = mostProcesses * (mostCheckpoints + 1)
 
 -- Bit b of a buffer is set.
 unfoldable pub bitAt : List ℕ → ℕ → Bool

@@ -11,7 +11,7 @@ use borrow.Author.Tests.{leb-false, lt-ltb, le-ltb, eq-eqb, ne-eqb}
 use lib.Dec.{leb, ltb}
 use lib.ListN.{length, getD, take, drop}
 use Rattle.run_table.proofs.FaultLaws.{none-caught, number-there, quiet-at}
-use Rattle.run_table.specs.EntryChecks.{FirstMessage, MessageCheck, aboveAt, badCountAt, checksBelow, firstPlace, messageChecks, notBelowAt}
+use Rattle.run_table.specs.EntryChecks.{FirstMessage, MessageCheck, aboveAt, badCountAt, checksBelow, firstPlace, messageChecks, notBelowAt, noFault}
 use Rattle.run_table.specs.EntryChecks.{partsRefusal, toItselfAt, unknownAt}
 use Rattle.tables.proofs.CheckLaws.{append-passed, areRefusals, length-checked, messages-checked, not-short, passed, processes-checked}
 use Rattle.tables.proofs.CheckLaws.{quiet-none, stopped}
@@ -155,7 +155,7 @@ module _ (n m : ℕ) (counts sends receipts : List ℕ) where
 
     -- message k is: by a check of messages, or else it is out of turn
     module _ (some : k ≡ m → ⊥) where
-      broken : firstPlace messages ≡ 5 → brokenBelow m (messageAt sends receipts) ≡ true
+      broken : firstPlace messages ≡ noFault → brokenBelow m (messageAt sends receipts) ≡ true
       broken none =
           let below : k < m = omega (arith, first .within, some) in
           broken-on (messageAt sends receipts) below (first .caught below (quiet-at checks below none))

@@ -16,7 +16,7 @@ use Rattle.channels.proofs.ChannelLaws.{lasts-none, one-number}
 use Rattle.channels.proofs.NeighbourLaws.{neighbours-enough}
 use Rattle.channels.specs.Neighbours.{Lasts, behindNeighbour, channelAt}
 use Rattle.run_table.proofs.FaultLaws.{Looked, looked-none, looked-past}
-use Rattle.run_table.specs.EntryChecks.{FirstMessage, MessageCheck, Sized, checksAt, firstPlace, messageChecks, unknownAt}
+use Rattle.run_table.specs.EntryChecks.{FirstMessage, MessageCheck, Sized, checksAt, firstPlace, messageChecks, unknownAt, noFault}
 use Rattle.tables.proofs.ListLaws.{anyBelow-found, anyBelow-more}
 use Rattle.tables.specs.Checks.{brokenBelow}
 use Rattle.tables.specs.Format.{messageAt, processAt}
@@ -25,7 +25,7 @@ use Rattle.tables.specs.Parts.{MessageThere}
 use Rattle.tables.specs.Table.{Message, mostProcesses}
 
 -- the first two of a list of checks catch nothing, where the first that catches stands further back
-two-passed : (a b : Bool) (rest : ℕ) → cond a 0 (suc (cond b 0 (suc rest))) ≡ 5 → (a ≡ false) × (b ≡ false)
+two-passed : (a b : Bool) (rest : ℕ) → cond a 0 (suc (cond b 0 (suc rest))) ≡ noFault → (a ≡ false) × (b ≡ false)
 two-passed true b rest e = absurd (omega arith)
 two-passed false true rest e = absurd (omega arith)
 two-passed false false rest e = (refl, refl)
@@ -41,7 +41,7 @@ module _ {n m : ℕ} {counts sends receipts : List ℕ} (sized : Sized n m count
   message = messageAt sends receipts
 
   -- ---- a message that no check catches
-  pub message-known : {k : ℕ} → k < m → firstPlace (checksAt checks k) ≡ 5 → MessageThere mostProcesses k sends receipts
+  pub message-known : {k : ℕ} → k < m → firstPlace (checksAt checks k) ≡ noFault → MessageThere mostProcesses k sends receipts
   unfolding firstPlace unknownAt
   message-known {k} l e =
       let (sender, receiver) = two-passed (leb n (processAt sends k)) (leb n (processAt receipts k)) _ e in
@@ -57,7 +57,7 @@ module _ {n m : ℕ} {counts sends receipts : List ℕ} (sized : Sized n m count
 -- message of each channel stands.
 pub record Turned (n m : ℕ) (counts sends receipts last : List ℕ) (k : ℕ) : Type 0 where
   pub sized : Sized n m counts sends receipts
-  pub looked : Looked (messageChecks n counts sends receipts) m k 5
+  pub looked : Looked (messageChecks n counts sends receipts) m k noFault
   pub known : (q : ℕ) → q < k → MessageThere mostProcesses q sends receipts
   pub lasts : Lasts (channelAt sends receipts) k last
   pub none : anyBelow k (behindNeighbour (channelAt sends receipts) (messageAt sends receipts)) ≡ false
@@ -81,7 +81,7 @@ module _ {n m : ℕ} {counts sends receipts last : List ℕ} {k : ℕ} (w : Turn
       → anyBelow j (behindNeighbour Channel At) ≡ brokenBelow j At
   enough j known = neighbours-enough Channel At j (λ q p lq lp. one-number q p (known q lq) (known p lp))
 
-  found : (k < m → firstPlace (checksAt Checks k) ≡ 5 → brokenBelow (k + 1) At ≡ true) → FirstMessage Checks At m k
+  found : (k < m → firstPlace (checksAt Checks k) ≡ noFault → brokenBelow (k + 1) At ≡ true) → FirstMessage Checks At m k
   found caught = record {
     within = w .looked .within;
     quiet = w .looked .found;
@@ -95,10 +95,10 @@ module _ {n m : ℕ} {counts sends receipts last : List ℕ} {k : ℕ} (w : Turn
 
   -- the first check that catches message k
   module _ (l : k < m) {fault : ℕ} (is-fault : fault ≡ firstPlace (checksAt Checks k)) where
-    pub turned-fault : (fault ≡ 5 → ⊥) → FirstMessage Checks At m k
+    pub turned-fault : (fault ≡ noFault → ⊥) → FirstMessage Checks At m k
     turned-fault some = found (λ _ none. absurd (some (is-fault ∙ none)))
 
-    module _ (quiet : fault ≡ 5) where
+    module _ (quiet : fault ≡ noFault) where
       pub here : MessageThere mostProcesses k sends receipts
       here = message-known (w .sized) l (sym is-fault ∙ quiet)
 

@@ -46,6 +46,10 @@ messageChecks n counts sends receipts =
     ∷ record { catches = aboveAt counts receipts; number = 9 }
     ∷ []
 
+-- The place behind the last of them: none catches.
+abbrev pub noFault : ℕ
+noFault = 5
+
 -- Such checks of message k alone.
 abbrev pub checksAt : List MessageCheck → ℕ → List Check
 checksAt checks k = map (λ c. record { caught = c .catches k; number = c .number }) checks

@@ -19,9 +19,12 @@ ghost use Rattle.tables.specs.Lists.{anyBelow};
 ghost use Rattle.run_table.specs.EntryChecks.{FirstMessage, Sized, badCountAt, checksAt, checksBelow};
 ghost use Rattle.run_table.specs.EntryChecks.{firstPlace, messageChecks, partsRefusal, toItselfAt, unknownAt};
 
+// The place behind the checks of a message: none of them catches it.
+const NO_FAULT: usize = 5;
+
 // The numbers of the checks of a message, in checking order; behind the last, where none catches, that of a
 // message out of turn.
-const FAULTS: [u32; 6] = [6, 6, 7, 8, 9, 23];
+const FAULTS: [u32; NO_FAULT + 1] = [6, 6, 7, 8, 9, 23];
 
 // Whether one of the n counts of a part is 0 or above 4,096 (check 5).
 fn bad_count(counts: &[u8], n: usize) -> bool
@@ -73,8 +76,8 @@ fn count_for(counts: &[u8], part: &[u8], n: usize, k: usize) -> u16
     u16_at(counts, 2 * process)
 }
 
-// The place, among the checks of a message, of the first that catches message k; 5 where none does. A
-// process is known before its count is read.
+// The place, among the checks of a message, of the first that catches message k; NO_FAULT where none
+// does. A process is known before its count is read.
 fn fault_at(counts: &[u8], sends: &[u8], receipts: &[u8], n: usize, k: usize) -> usize
     requires { ⌜ length (now counts) ≡ 2 * n ⌝ }
     requires { ⌜ 4 * k + 3 < length (now sends) ⌝ }
@@ -99,7 +102,7 @@ fn fault_at(counts: &[u8], sends: &[u8], receipts: &[u8], n: usize, k: usize) ->
     if count_for(counts, receipts, n, k) < received {
         return 4;
     }
-    5
+    NO_FAULT
 }
 
 // The first of m messages that a check catches or that is out of turn, or m. An accepted table, the usual
@@ -113,7 +116,7 @@ fn first_caught(counts: &[u8], sends: &[u8], receipts: &[u8], n: usize, m: usize
     let mut last = [0u16; 1024];
     let mut k = 0;
     while k < m {
-        if fault_at(counts, sends, receipts, n, k) != 5 {
+        if fault_at(counts, sends, receipts, n, k) != NO_FAULT {
             return k;
         }
         if behind_neighbour(&mut last, sends, receipts, k) {
@@ -124,8 +127,8 @@ fn first_caught(counts: &[u8], sends: &[u8], receipts: &[u8], n: usize, m: usize
     k
 }
 
-// The place of the first check that catches one of m messages, where none catches one below `from`; 5
-// where none does. One look at each message is enough: the smallest of their places is that of the check
+// The place of the first check that catches one of m messages, where none catches one below `from`;
+// NO_FAULT where none does. One look at each message is enough: the smallest of their places is that of the check
 // that comes first.
 fn first_fault(
     counts: &[u8],
@@ -141,7 +144,7 @@ fn first_fault(
     ensures { λ r. ⌜ r ≡ firstPlace (checksBelow
         (messageChecks n (now (counts .entry)) (now (sends .entry)) (now (receipts .entry))) m) ⌝ }
 {
-    let mut first = 5;
+    let mut first = NO_FAULT;
     let mut k = from;
     while k < m {
         let fault = fault_at(counts, sends, receipts, n, k);

@@ -3,6 +3,7 @@
 use mathlib.Core.List.{List}
 use Prim.Native.Nat.{ℕ}
 use lib.ListN.{length, getD}
+use Rattle.tables.specs.Lists.{sum}
 
 -- A message: its sender and the latest checkpoint that the sender took before sending; its receiver and the first
 -- checkpoint that the receiver took after receiving. 0 there says that the message is undelivered (waiting); the
@@ -39,6 +40,10 @@ messageCount t = length (t .messages)
 -- The count of a process; 0 beyond the last one.
 unfoldable pub countOf : Table → ℕ → ℕ
 countOf t p = getD (t .counts) p 0
+
+-- How many checkpoints a run holds, of all its processes.
+unfoldable pub checkpointTotal : Table → ℕ
+checkpointTotal t = sum (t .counts)
 
 -- What stands beyond the last message: one that is undelivered, with every number 0.
 abbrev pub noMessage : Message

@@ -12,12 +12,12 @@ use Rattle.listing_text.proofs.share_of.Statement.{statement}
 use Rattle.listing_text.proofs.share_of.Tie as tie
 
 -- ---- the places: the entry, from where the counts were added
-abbrev entry : tie.After-count-sum → tie.Start
+abbrev entry : tie.After-checkpoint-total → tie.Start
 entry c = c .before .before
 
 -- ---- what is known there: the quotient is the share
 is-share : (c : tie.After-rounded-quotient) → c .rounded-quotient .result ≡ share (decode (now (entry (c .before) .args .table)))
-is-share c = rounded-share _ (entry (c .before) .pre .0) _ (entry (c .before) .pre .1) (c .before .count-sum .ensures) (c .rounded-quotient .ensures)
+is-share c = rounded-share _ (entry (c .before) .pre .0) _ (entry (c .before) .pre .1) (c .before .checkpoint-total .ensures) (c .rounded-quotient .ensures)
 
 -- ---- the needs, in the code's course
 pub share-of-spec : {M : Type 1} → statement M
@@ -27,7 +27,7 @@ share-of-spec =
     (λ c. omega (arith, c .before .pre .1, kept-few _ (c .before .pre .0) .0))
     (λ c κs. search needs)
     (λ c κs. (
-      omega (arith, sum-positive _ (entry c .pre .0), c .count-sum .ensures),
+      omega (arith, sum-positive _ (entry c .pre .0), c .checkpoint-total .ensures),
       omega (arith, entry c .pre .1, kept-few _ (entry c .pre .0) .0),
     ))
     (λ c. omega (arith, is-share c, share-most _ (entry (c .before) .pre .0)))

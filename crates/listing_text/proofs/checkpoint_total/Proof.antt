@@ -1,4 +1,4 @@
--- `count_sum` meets its contract: the loop adds one count after another.
+-- `checkpoint_total` meets its contract: the loop adds one count after another.
 -- Assumes nothing.
 use Prim.Native.Nat.{_-_, _≤_}
 use Rattle.listing_text.proofs.RowLaws.{Summed, summed-all, summed-more, summed-none}
@@ -7,8 +7,8 @@ use Rattle.tables.specs.Format.{decode}
 use Rattle.tables.specs.Table.{processCount}
 use mathlib.Core.Path.{_≡_}
 use native.Mathlib.Omega.{arith}
-use Rattle.listing_text.proofs.count_sum.Statement.{statement}
-use Rattle.listing_text.proofs.count_sum.Tie as tie
+use Rattle.listing_text.proofs.checkpoint_total.Statement.{statement}
+use Rattle.listing_text.proofs.checkpoint_total.Tie as tie
 
 -- N is the table's and small, so that the sum can't wrap.
 abbrev Inv-loop : tie.InvT-loop
@@ -18,8 +18,8 @@ abbrev μ-loop : tie.MeasureT-loop
 μ-loop table n total₀ p₀ total p = n - p
 
 -- ---- the needs, in the code's course
-pub count-sum-spec : {M : Type 1} → statement M
-count-sum-spec =
+pub checkpoint-total-spec : {M : Type 1} → statement M
+checkpoint-total-spec =
     tie.close
     (tie.spec
     Inv-loop
