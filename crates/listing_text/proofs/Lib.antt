@@ -1,5 +1,4 @@
 -- The laws of a listing's text.
---     TextLaws      text over a buffer, decimal numbers, rows
 --     ShareLaws     the share
 --     ShareCases    cases of it, by computation
 --     RowLaws       the rows as the code reads them
@@ -10,4 +9,3 @@ mod RowLaws
 pub mod ShareCases
 pub mod ShareLaws
 pub mod SizeLaws
-pub mod TextLaws

@@ -28,11 +28,11 @@ use Rattle.refusals.specs.CallChecks.{keepSheetChecks}
 use Rattle.listing_text.proofs.RowLaws.{line-in}
 use Rattle.listing_text.proofs.ShareLaws.{share-rounded}
 use Rattle.listing_text.proofs.SizeLaws.{listing-few}
-use Rattle.listing_text.proofs.TextLaws.{Left, all-left, each-rows, overlay-front}
+use Rattle.text_writer.proofs.TextLaws.{Left, all-left, each-rows, overlay-front}
 use Rattle.listing_text.specs.Listing.{EndsInShare, checkpointRow, holdRow, lineRow, listing, listingAnswer, listingOf, listingUnless}
 use Rattle.listing_text.specs.Listing.{messageRow, refusedRow, share, shareRow}
 use Rattle.listing_text.specs.Rows.{Answered, checkpointAt, checkpointRows, holdRows, lineAt, messageRows}
-use Rattle.listing_text.specs.Text.{Laid, each, overlay}
+use Rattle.text_writer.specs.Text.{Laid, each, overlay}
 use Rattle.sheet_writer.proofs.SheetReads.{entry-is, holder-length, kept-few, lines-length, lines-stand, sheet-length}
 use Rattle.sheet_entries.specs.Scratch.{HoldsLines, linesIn}
 use Rattle.tables.proofs.ArrayLaws.{array-front, array-length}

@@ -16,9 +16,9 @@ use Rattle.tables.specs.Lists.{Listed}
 use Rattle.keep_sheet.specs.Sheet.{Checkpoint, keptCheckpoints, keptMessages}
 use Rattle.consistency.specs.Ceilings.{holderLine}
 use Rattle.listing_text.proofs.ShareLaws.{share-most}
-use Rattle.listing_text.proofs.TextLaws.{decimal-few, each-rows, tens}
+use Rattle.text_writer.proofs.TextLaws.{decimal-few, each-rows, tens}
 use Rattle.listing_text.specs.Listing.{checkpointRow, holdRow, lineRow, listing, listingOf, listingUnless, messageRow, refusedRow, share, shareRow}
-use Rattle.listing_text.specs.Text.{each, field, row}
+use Rattle.text_writer.specs.Text.{each, field, row}
 use Rattle.sheet_writer.proofs.SheetReads.{kept-few}
 use Rattle.tables.proofs.AcceptLaws.{facts}
 use Rattle.tables.proofs.ListLaws.{rows-most}

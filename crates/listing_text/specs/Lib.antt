@@ -1,9 +1,7 @@
 -- What the text of a listing is.
---     Text       decimal numbers, fields and rows; text in a buffer
 --     Listing    the listing of a table
 --     ShareCases cases of the share
 --     Rows       the rows as the code reads them off a scratch and a sheet
 pub mod Listing
 pub mod Rows
 pub mod ShareCases
-pub mod Text

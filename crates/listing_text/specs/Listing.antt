@@ -8,7 +8,7 @@ use Rattle.keep_sheet.specs.Sheet.{Checkpoint, keptCheckpoints, keptMessages}
 use Rattle.consistency.specs.Ceilings.{holderLine}
 use Rattle.keeper.specs.Answers.{Answer, answer}
 use Rattle.rounding.specs.Rounding.{Rounded, roundedQuotient}
-use Rattle.listing_text.specs.Text.{each, row}
+use Rattle.text_writer.specs.Text.{each, row}
 use Rattle.tables.specs.Checks.{tableRefusal}
 use Rattle.tables.specs.Format.{decode}
 use Rattle.tables.specs.Lists.{rows}

@@ -1,6 +1,5 @@
 // The text of the listing of a run table.
 pub mod rows;
-pub mod text;
 
 use keeper::keeper_keep_sheet;
 use lines::recovery_line;
@@ -15,7 +14,7 @@ ghost use Rattle.keep_sheet.specs.Sheet.{keptCheckpoints};
 ghost use Rattle.keeper.specs.Answers.{Yields};
 ghost use Rattle.listing_text.specs.Listing.{EndsInShare, listing, listingAnswer, listingOf, share};
 ghost use Rattle.listing_text.specs.Rows.{Answered};
-ghost use Rattle.listing_text.specs.Text.{Laid};
+ghost use Rattle.text_writer.specs.Text.{Laid};
 ghost use Rattle.tables.specs.Checks.{tableRefusal};
 ghost use Rattle.tables.specs.Format.{decode};
 ghost use Rattle.tables.specs.Table.{checkpointTotal};

@@ -1,16 +1,16 @@
 // The rows of a listing, from what the calls left in a scratch and in the bytes of a sheet.
-use crate::text::put_byte;
-use crate::text::put_field;
-use crate::text::put_fields;
-use crate::text::put_word;
 use tables::numbers::u16_at;
+use text_writer::put_byte;
+use text_writer::put_field;
+use text_writer::put_fields;
+use text_writer::put_word;
 ghost use mathlib.Core.List.{_∷_, []};
 ghost use Prim.Native.Nat.{_+_, _*_, _≤_, _<_};
 ghost use lib.ListN.{length};
 ghost use Rattle.listing_text.specs.Listing.{lineRow};
 ghost use Rattle.listing_text.specs.Rows.{checkpointRows, holdRows, messageRows};
 ghost use Rattle.sheet_entries.specs.Scratch.{HoldsLines};
-ghost use Rattle.listing_text.specs.Text.{Fits, Laid, row};
+ghost use Rattle.text_writer.specs.Text.{Fits, Laid, row};
 
 // Puts a row of one number.
 pub fn put_row(text: &mut [u8], at: usize, word: &[u8], n: u32) -> usize

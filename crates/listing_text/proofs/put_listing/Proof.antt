@@ -1,7 +1,7 @@
 -- `put_listing` meets its contract: each part is put where the one before it ends.
 -- Assumes nothing.
 use Rattle.listing_text.proofs.ListingLaws.{Reading, holds-lines, kept-is, line-room, line-taken, listing-left, sheet-long, sheet-needs}
-use Rattle.listing_text.proofs.TextLaws.{none-left, part-laid, part-room}
+use Rattle.text_writer.proofs.TextLaws.{none-left, part-laid, part-room}
 use Rattle.listing_text.specs.Listing.{shareRow}
 use denote.Ref.{now}
 use mathlib.Core.List.{[]}

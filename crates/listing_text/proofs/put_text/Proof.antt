@@ -2,7 +2,7 @@
 -- Assumes nothing.
 use Rattle.listing_text.proofs.ListingLaws.{accepted-text, refused-text}
 use Rattle.listing_text.proofs.SizeLaws.{refused-few}
-use Rattle.listing_text.proofs.TextLaws.{laid-same}
+use Rattle.text_writer.proofs.TextLaws.{laid-same}
 use Rattle.listing_text.specs.Listing.{refusedRow}
 use Rattle.tables.specs.Checks.{tableRefusal}
 use denote.Ref.{now}

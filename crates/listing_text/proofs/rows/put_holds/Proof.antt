@@ -2,7 +2,7 @@
 -- Assumes nothing.
 use Prim.Native.Nat.{_-_}
 use Rattle.listing_text.proofs.RowLaws.{line-in, line-part}
-use Rattle.listing_text.proofs.TextLaws.{Laying, laying-all, laying-length, laying-more, laying-none, laying-room}
+use Rattle.text_writer.proofs.TextLaws.{Laying, laying-all, laying-length, laying-more, laying-none, laying-room}
 use Rattle.listing_text.specs.Listing.{holdRow}
 use Rattle.listing_text.specs.Rows.{holdRows, lineAt}
 use Rattle.sheet_entries.specs.Scratch.{HoldsLines}

@@ -1,6 +1,6 @@
 -- `rows::put_long_row` meets its contract: the word, a number, the others, the line feed.
 -- Assumes nothing.
-use Rattle.listing_text.proofs.TextLaws.{none-left, part-laid, part-room, row-more}
+use Rattle.text_writer.proofs.TextLaws.{none-left, part-laid, part-room, row-more}
 use mathlib.Core.List.{[]}
 use borrow.Author.Needs.{needs}
 use Rattle.listing_text.proofs.rows.put_long_row.Statement.{statement}

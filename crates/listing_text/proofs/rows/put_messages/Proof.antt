@@ -1,7 +1,7 @@
 -- `rows::put_messages` meets its contract: the loop puts one row after another.
 -- Assumes nothing.
 use Prim.Native.Nat.{_+_, _-_, _*_}
-use Rattle.listing_text.proofs.TextLaws.{Laying, laying-all, laying-length, laying-more, laying-none, laying-room}
+use Rattle.text_writer.proofs.TextLaws.{Laying, laying-all, laying-length, laying-more, laying-none, laying-room}
 use Rattle.listing_text.specs.Listing.{messageRow}
 use Rattle.listing_text.specs.Rows.{messageRows}
 use Rattle.tables.specs.Numbers.{u16At}

@@ -1,6 +1,6 @@
 -- `rows::put_row` meets its contract: the word, the field, the line feed.
 -- Assumes nothing.
-use Rattle.listing_text.proofs.TextLaws.{none-left, part-laid, part-room, row-one}
+use Rattle.text_writer.proofs.TextLaws.{none-left, part-laid, part-room, row-one}
 use mathlib.Core.List.{[]}
 use borrow.Author.Needs.{needs}
 use Rattle.listing_text.proofs.rows.put_row.Statement.{statement}

@@ -1,18 +1,18 @@
--- `text::put_decimal` meets its contract: the number falls at each call.
+-- `put_decimal` meets its contract: the number falls at each call.
 -- Assumes nothing.
-use Rattle.listing_text.proofs.TextLaws.{laid-length, more-digits, none-left, one-digit, part-laid, part-room}
+use Rattle.text_writer.proofs.TextLaws.{laid-length, more-digits, none-left, one-digit, part-laid, part-room}
 use mathlib.Core.List.{[]}
 use mathlib.Core.Path.{_∙_}
 use native.Mathlib.Omega.{arith}
 use Prim.Native.Nat.{ℕ, _<_}
 use borrow.Fn.Kinds.{In}
 use borrow.Fn.PlainCycle.{Measures, is, falls, and}
-use Rattle.listing_text.proofs.text.put_decimal.Reads as put-decimal
-use Rattle.listing_text.proofs.text.put_decimal.Kinds as put-decimal-kinds
-use Rattle.listing_text.proofs.text.+put_decimal.Lts-put_decimal as put-decimal-lts
-use Rattle.listing_text.proofs.text.put_byte.Reads as put-byte-reads
-use Rattle.listing_text.proofs.text.+put_decimal.{statement}
-use Rattle.listing_text.proofs.text.+put_decimal.Tie.{close}
+use Rattle.text_writer.proofs.put_decimal.Reads as put-decimal
+use Rattle.text_writer.proofs.put_decimal.Kinds as put-decimal-kinds
+use Rattle.text_writer.proofs.+put_decimal.Lts-put_decimal as put-decimal-lts
+use Rattle.text_writer.proofs.put_byte.Reads as put-byte-reads
+use Rattle.text_writer.proofs.+put_decimal.{statement}
+use Rattle.text_writer.proofs.+put_decimal.Tie.{close}
 
 abbrev μ-put-decimal : Measures 1 put-decimal-kinds.ps ℕ
 μ-put-decimal κs a = a .1 .1 .0

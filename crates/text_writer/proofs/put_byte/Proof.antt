@@ -1,10 +1,10 @@
--- `text::put_byte` meets its contract.
+-- `put_byte` meets its contract.
 -- Assumes nothing.
-use Rattle.listing_text.proofs.TextLaws.{laid-beyond, laid-byte}
+use Rattle.text_writer.proofs.TextLaws.{laid-beyond, laid-byte}
 use native.Mathlib.Omega.{arith}
 use borrow.Author.Needs.{needs}
-use Rattle.listing_text.proofs.text.put_byte.Statement.{statement}
-use Rattle.listing_text.proofs.text.put_byte.Tie as tie
+use Rattle.text_writer.proofs.put_byte.Statement.{statement}
+use Rattle.text_writer.proofs.put_byte.Tie as tie
 
 returns : tie.Need-returns
 returns c = laid-beyond _ _ _ (c .if1 .taken)

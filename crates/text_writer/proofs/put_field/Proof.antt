@@ -1,10 +1,10 @@
--- `text::put_field` meets its contract: a space, and the number.
+-- `put_field` meets its contract: a space, and the number.
 -- Assumes nothing.
-use Rattle.listing_text.proofs.TextLaws.{field-parts, none-left, part-laid, part-room}
+use Rattle.text_writer.proofs.TextLaws.{field-parts, none-left, part-laid, part-room}
 use mathlib.Core.List.{[]}
 use borrow.Author.Needs.{needs}
-use Rattle.listing_text.proofs.text.put_field.Statement.{statement}
-use Rattle.listing_text.proofs.text.put_field.Tie as tie
+use Rattle.text_writer.proofs.put_field.Statement.{statement}
+use Rattle.text_writer.proofs.put_field.Tie as tie
 
 -- ---- the places: the entry, and where the space was put
 abbrev entry : tie.After-put-byte → tie.Start

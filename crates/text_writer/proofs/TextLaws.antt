@@ -16,7 +16,7 @@ use native.Mathlib.Nat.{le-antisymm}
 use native.Mathlib.Omega.{arith}
 use lib.Dec.{ltb}
 use lib.ListN.{length, drop, getD, set, length-append}
-use Rattle.listing_text.specs.Text.{Fits, Laid, decimal, digits, each, field, overlay, row}
+use Rattle.text_writer.specs.Text.{Fits, Laid, decimal, digits, each, field, overlay, row}
 use Rattle.tables.proofs.ListLaws.{rows-more, rows-room}
 use Rattle.tables.specs.Lists.{rows}
 

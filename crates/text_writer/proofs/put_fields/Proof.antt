@@ -1,13 +1,13 @@
--- `text::put_fields` meets its contract: the loop puts one field after another.
+-- `put_fields` meets its contract: the loop puts one field after another.
 -- Assumes nothing.
 use Prim.Native.Nat.{_-_}
-use Rattle.listing_text.proofs.TextLaws.{Laying, each-rows, laying-all, laying-length, laying-more, laying-none, laying-room}
-use Rattle.listing_text.specs.Text.{each, field}
+use Rattle.text_writer.proofs.TextLaws.{Laying, each-rows, laying-all, laying-length, laying-more, laying-none, laying-room}
+use Rattle.text_writer.specs.Text.{each, field}
 use lib.ListN.{getD, length}
 use mathlib.Core.Path.{refl, sym}
 use native.Mathlib.Omega.{arith}
-use Rattle.listing_text.proofs.text.put_fields.Statement.{statement}
-use Rattle.listing_text.proofs.text.put_fields.Tie as tie
+use Rattle.text_writer.proofs.put_fields.Statement.{statement}
+use Rattle.text_writer.proofs.put_fields.Tie as tie
 
 abbrev Inv-loop : tie.InvT-loop
 Inv-loop text₀ at numbers next₀ i₀ text next i = Laying (λ k. field (getD numbers k 0)) (length numbers) (each field numbers) text₀ at text next i

@@ -1,13 +1,13 @@
--- `text::put_word` meets its contract: the loop puts one letter after another.
+-- `put_word` meets its contract: the loop puts one letter after another.
 -- Assumes nothing.
 use Prim.Native.Nat.{_-_}
-use Rattle.listing_text.proofs.TextLaws.{Laying, laying-all, laying-length, laying-more, laying-none, laying-room, letters}
+use Rattle.text_writer.proofs.TextLaws.{Laying, laying-all, laying-length, laying-more, laying-none, laying-room, letters}
 use lib.ListN.{getD, length}
 use mathlib.Core.List.{_∷_, []}
 use mathlib.Core.Path.{refl}
 use native.Mathlib.Omega.{arith}
-use Rattle.listing_text.proofs.text.put_word.Statement.{statement}
-use Rattle.listing_text.proofs.text.put_word.Tie as tie
+use Rattle.text_writer.proofs.put_word.Statement.{statement}
+use Rattle.text_writer.proofs.put_word.Tie as tie
 
 abbrev Inv-loop : tie.InvT-loop
 Inv-loop text₀ at word next₀ i₀ text next i = Laying (λ k. getD word k 0 ∷ []) (length word) word text₀ at text next i

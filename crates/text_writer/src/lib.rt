@@ -2,7 +2,7 @@
 // beyond the end of the buffer is counted and not written, so that an empty buffer measures a text.
 ghost use mathlib.Core.List.{_∷_, []};
 ghost use Prim.Native.Nat.{_+_, _<_};
-ghost use Rattle.listing_text.specs.Text.{Fits, Laid, decimal, each, field};
+ghost use Rattle.text_writer.specs.Text.{Fits, Laid, decimal, each, field};
 
 // Puts a byte.
 pub fn put_byte(text: &mut [u8], at: usize, byte: u8) -> usize
