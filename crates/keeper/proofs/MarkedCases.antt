@@ -15,7 +15,7 @@ use Rattle.tables.specs.Checks.{sameChannel, tableChecks, tableRefusal, toItsel
 use Rattle.tables.specs.Format.{checkpointAt, countAt, countsPart, decode, encode, entriesOf, messageAt, messagesIn, processAt, processesIn}
 use Rattle.tables.specs.Format.{receiptsPart, sendsPart}
 use Rattle.tables.specs.Lists.{any, anyBelow, rows, select, sum, tabulate}
-use Rattle.tables.specs.Numbers.{u16At, u16Bytes, u16s}
+use Rattle.tables.specs.Numbers.{bytesOf, bytesOfAll, numberAt}
 use Rattle.tables.specs.Table.{checkpointTotal, countOf, messageCount, messageOf, processCount}
 use Rattle.consistency.specs.Ceilings.{aboveCounts, ceilingOf, lineOf, recoveryLine, single}
 use Rattle.consistency.specs.Lowering.{isOrphan, lineUnder, lower, pass, passes}
@@ -40,7 +40,7 @@ use Rattle.keeper.specs.Cases.{crossing, full, oneMessage, receiptCases,
 pub marked-cases : allHold markedCases ≡ true
 unfolding firstCaught outside tooShort badProcessCount tooManyMessages badLength badCount unknownProcess toItself badSend badReceipt sameChannel waits
     outOfTurn brokenBelow brokenChannel tableChecks tableRefusal processesIn messagesIn countsPart sendsPart receiptsPart countAt processAt
-    checkpointAt messageAt decode entriesOf encode u16At u16Bytes u16s tabulate any anyBelow processCount messageCount countOf messageOf ceilingOf
+    checkpointAt messageAt decode entriesOf encode numberAt bytesOf bytesOfAll tabulate any anyBelow processCount messageCount countOf messageOf ceilingOf
     lineOf recoveryLine single isOrphan lower pass passes sum lineUnder member highBit stays putBack remaining afterRollback holderLine
     keepsCheckpoint crosses keepsMessage select rows keptCheckpoints keptMessages sheet unless answer lineAnswer recoveryLineAnswer lineOfSetChecks
     lineOfSetAnswer keepSheetChecks keepSheetAnswer rollbackAnswer tableA tableB tableC tableD lateReceipt lateSend answerOf sameBytes sameAnswer
@@ -50,7 +50,7 @@ marked-cases = refl
 pub ceiling-cases : allHold ceilingCases ≡ true
 unfolding firstCaught outside tooShort badProcessCount tooManyMessages badLength badCount unknownProcess toItself badSend badReceipt sameChannel waits
     outOfTurn brokenBelow brokenChannel tableChecks tableRefusal processesIn messagesIn countsPart sendsPart receiptsPart countAt processAt
-    checkpointAt messageAt decode u16At u16Bytes u16s tabulate any anyBelow processCount messageCount countOf messageOf isOrphan lower pass passes sum
+    checkpointAt messageAt decode numberAt bytesOf bytesOfAll tabulate any anyBelow processCount messageCount countOf messageOf isOrphan lower pass passes sum
     lineUnder unless answer lineAnswer tableA tableB tableD lateReceipt answerOf sameBytes sameAnswer allHold aboveCounts lineUnderChecks
     lineUnderAnswer ceilingCases
 ceiling-cases = refl
@@ -58,7 +58,7 @@ ceiling-cases = refl
 pub marking-cases : allHold markingCases ≡ true
 unfolding firstCaught outside tooShort badProcessCount tooManyMessages badLength badCount unknownProcess toItself badSend badReceipt sameChannel waits
     outOfTurn brokenBelow brokenChannel tableChecks tableRefusal processesIn messagesIn countsPart sendsPart receiptsPart countAt processAt
-    checkpointAt messageAt decode u16At u16Bytes u16s tabulate any anyBelow processCount messageCount countOf messageOf isOrphan lower pass passes sum
+    checkpointAt messageAt decode numberAt bytesOf bytesOfAll tabulate any anyBelow processCount messageCount countOf messageOf isOrphan lower pass passes sum
     lineUnder unless answer lineAnswer tableA tableB tableD nineMarks tenMarks lateReceipt answerOf sameBytes sameAnswer allHold aboveCounts
     lineUnderChecks marksSize checkpointTotal markedLineChecks markedLineAnswer markingCases
 marking-cases = refl
@@ -66,7 +66,7 @@ marking-cases = refl
 pub receipt-cases : allHold receiptCases ≡ true
 unfolding firstCaught outside tooShort badProcessCount tooManyMessages badLength badCount unknownProcess toItself badSend badReceipt sameChannel waits
     outOfTurn brokenBelow brokenChannel tableChecks tableRefusal processesIn messagesIn countsPart sendsPart receiptsPart countAt processAt
-    checkpointAt messageAt decode entriesOf encode u16At u16Bytes u16s tabulate any anyBelow processCount messageCount countOf messageOf ceilingOf
+    checkpointAt messageAt decode entriesOf encode numberAt bytesOf bytesOfAll tabulate any anyBelow processCount messageCount countOf messageOf ceilingOf
     lineOf recoveryLine single isOrphan lower pass passes sum lineUnder member highBit stays putBack remaining afterRollback holderLine
     keepsCheckpoint crosses keepsMessage select rows keptCheckpoints keptMessages sheet unless answer lineAnswer lineOfSetChecks lineOfSetAnswer
     keepSheetChecks keepSheetAnswer rollbackAnswer aboveCounts lineUnderChecks marksSize checkpointTotal markedLineChecks markedLineAnswer waitsFor badPosition
@@ -77,7 +77,7 @@ receipt-cases = refl
 pub channel-cases : allHold channelCases ≡ true
 unfolding firstCaught outside tooShort badProcessCount tooManyMessages badLength badCount unknownProcess toItself badSend badReceipt sameChannel waits
     outOfTurn brokenBelow brokenChannel tableChecks tableRefusal processesIn messagesIn countsPart sendsPart receiptsPart countAt processAt
-    checkpointAt messageAt decode entriesOf encode u16At u16Bytes u16s tabulate any anyBelow processCount messageCount countOf messageOf highBit
+    checkpointAt messageAt decode entriesOf encode numberAt bytesOf bytesOfAll tabulate any anyBelow processCount messageCount countOf messageOf highBit
     unless answer lineAnswer lineOfSetChecks lineOfSetAnswer waitsFor badPosition notRisingAfter notRising passesOver receiptChecks receivedAt
     afterReceipt receiptCallChecks checkpointCallChecks receiptAnswer checkpointAnswer channelWith fullReceiver answerOf sameBytes sameAnswer allHold
     channelCases
@@ -86,7 +86,7 @@ channel-cases = refl
 pub standing-cases : allHold standingCases ≡ true
 unfolding firstCaught outside tooShort badProcessCount tooManyMessages badLength badCount unknownProcess toItself badSend badReceipt sameChannel waits
     outOfTurn brokenBelow brokenChannel tableChecks tableRefusal processesIn messagesIn countsPart sendsPart receiptsPart countAt processAt
-    checkpointAt messageAt decode u16At u16Bytes u16s tabulate any anyBelow processCount messageCount countOf messageOf isOrphan lower pass passes sum
+    checkpointAt messageAt decode numberAt bytesOf bytesOfAll tabulate any anyBelow processCount messageCount countOf messageOf isOrphan lower pass passes sum
     lineUnder unless answer notRisingAfter notRising unknownNamed notBelowCounts putNamed namedCeiling namedLine misses standTogetherChecks
     standingBytes standTogetherAnswer tableA tableD lateReceipt unsavedA crossing figureOne oneInterval answerOf sameBytes sameAnswer allHold
     standingCases
@@ -96,7 +96,7 @@ standing-cases = refl
 pub marking-example : MarkingExample
 unfolding firstCaught outside tooShort badProcessCount tooManyMessages badLength badCount unknownProcess toItself badSend badReceipt sameChannel waits
     outOfTurn brokenBelow brokenChannel tableChecks tableRefusal processesIn messagesIn countsPart sendsPart receiptsPart countAt processAt
-    checkpointAt messageAt decode u16At u16Bytes u16s tabulate any anyBelow processCount messageCount countOf messageOf isOrphan lower pass passes sum
+    checkpointAt messageAt decode numberAt bytesOf bytesOfAll tabulate any anyBelow processCount messageCount countOf messageOf isOrphan lower pass passes sum
     lineUnder tableA aboveCounts MarkingExample
 marking-example =
     let ceilings : List ℕ = 2 ∷ 2 ∷ [] in
@@ -106,7 +106,7 @@ marking-example =
 -- process 0 sent message 3 after its checkpoint 2; process 1 received it in interval 1, in which it sent message 2; and process 0 received
 -- that before its checkpoint 2
 pub zigzag-example : ZigzagExample
-unfolding processesIn messagesIn countsPart sendsPart receiptsPart countAt processAt checkpointAt messageAt decode u16At u16Bytes u16s tabulate
+unfolding processesIn messagesIn countsPart sendsPart receiptsPart countAt processAt checkpointAt messageAt decode numberAt bytesOf bytesOfAll tabulate
     messageOf tableA receivedIn ZigzagExample
 zigzag-example = record {
   last = 2;

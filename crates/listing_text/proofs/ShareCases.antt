@@ -12,7 +12,7 @@ use Rattle.rounding.specs.Rounding.{evenOf, roundedQuotient}
 use Rattle.listing_text.specs.ShareCases.{allPortions, allShares, portions, shareCases}
 use Rattle.tables.specs.Format.{checkpointAt, countAt, countsPart, decode, messageAt, messagesIn, processAt, processesIn, receiptsPart, sendsPart}
 use Rattle.tables.specs.Lists.{anyBelow, rows, select, sum, tabulate}
-use Rattle.tables.specs.Numbers.{u16At, u16Bytes, u16s}
+use Rattle.tables.specs.Numbers.{bytesOf, bytesOfAll, numberAt}
 use Rattle.tables.specs.Table.{checkpointTotal, countOf, messageCount, messageOf, processCount}
 
 pub all-portions : allPortions portions ≡ true
@@ -21,6 +21,6 @@ all-portions = refl
 
 pub share-cases : allShares shareCases ≡ true
 unfolding evenOf roundedQuotient allShares shareCases share checkpointTotal tableA tableB tableC tableD processesIn messagesIn countsPart sendsPart receiptsPart countAt
-    processAt checkpointAt messageAt decode u16At u16Bytes u16s tabulate anyBelow rows select sum processCount messageCount countOf messageOf ceilingOf
+    processAt checkpointAt messageAt decode numberAt bytesOf bytesOfAll tabulate anyBelow rows select sum processCount messageCount countOf messageOf ceilingOf
     lineOf single isOrphan lower pass passes lineUnder holderLine keepsCheckpoint keptCheckpoints
 share-cases = refl

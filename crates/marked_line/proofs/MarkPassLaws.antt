@@ -1,6 +1,6 @@
 -- Passes over the messages, from the last to the first, as the loops of `pass` and `mark_reachable` go.
 --     grown-none, grown-both             nothing marked; one pass after another
---     Passing, pass-begins, pass-ends    the invariant of one pass, how it begins and how it ends
+--     MarkPassing, pass-begins, pass-ends    the invariant of one pass, how it begins and how it ends
 --     AtReceipt, AtSend                  the pass at its next message: the receipt was read; the send was, too
 --     receiver-few, receipt-in, send-there, end-in, row-ready    what the code asks of that message and of its row
 --     skips-undelivered, skips-marked, skips-unreached, pass-marks    what its tests say of it
@@ -25,7 +25,7 @@ use Rattle.tables.proofs.FormatLaws.{message-in}
 use Rattle.checkpoint_graph.specs.Graph.{Edge, Leads, State, received, state, to-next}
 use Rattle.marked_line.proofs.MarkRowLaws.{bit-in, first-read, first-there, kept-both, kept-none, lent-kept, process-few, row-below, row-end}
 use Rattle.marked_line.proofs.MarkRowLaws.{row-here, row-kept, row-onwards, row-other, row-room, row-stay}
-use Rattle.marked_line.specs.Marking.{BitThere, Closed, Grown, Lent, Passed, Reached, Ready, RestsAt, markedIn, marksIn}
+use Rattle.marked_line.specs.Marking.{BitThere, Closed, MarksGrown, Lent, PassMade, Reached, Ready, RestsAt, markedIn, marksIn}
 use Rattle.marking.proofs.ReachLaws.{reach-edge, reach-root, reach-up}
 use Rattle.marking.specs.Procedure.{Reachable, root}
 use Rattle.marks.proofs.BitLaws.{unset-falls, unset-fewer}
@@ -43,17 +43,17 @@ abbrev bits : Table → ℕ
 bits t = firstBit (t .counts) (processCount t)
 
 -- ---- marks that grow
-pub grown-none : {t : Table} {roots buffer : List ℕ} → Grown t roots buffer buffer
+pub grown-none : {t : Table} {roots buffer : List ℕ} → MarksGrown t roots buffer buffer
 grown-none = record { kept = kept-none; stay = λ b e. e; no-others = λ p y l l′ e. inl e }
 
-pub grown-both : {t : Table} {roots a b c : List ℕ} → Grown t roots a b → Grown t roots b c → Grown t roots a c
+pub grown-both : {t : Table} {roots a b c : List ℕ} → MarksGrown t roots a b → MarksGrown t roots b c → MarksGrown t roots a c
 grown-both g g′ = record {
   kept = kept-both (g .kept) (g′ .kept);
   stay = λ b e. g′ .stay b (g .stay b e);
   no-others = λ p y l l′ e. ⊎-elim (g .no-others p y l l′) inr (g′ .no-others p y l l′ e);
 }
 
-pub grown-stays : {t : Table} {roots before after : List ℕ} → Grown t roots before after → (p y : ℕ) → markedIn t before p y ≡ true
+pub grown-stays : {t : Table} {roots before after : List ℕ} → MarksGrown t roots before after → (p y : ℕ) → markedIn t before p y ≡ true
     → markedIn t after p y ≡ true
 unfolding markedIn
 grown-stays {t} g p y = g .stay (firstBit (t .counts) p + y)
@@ -61,7 +61,7 @@ grown-stays {t} g p y = g .stay (firstBit (t .counts) p + y)
 -- the row of a receipt that is reachable
 module _ (t : Table) (wf : WellFormed t) (roots : List ℕ) (i : ℕ) (known : i < processCount t) (r : ℕ) {before after : List ℕ}
     (row : SetFrom (firstBit (t .counts) i + r) (firstBit (t .counts) (suc i)) before after) where
-  row-grows : Reachable t roots (state i r) → Grown t roots before after
+  row-grows : Reachable t roots (state i r) → MarksGrown t roots before after
   row-grows reachable = record {
     kept = row-kept t i known r row;
     stay = row-stay t i known r row;
@@ -81,7 +81,7 @@ module _ (t : Table) (wf : WellFormed t) (roots : List ℕ) (i : ℕ) (known : i
           (λ inside marked. by-number y inside marked (decLe r y)) there e
       by-place p y l there e (no other) = inl (sym (row-other t i known r row p y other there) ∙ e)
 
-  row-makes-ready : Ready t roots before → Grown t roots before after → Ready t roots after
+  row-makes-ready : Ready t roots before → MarksGrown t roots before after → Ready t roots after
   row-makes-ready ready g = record {
     behind-roots = λ p y l above there. stays p y (ready .behind-roots p y l above there);
     behind-marked = λ p y l below e. by-place p y l below e (ℕ-discrete p i);
@@ -120,17 +120,17 @@ module _ (t : Table) (wf : WellFormed t) (roots : List ℕ) (i : ℕ) (known : i
 -- ---- one pass
 -- The pass stands before message k. It has marked reachable states alone; until it marks, no message that it went over leads to
 -- anything new, and once it has, fewer states are unmarked.
-pub record Passing (table first roots start buffer : List ℕ) (marked : Bool) (m : ℕ) (sends receipts : List ℕ) (k : ℕ) : Type 0 where
+pub record MarkPassing (table first roots start buffer : List ℕ) (marked : Bool) (m : ℕ) (sends receipts : List ℕ) (k : ℕ) : Type 0 where
   pub read : ReadMessages table m sends receipts
   pub lent : Lent table first roots buffer
   pub within : k ≤ m
-  pub grown : Grown (decode table) roots start buffer
+  pub grown : MarksGrown (decode table) roots start buffer
   pub ready : Ready (decode table) roots buffer
   pub at-rest : marked ≡ false → (j : ℕ) → k ≤ j → j < m → RestsAt (decode table) roots buffer j
   pub falls : marked ≡ true → unset buffer (bits (decode table)) < unset start (bits (decode table))
 
 pub pass-begins : {table first roots start : List ℕ} {m : ℕ} {sends receipts : List ℕ} → ReadMessages table m sends receipts
-    → Lent table first roots start → Ready (decode table) roots start → Passing table first roots start start false m sends receipts m
+    → Lent table first roots start → Ready (decode table) roots start → MarkPassing table first roots start start false m sends receipts m
 pass-begins {m = m} read lent up = record {
   read = read;
   lent = lent;
@@ -142,11 +142,11 @@ pass-begins {m = m} read lent up = record {
 }
 
 module _ {table first roots start buffer : List ℕ} {marked : Bool} {m : ℕ} {sends receipts : List ℕ} {k : ℕ}
-    (w : Passing table first roots start buffer marked m sends receipts k) where
+    (w : MarkPassing table first roots start buffer marked m sends receipts k) where
   abbrev t : Table
   t = decode table
 
-  pub pass-ends : k ≤ 0 → Passed t roots start buffer marked
+  pub pass-ends : k ≤ 0 → PassMade t roots start buffer marked
   pass-ends z = record {
     grown = w .grown;
     ready = w .ready;
@@ -167,7 +167,7 @@ module _ {table first roots start buffer : List ℕ} {marked : Bool} {m : ℕ} {
 
     -- it leads to nothing new, and the pass goes on
     abbrev Skipped : Type 0
-    Skipped = Passing table first roots start buffer marked m sends receipts (k - 1)
+    Skipped = MarkPassing table first roots start buffer marked m sends receipts (k - 1)
 
     skips : RestsAt t roots buffer (k - 1) → Skipped
     skips rests = record {
@@ -191,7 +191,7 @@ module _ {table first roots start buffer : List ℕ} {marked : Bool} {m : ℕ} {
 -- ---- its receipt
 -- The pass is at message k - 1, and the two numbers of its receipt were read. A prime marks the names above, of this message again.
 pub record AtReceipt (table first roots start buffer : List ℕ) (marked : Bool) (m : ℕ) (sends receipts : List ℕ) (k i r : ℕ) : Type 0 where
-  pub passing : Passing table first roots start buffer marked m sends receipts k
+  pub passing : MarkPassing table first roots start buffer marked m sends receipts k
   pub more : 0 < k
   pub receiver-read : i ≡ u16At receipts (4 * (k - 1))
   pub received-read : r ≡ u16At receipts (4 * (k - 1) + 2)
@@ -237,7 +237,7 @@ module _ {table first roots start buffer : List ℕ} {marked : Bool} {m : ℕ} {
     unfolding markedIn
     receipt-mark = ap₂ (λ (p y : ℕ). bitAt buffer (firstBit (t′ .counts) p + y)) (sym i-is) (sym r-is) ∙ ap (bitAt buffer) (sym bit-is)
 
-    pub skips-marked : bitAt buffer b ≡ true → Passing table first roots start buffer marked m sends receipts (k - 1)
+    pub skips-marked : bitAt buffer b ≡ true → MarkPassing table first roots start buffer marked m sends receipts (k - 1)
     unfolding RestsAt
     skips-marked e = skips (x .passing) (x .more) (λ _ _. receipt-mark ∙ e)
 
@@ -259,7 +259,7 @@ module _ {table first roots start buffer : List ℕ} {marked : Bool} {m : ℕ} {
   abbrev here″ : Message
   here″ = messageOf t″ (k - 1)
 
-  abbrev passing″ : Passing table first roots start buffer marked m sends receipts k
+  abbrev passing″ : MarkPassing table first roots start buffer marked m sends receipts k
   passing″ = x .receipt .passing
 
   good-here″ : GoodMessage t″ here″
@@ -296,7 +296,7 @@ module _ {table first roots start buffer : List ℕ} {marked : Bool} {m : ℕ} {
   unfolding markedIn
   sent-mark = ap (λ (x : ℕ). bitAt buffer (x + y)) (first-read (passing″ .lent) j (omega (arith, process-few (passing″ .lent) j sender-known)))
 
-  pub skips-unreached : reached ≡ false → Passing table first roots start buffer marked m sends receipts (k - 1)
+  pub skips-unreached : reached ≡ false → MarkPassing table first roots start buffer marked m sends receipts (k - 1)
   unfolding RestsAt
   skips-unreached e = skips passing″ (x .receipt .more) (λ _. ⊎-elim from-root is-marked)
     where
@@ -354,7 +354,7 @@ module _ {table first roots start buffer : List ℕ} {marked : Bool} {m : ℕ} {
           (subst⁻¹ (λ (x : ℕ). Onwards (firstBit (t″ .counts) i + r) x buffer) end-is (row-onwards t″ i known r (passing″ .ready)))
 
       -- its receipt is marked, and the states behind it
-      pub pass-marks : {after : List ℕ} → SetFrom b e buffer after → Passing table first roots start after true m sends receipts (k - 1)
+      pub pass-marks : {after : List ℕ} → SetFrom b e buffer after → MarkPassing table first roots start after true m sends receipts (k - 1)
       unfolding markedIn countOf
       pass-marks {after} raw = record {
         read = passing″ .read;
@@ -374,7 +374,7 @@ module _ {table first roots start buffer : List ℕ} {marked : Bool} {m : ℕ} {
               subst (λ (x : ℕ). SetFrom x (firstBit (t″ .counts) (suc i)) buffer after) (bit-is (x .receipt) (x .bit-read))
               (subst (λ (x : ℕ). SetFrom b x buffer after) end-is raw)
 
-          grows : Grown t″ roots buffer after
+          grows : MarksGrown t″ roots buffer after
           grows = row-grows t″ wf roots i known r row receipt-reachable
 
           now-set : bitAt after b ≡ true
@@ -450,7 +450,7 @@ module _ (t : Table) (wf : WellFormed t) (roots : List ℕ) (buffer : List ℕ) 
       let is = leads-to t wf (r .leads) in
       marks-in t buffer s (is .known) (is .there) (leads-marked (r .leads) (inl (le-refl (getD roots (r .from) 0))))
 
-  pub reached-all : {start : List ℕ} → Grown t roots start buffer → Reached t roots start buffer
+  pub reached-all : {start : List ℕ} → MarksGrown t roots start buffer → Reached t roots start buffer
   unfolding RestsAt Closed
   reached-all {start} g = record {
     kept = g .kept;
@@ -470,11 +470,11 @@ module _ (t : Table) (wf : WellFormed t) (roots : List ℕ) (buffer : List ℕ) 
 -- the invariant of the passes
 pub record Growing (table first roots start buffer : List ℕ) : Type 0 where
   pub lent : Lent table first roots buffer
-  pub grown : Grown (decode table) roots start buffer
+  pub grown : MarksGrown (decode table) roots start buffer
   pub ready : Ready (decode table) roots buffer
 
 module _ {table first roots start buffer after : List ℕ} {marked : Bool} (w : Growing table first roots start buffer)
-    (p : Passed (decode table) roots buffer after marked) where
+    (p : PassMade (decode table) roots buffer after marked) where
   pub passes-more : Growing table first roots start after
   passes-more = record { lent = lent-kept (w .lent) (p .grown .kept); grown = grown-both (w .grown) (p .grown); ready = p .ready }
 

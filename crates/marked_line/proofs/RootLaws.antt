@@ -3,7 +3,7 @@
 --     Over, over-none, over-more, over-known .. row-there    what each loop over the processes carries, and what it asks of a process
 --     Behind, behind-begins .. behind-ends         the invariant of the loop that marks the states behind the roots
 --     behind-ready, behind-reachable               these marks are ready for a marking, and of reachable states alone
---     rootMarked, Asking, asking-more, asking-found, asking-none    the invariant of the loop that looks for a marked root
+--     rootMarked, RootsAsked, asked-more, asked-found, asked-none    the invariant of the loop that looks for a marked root
 --     Descending, descends-from, descends, lands   the invariant of the loop that looks for an unmarked state
 --     Giving, giving-none, start-few, start-in, start-unset, giving-more, giving-all    the invariant of the loop over the roots
 -- Assumes nothing.
@@ -29,8 +29,8 @@ use Rattle.marking.proofs.ReachLaws.{reach-root}
 use Rattle.marking.specs.Procedure.{Reachable}
 use Rattle.marks.proofs.LayoutLaws.{first-more, first-small}
 use Rattle.marks.specs.Bits.{Onwards, SetFrom, bitAt, firstBit, mostBits}
-use Rattle.tables.proofs.ListLaws.{anyBelow-found, anyBelow-more}
 use Rattle.tables.proofs.ReadLaws.{processes-few}
+use Rattle.tables.proofs.SearchedLaws.{Searched, searched-all, searched-here, searched-more}
 use Rattle.tables.specs.Checks.{WellFormed}
 use Rattle.tables.specs.Format.{decode}
 use Rattle.tables.specs.Lists.{anyBelow}
@@ -195,30 +195,25 @@ module _ (t : Table) (wf : WellFormed t) (roots buffer : List ℕ) (only : OnlyB
 abbrev pub rootMarked : Table → List ℕ → List ℕ → ℕ → Bool
 rootMarked t roots buffer p = markedIn t buffer p (getD roots p 0)
 
-pub record Asking (table first roots marks : List ℕ) (n p : ℕ) : Type 0 where
+pub record RootsAsked (table first roots marks : List ℕ) (n p : ℕ) : Type 0 where
   pub over : Over table first roots marks n p
-  pub none : anyBelow p (rootMarked (decode table) roots marks) ≡ false
+  pub searched : Searched (processCount (decode table)) (rootMarked (decode table) roots marks) p
 
-module _ {table first roots marks : List ℕ} {n p : ℕ} (w : Asking table first roots marks n p) where
-  pub asking-none : n ≤ p → false ≡ anyBelow (processCount (decode table)) (rootMarked (decode table) roots marks)
-  asking-none l =
-      let all : p ≡ processCount (decode table) = omega (arith, w .over .within, w .over .n-is) in
-      sym (subst (λ (x : ℕ). anyBelow x (rootMarked (decode table) roots marks) ≡ false) all (w .none))
+module _ {table first roots marks : List ℕ} {n p : ℕ} (w : RootsAsked table first roots marks n p) where
+  pub asked-none : n ≤ p → false ≡ anyBelow (processCount (decode table)) (rootMarked (decode table) roots marks)
+  asked-none l = searched-all (w .searched) (omega (arith, w .over .n-is))
 
   module _ (more : p < n) {b : ℕ} (b-is : b ≡ getD first p 0 + getD roots p 0) where
     asked : bitAt marks b ≡ rootMarked (decode table) roots marks p
     unfolding markedIn
     asked = ap (bitAt marks) (root-bit (w .over .lent) (over-known (w .over) more) b-is)
 
-    pub asking-found : bitAt marks b ≡ true → true ≡ anyBelow (processCount (decode table)) (rootMarked (decode table) roots marks)
-    asking-found e = sym (anyBelow-found (rootMarked (decode table) roots marks) (processCount (decode table)) p
-        (over-known (w .over) more) (sym asked ∙ e))
+    pub asked-found : bitAt marks b ≡ true → true ≡ anyBelow (processCount (decode table)) (rootMarked (decode table) roots marks)
+    asked-found e = searched-here (w .searched) (over-known (w .over) more) (sym asked ∙ e)
 
-    pub asking-more : bitAt marks b ≡ false → Asking table first roots marks n (p + 1)
-    asking-more e = record {
-      over = over-more (w .over) more kept-none;
-      none = anyBelow-more (rootMarked (decode table) roots marks) p (w .none) (sym asked ∙ e);
-    }
+    pub asked-more : bitAt marks b ≡ false → RootsAsked table first roots marks n (p + 1)
+    asked-more e =
+        record { over = over-more (w .over) more kept-none; searched = searched-more (w .searched) (over-known (w .over) more) (sym asked ∙ e) }
 
 -- ---- the latest unmarked state of one process
 pub record Descending (marks : List ℕ) (start root y : ℕ) : Type 0 where

@@ -20,7 +20,7 @@ use Rattle.marked_line.proofs.MarkPassLaws.{marks-are, marks-bit}
 use Rattle.marked_line.proofs.RootLaws.{behind-reachable, behind-ready, rootMarked}
 use Rattle.marked_line.proofs.MarkRowLaws.{kept-both, kept-none, lent-kept}
 use Rattle.marked_line.specs.Marking.{Closed, GaveWay, Given, Kept, Lent, OnlyBehind, Reached, Ready}
-use Rattle.marked_line.specs.Marking.{RoundMade, Running, Standing, Unmarked, ZeroUnmarked, markedIn, marksIn, stageOf}
+use Rattle.marked_line.specs.Marking.{RoundMade, Running, RoundReady, Unmarked, ZeroUnmarked, markedIn, marksIn, stageOf}
 use Rattle.marking.proofs.RoundLaws.{round-falls, zero-unmarked}
 use Rattle.marking.specs.Procedure.{After, EndsWith, LatestUnmarked, Marks, MarksReachable, NoneMarked, Reachable, Round, Starts, root}
 use Rattle.marks.proofs.BitLaws.{cleared-again, cleared-beyond, cleared-bit, cleared-length}
@@ -156,7 +156,7 @@ module _ {table ceilings first roots start : List ℕ} (g : Given table ceilings
           }
 
 -- ---- roots that gave way
-module _ {table first roots buffer next : List ℕ} (w : Standing table first roots buffer) (gave : GaveWay (decode table) roots buffer next) where
+module _ {table first roots buffer next : List ℕ} (w : RoundReady table first roots buffer) (gave : GaveWay (decode table) roots buffer next) where
   abbrev t′ : Table
   t′ = decode table
 

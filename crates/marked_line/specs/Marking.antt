@@ -72,7 +72,7 @@ pub record OnlyBehind (t : Table) (roots buffer : List ℕ) : Type 0 where
       → markedIn t buffer p y ≡ ltb (getD roots p 0) y
 
 -- Marks were set, of reachable states alone, and none was taken away.
-pub record Grown (t : Table) (roots before after : List ℕ) : Type 0 where
+pub record MarksGrown (t : Table) (roots before after : List ℕ) : Type 0 where
   pub kept : Kept t before after
   pub stay : (b : ℕ) → bitAt before b ≡ true → bitAt after b ≡ true
   pub no-others : (p y : ℕ) → p < processCount t → y ≤ countOf t p → markedIn t after p y ≡ true
@@ -89,8 +89,8 @@ RestsAt t roots buffer k =
 
 -- A pass over the messages: it says whether it marked anything. Then fewer states are unmarked; if it did not, no
 -- message leads to anything new.
-pub record Passed (t : Table) (roots before after : List ℕ) (marked : Bool) : Type 0 where
-  pub grown : Grown t roots before after
+pub record PassMade (t : Table) (roots before after : List ℕ) (marked : Bool) : Type 0 where
+  pub grown : MarksGrown t roots before after
   pub ready : Ready t roots after
   pub at-rest : marked ≡ false → (k : ℕ) → k < messageCount t → RestsAt t roots after k
   pub falls : marked ≡ true → unset after (firstBit (t .counts) (processCount t))
@@ -137,7 +137,7 @@ pub record Given (table ceilings first roots buffer : List ℕ) : Type 0 where
 
 -- What a round may begin with: the states behind the roots are marked, what is marked is closed under edges, and no
 -- state 0 is marked.
-pub record Standing (table first roots buffer : List ℕ) : Type 0 where
+pub record RoundReady (table first roots buffer : List ℕ) : Type 0 where
   pub lent : Lent table first roots buffer
   pub ready : Ready (decode table) roots buffer
   pub closed : Closed (decode table) buffer
@@ -155,7 +155,7 @@ stageOf t roots buffer = record { roots = take (processCount t) roots; marks = m
 -- After some rounds it is one that the procedure may have, and no byte beyond the marks is changed.
 pub record Running (table ceilings first roots start buffer : List ℕ) : Type 0 where
   pub ceiling : Ceiling (decode table) ceilings
-  pub stands : Standing table first roots buffer
+  pub stands : RoundReady table first roots buffer
   pub kept : Kept (decode table) start buffer
   pub rounds : ℕ
   pub after : After (decode table) ceilings rounds (stageOf (decode table) roots buffer)

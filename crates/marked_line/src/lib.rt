@@ -18,8 +18,8 @@ ghost use lib.Dec.{eqb};
 ghost use lib.ListN.{getD, length, take};
 ghost use Rattle.consistency.specs.Ceilings.{Ceiling};
 ghost use Rattle.marked_line.specs.Marking.{BitThere, GaveWay, Given, Kept, LatestUnset, Lent, OnlyBehind};
-ghost use Rattle.marked_line.specs.Marking.{Passed, PutByMarking, Reached, Ready, RoundMade, Running};
-ghost use Rattle.marked_line.specs.Marking.{Standing, Unmarked, ZeroUnmarked, markedIn};
+ghost use Rattle.marked_line.specs.Marking.{PassMade, PutByMarking, Reached, Ready, RoundMade, Running};
+ghost use Rattle.marked_line.specs.Marking.{RoundReady, Unmarked, ZeroUnmarked, markedIn};
 ghost use Rattle.marking.specs.Procedure.{EndsWith};
 ghost use Rattle.marks.specs.Bits.{bitAt, mostBits};
 ghost use Rattle.marks.specs.Room.{cleared, marksSize};
@@ -63,7 +63,7 @@ fn is_root_or_marked(first: &[usize], roots: &[u16], marks: &[u8], p: usize, y: 
 fn pass(table: &[u8], first: &[usize], roots: &[u16], marks: &mut [u8]) -> bool
     requires { ⌜ Lent (now table) (now first) (now roots) (now marks) ⌝ }
     requires { ⌜ Ready (decode (now table)) (now roots) (now marks) ⌝ }
-    ensures { λ r. ⌜ Passed (decode (now (table .entry))) (now (roots .entry)) (now (marks .entry)) (now
+    ensures { λ r. ⌜ PassMade (decode (now (table .entry))) (now (roots .entry)) (now (marks .entry)) (now
         (marks .exit)) r ⌝ }
 {
     let m = parts::message_count(table);
@@ -170,7 +170,7 @@ fn start(table: &[u8], ceilings: &[u16], first: &[usize], roots: &[u16], marks: 
 
 // A round: each marked root gives way, and all that is reachable from the new roots is marked.
 fn next_round(table: &[u8], first: &[usize], roots: &[u16], marks: &mut [u8]) -> [u16; 32]
-    requires { ⌜ Standing (now table) (now first) (now roots) (now marks) ⌝ }
+    requires { ⌜ RoundReady (now table) (now first) (now roots) (now marks) ⌝ }
     ensures { λ r. ⌜ RoundMade (decode (now (table .entry))) (now (roots .entry)) (now (marks .entry)) r
         (now (marks .exit)) ⌝ }
 {

@@ -6,12 +6,12 @@
 -- Assumes nothing.
 use mathlib.Core.List.{List, [], _∷_, _++_}
 use mathlib.Core.Path.{_≡_, sym, ap, ap₂, _∙_}
-use Prim.Native.Nat.{ℕ, zero, suc, _+_, _*_, _/_, _%_, _≤_, _<_}
-use native.Mathlib.Nat.{suc-add, zero-add}
+use Prim.Native.Nat.{ℕ, zero, suc, _+_, _*_, _≤_, _<_}
+use native.Mathlib.Nat.{mul-le-mul-left, mul-suc, mul-zero, suc-add, zero-add}
 use native.Mathlib.Omega.{arith}
 use lib.ListN.{length, set, take, drop, length-append}
-use Rattle.tables.proofs.NumberLaws.{length-putAt, length-u16s, putAt-more, putAt-none}
-use Rattle.tables.specs.Numbers.{putAt, u16Bytes, u16s}
+use Rattle.tables.proofs.NumberLaws.{length-all, length-bytes, length-putAt, putAt-more, putAt-none}
+use Rattle.tables.specs.Numbers.{bytesOf, bytesOfAll, putAt}
 
 -- ---- one entry further on
 put-later : (x : ℕ) (b ys : List ℕ) (i : ℕ) → putAt (x ∷ b) (suc i) ys ≡ x ∷ putAt b i ys
@@ -82,27 +82,36 @@ both-more b xs ys x y near far h g =
     ∙ putAt-more (putAt b near (xs ++ x)) far ys y (omega (arith, length-putAt b near (xs ++ x) (omega (arith, length-append xs x))))
 
 -- ---- one number of an array
-two-first : (a b x y : ℕ) (rest : List ℕ) → putAt (a ∷ b ∷ rest) 0 (x ∷ y ∷ []) ≡ x ∷ y ∷ rest
-two-first a b x y rest =
-    put-first a (b ∷ rest) x (y ∷ [])
-    ∙ ap (λ (l : List ℕ). x ∷ l) (put-first b rest y [] ∙ ap (λ (l : List ℕ). y ∷ l) (putAt-none rest 0))
+-- in front of other bytes, and behind them
+front-again : (xs rest ys : List ℕ) → length ys ≡ length xs → putAt (xs ++ rest) 0 ys ≡ ys ++ rest
+front-again [] rest [] e = putAt-none rest 0
+front-again [] rest (y ∷ ys) e = absurd (omega arith)
+front-again (x ∷ xs) rest [] e = absurd (omega arith)
+front-again (x ∷ xs) rest (y ∷ ys) e =
+    put-first x (xs ++ rest) y ys ∙ ap (λ (l : List ℕ). y ∷ l) (front-again xs rest ys (omega arith))
 
-two-later : (a b : ℕ) (rest ys : List ℕ) (i : ℕ) → putAt (a ∷ b ∷ rest) (2 * suc i) ys ≡ a ∷ b ∷ putAt rest (2 * i) ys
-two-later a b rest ys i =
-    let further : 2 * suc i ≡ suc (suc (2 * i)) = omega arith in
-    ap (λ (k : ℕ). putAt (a ∷ b ∷ rest) k ys) further ∙ put-later a (b ∷ rest) ys (suc (2 * i))
-    ∙ ap (λ (l : List ℕ). a ∷ l) (put-later b rest ys (2 * i))
+behind : (xs rest ys : List ℕ) (i : ℕ) → putAt (xs ++ rest) (length xs + i) ys ≡ xs ++ putAt rest i ys
+behind [] rest ys i = ap (λ (k : ℕ). putAt rest k ys) (zero-add i)
+behind (x ∷ xs) rest ys i =
+    ap (λ (k : ℕ). putAt (x ∷ (xs ++ rest)) k ys) (suc-add (length xs) i) ∙ put-later x (xs ++ rest) ys (length xs + i)
+    ∙ ap (λ (l : List ℕ). x ∷ l) (behind xs rest ys i)
 
-number-set : (ns : List ℕ) (i v : ℕ) → i < length ns → putAt (u16s ns) (2 * i) (u16Bytes v) ≡ u16s (set ns i v)
-unfolding u16s u16Bytes
-number-set [] i v h = absurd (omega arith)
-number-set (n ∷ ns) zero v h = two-first (n % 256) (n / 256 % 256) (v % 256) (v / 256 % 256) (u16s ns)
-number-set (n ∷ ns) (suc i) v h =
-    two-later (n % 256) (n / 256 % 256) (u16s ns) (u16Bytes v) i ∙ ap (λ (l : List ℕ). u16Bytes n ++ l) (number-set ns i v (omega arith))
+module _ (w : ℕ) where
+  number-set : (ns : List ℕ) (i v : ℕ) → i < length ns → putAt (bytesOfAll w ns) (w * i) (bytesOf w v) ≡ bytesOfAll w (set ns i v)
+  unfolding bytesOfAll
+  number-set [] i v h = absurd (omega arith)
+  number-set (n ∷ ns) zero v h =
+      ap (λ (k : ℕ). putAt (bytesOf w n ++ bytesOfAll w ns) k (bytesOf w v)) (mul-zero w)
+      ∙ front-again (bytesOf w n) (bytesOfAll w ns) (bytesOf w v) (length-bytes w v ∙ sym (length-bytes w n))
+  number-set (n ∷ ns) (suc i) v h =
+      let place : w * suc i ≡ length (bytesOf w n) + w * i = omega (arith, mul-suc w i, length-bytes w n) in
+      ap (λ (k : ℕ). putAt (bytesOf w n ++ bytesOfAll w ns) k (bytesOf w v)) place ∙ behind (bytesOf w n) (bytesOfAll w ns) (bytesOf w v) (w * i)
+      ∙ ap (λ (l : List ℕ). bytesOf w n ++ l) (number-set ns i v (omega arith))
 
-pub number-within : (b ns : List ℕ) (place i v : ℕ) → i < length ns → place + 2 * length ns ≤ length b
-    → putAt (putAt b place (u16s ns)) (place + 2 * i) (u16Bytes v) ≡ putAt b place (u16s (set ns i v))
-unfolding u16Bytes
-number-within b ns place i v h g =
-    putAt-within b (u16s ns) (u16Bytes v) place (2 * i) (omega (arith, length-u16s ns)) (omega (arith, length-u16s ns))
-    ∙ ap (putAt b place) (number-set ns i v h)
+  pub number-within : (b ns : List ℕ) (place i v : ℕ) → i < length ns → place + w * length ns ≤ length b
+      → putAt (putAt b place (bytesOfAll w ns)) (place + w * i) (bytesOf w v) ≡ putAt b place (bytesOfAll w (set ns i v))
+  number-within b ns place i v h g =
+      let room : w * suc i ≤ w * length ns = mul-le-mul-left w h in
+      putAt-within b (bytesOfAll w ns) (bytesOf w v) place (w * i) (omega (arith, room, mul-suc w i, length-bytes w v, length-all w ns))
+      (omega (arith, g, length-all w ns))
+      ∙ ap (putAt b place) (number-set ns i v h)

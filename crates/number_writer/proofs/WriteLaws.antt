@@ -3,20 +3,21 @@
 --     numbers-size                    the length of numbers, as bytes
 --     Written                         pieces of one width, put from a place on by a loop: the invariant
 --     written-none, written-more, written-room, written-all    how it begins, goes on and ends
---     numbers-more, numbers-all       the pieces are numbers, each in two bytes
+--     numbers-more, numbers-all       the pieces are numbers of one width
 --     stored-more, stored-all         each as one entry
+--     halves-put                      a number of 32 bits, put as two of 16
 -- Assumes nothing.
-use mathlib.Core.List.{List, [], _∷_, _++_}
+use mathlib.Core.List.{List, [], _∷_, _++_, append-nil}
 use mathlib.Core.Path.{_≡_, refl, sym, ap, ap₂, _∙_, subst}
-use Prim.Native.Nat.{ℕ, zero, suc, _+_, _*_, _≤_, _<_, zero-le}
+use Prim.Native.Nat.{ℕ, zero, suc, _+_, _*_, _/_, _%_, _≤_, _<_, zero-le}
 use native.Mathlib.Nat.{le-antisymm, mul-le-mul-left, mul-suc, zero-add}
 use native.Mathlib.Numerals.{add-one}
 use native.Mathlib.Omega.{arith}
 use lib.ListN.{length, set, length-append}
 use Rattle.tables.proofs.ListLaws.{length-tabulate, rows-length, rows-more, tabulate-more}
-use Rattle.tables.proofs.NumberLaws.{length-putAt, length-u16s, putAt-more, putAt-none, putAt-one, u16s-append}
+use Rattle.tables.proofs.NumberLaws.{all-append, bytes-split, length-bytes, length-putAt, length-u16s, putAt-more, putAt-none, putAt-one}
 use Rattle.tables.specs.Lists.{rows, tabulate}
-use Rattle.tables.specs.Numbers.{putAt, u16Bytes, u16s}
+use Rattle.tables.specs.Numbers.{bytesOf, bytesOfAll, putAt, u16Bytes, u16s, u32Bytes}
 
 -- Bytes stand at the front of a buffer, up to a place, and the rest of it is as it was.
 pub record Front (before after bytes : List ℕ) (at : ℕ) : Type 0 where
@@ -73,41 +74,46 @@ module _ (w : ℕ) (piece : ℕ → List ℕ) (n at : ℕ) (before : List ℕ) w
     written-all l = subst (λ (j : ℕ). after ≡ putAt before at (rows piece j)) (le-antisymm (h .within) l) (h .contents)
 
 -- ---- numbers as such pieces
-pub two-bytes : (n : ℕ) → length (u16Bytes n) ≡ 2
-unfolding u16Bytes
-two-bytes n = refl
-
-module _ (f : ℕ → ℕ) where
-  numbers-put : (n : ℕ) → rows (λ k. u16Bytes (f k)) n ≡ u16s (tabulate n f)
-  unfolding rows tabulate u16s u16Bytes
+module _ (w : ℕ) (f : ℕ → ℕ) where
+  numbers-put : (n : ℕ) → rows (λ k. bytesOf w (f k)) n ≡ bytesOfAll w (tabulate n f)
+  unfolding rows tabulate bytesOfAll
   numbers-put zero = refl
   numbers-put (suc n) =
-      ap (λ (l : List ℕ). l ++ u16Bytes (f n)) (numbers-put n) ∙ sym (u16s-append (tabulate n f) (f n ∷ []))
-      ∙ ap u16s (sym (tabulate-more n f) ∙ ap (λ (j : ℕ). tabulate j f) (add-one n))
+      ap₂ (λ (l r : List ℕ). l ++ r) (numbers-put n) (sym (append-nil (bytesOf w (f n)))) ∙ sym (all-append w (tabulate n f) (f n ∷ []))
+      ∙ ap (bytesOfAll w) (sym (tabulate-more n f) ∙ ap (λ (j : ℕ). tabulate j f) (add-one n))
 
+  -- in w bytes each
+  module _ {n at : ℕ} {before after : List ℕ} {k : ℕ} (h : Written w (λ k. bytesOf w (f k)) n at before after k) where
+    pub numbers-more : k < n → {later : List ℕ} → later ≡ putAt after (at + w * k) (bytesOf w (f k))
+        → Written w (λ k. bytesOf w (f k)) n at before later (k + 1)
+    numbers-more l put = written-more w (λ k. bytesOf w (f k)) n at before (λ k. length-bytes w (f k)) after k h l (at + w * k) _ refl put
+
+    pub numbers-all : n ≤ k → after ≡ putAt before at (bytesOfAll w (tabulate n f))
+    numbers-all l =
+        written-all w (λ k. bytesOf w (f k)) n at before (λ k. length-bytes w (f k)) after k h l ∙ ap (putAt before at) (numbers-put n)
+
+module _ (f : ℕ → ℕ) where
   numbers-stored : (n : ℕ) → rows (λ k. f k ∷ []) n ≡ tabulate n f
   unfolding rows tabulate
   numbers-stored zero = refl
   numbers-stored (suc n) =
       ap (λ (l : List ℕ). l ++ (f n ∷ [])) (numbers-stored n) ∙ sym (tabulate-more n f) ∙ ap (λ (j : ℕ). tabulate j f) (add-one n)
 
-  module _ {n at : ℕ} {before after : List ℕ} {k : ℕ} where
-    -- in two bytes each
-    module _ (h : Written 2 (λ k. u16Bytes (f k)) n at before after k) where
-      pub numbers-more : k < n → {later : List ℕ} → later ≡ putAt after (at + 2 * k) (u16Bytes (f k))
-          → Written 2 (λ k. u16Bytes (f k)) n at before later (k + 1)
-      numbers-more l put = written-more 2 (λ k. u16Bytes (f k)) n at before (λ k. two-bytes (f k)) after k h l (at + 2 * k) _ refl put
+  -- as they are
+  module _ {n at : ℕ} {before after : List ℕ} {k : ℕ} (h : Written 1 (λ k. f k ∷ []) n at before after k) where
+    pub stored-more : k < n → Written 1 (λ k. f k ∷ []) n at before (set after (at + k) (f k)) (k + 1)
+    stored-more l =
+        written-more 1 (λ k. f k ∷ []) n at before (λ k. refl) after k h l (at + k) _ (omega arith)
+        (putAt-one after (at + k) (f k) (omega (arith, h .room, h .same-length)))
 
-      pub numbers-all : n ≤ k → after ≡ putAt before at (u16s (tabulate n f))
-      numbers-all l =
-          written-all 2 (λ k. u16Bytes (f k)) n at before (λ k. two-bytes (f k)) after k h l ∙ ap (putAt before at) (numbers-put n)
+    pub stored-all : n ≤ k → after ≡ putAt before at (tabulate n f)
+    stored-all l = written-all 1 (λ k. f k ∷ []) n at before (λ k. refl) after k h l ∙ ap (putAt before at) (numbers-stored n)
 
-    -- as they are
-    module _ (h : Written 1 (λ k. f k ∷ []) n at before after k) where
-      pub stored-more : k < n → Written 1 (λ k. f k ∷ []) n at before (set after (at + k) (f k)) (k + 1)
-      stored-more l =
-          written-more 1 (λ k. f k ∷ []) n at before (λ k. refl) after k h l (at + k) _ (omega arith)
-          (putAt-one after (at + k) (f k) (omega (arith, h .room, h .same-length)))
-
-      pub stored-all : n ≤ k → after ≡ putAt before at (tabulate n f)
-      stored-all l = written-all 1 (λ k. f k ∷ []) n at before (λ k. refl) after k h l ∙ ap (putAt before at) (numbers-stored n)
+-- ---- a number of 32 bits, as two of 16
+pub halves-put : (before : List ℕ) (at n : ℕ) {after later : List ℕ} → at + 4 ≤ length before → after ≡ putAt before at (u16Bytes (n % 65536))
+    → later ≡ putAt after (at + 2) (u16Bytes (n / 65536)) → later ≡ putAt before at (u32Bytes n)
+halves-put before at n fits low high =
+    let two = length-bytes 2 (n % 65536) in
+    high ∙ ap₂ (λ (b : List ℕ) (i : ℕ). putAt b i (u16Bytes (n / 65536))) low (omega (arith, two))
+    ∙ putAt-more before at (u16Bytes (n % 65536)) (u16Bytes (n / 65536)) (omega (arith, two, length-bytes 2 (n / 65536)))
+    ∙ ap (putAt before at) (sym (bytes-split 2 n))

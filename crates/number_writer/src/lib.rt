@@ -5,7 +5,16 @@ ghost use mathlib.Core.Path.{_≡_};
 ghost use Prim.Native.Nat.{_+_, _*_, _≤_};
 ghost use lib.ListN.{length};
 ghost use Rattle.tables.specs.Lists.{tabulate};
-ghost use Rattle.tables.specs.Numbers.{putAt, u16At, u16s};
+ghost use Rattle.tables.specs.Numbers.{putAt, u16At, u16s, u32Bytes};
+
+// Puts a number of 32 bits at a place that has room for its four bytes.
+pub fn put_u32(buffer: &mut [u8], at: usize, value: u32)
+    requires { ⌜ at + 4 ≤ length (now buffer) ⌝ }
+    ensures { λ _. ⌜ now (buffer .exit) ≡ putAt (now (buffer .entry)) at (u32Bytes value) ⌝ }
+{
+    put_u16(buffer, at, (value % 65536) as u16);
+    put_u16(buffer, at + 2, (value / 65536) as u16);
+}
 
 // Puts the numbers of a slice into bytes, from a place on that has room for them.
 pub fn put_numbers(buffer: &mut [u8], at: usize, numbers: &[u16])

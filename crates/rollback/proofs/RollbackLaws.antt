@@ -32,7 +32,7 @@ use Rattle.number_writer.proofs.PlaceLaws.{both-more}
 use Rattle.tables.proofs.ReadLaws.{ReadMessages, messages-read, processes-few, received-is, receiver-is, sender-is, sent-is}
 use Rattle.tables.specs.Arrays.{arrayOf}
 use Rattle.tables.specs.Format.{decode, entriesOf, receiptsOf, receiptsPart, sendsOf, sendsPart}
-use Rattle.tables.specs.Numbers.{putAt, u16At, u16s}
+use Rattle.tables.specs.Numbers.{bytesOfAll, putAt, u16At, u16s}
 use Rattle.tables.specs.Table.{Message, Table, countOf, messageCount, messageOf, mostProcesses, noMessage, processCount}
 use Rattle.rollback.specs.Rollback.{AtLine, receiptLeft}
 
@@ -206,7 +206,7 @@ module _ {table line : List ℕ} {m start : ℕ} {before : List ℕ} {all : ℕ}
   pub gathering-none : AtLine table line → m ≡ messageCount (afterRollback (decode table)) → start + 8 * m ≤ length before
       → all ≡ messageCount (decode table) → sends ≡ sendsPart table → receipts ≡ receiptsPart table
       → Gathering table line m start before all sends receipts 0 start before
-  unfolding remaining entriesOf u16s
+  unfolding remaining entriesOf bytesOfAll
   gathering-none here remain room all-is sends-are receipts-are = record {
     at-line = here;
     read = messages-read (here .accepted) all-is sends-are receipts-are;

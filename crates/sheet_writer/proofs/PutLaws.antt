@@ -19,7 +19,7 @@ use Rattle.tables.proofs.ListLaws.{map-append, rows-more, rows-room, select-mor
 use Rattle.tables.proofs.NumberLaws.{length-putAt, length-u16s, putAt-more, putAt-none, u16s-append}
 use Rattle.tables.specs.Format.{countAt, messageAt}
 use Rattle.tables.specs.Lists.{rows, select}
-use Rattle.tables.specs.Numbers.{putAt, u16At, u16Bytes, u16s}
+use Rattle.tables.specs.Numbers.{bytesOf, bytesOfAll, putAt, u16At, u16Bytes, u16s}
 use Rattle.tables.specs.Parts.{Counts}
 use Rattle.sheet_entries.proofs.SearchLaws.{Asking, Standing, select-first, select-next, stands}
 use Rattle.sheet_entries.specs.Kept.{First, columnAt, columnOf, isKept, keptOf, positionsOf}
@@ -58,7 +58,7 @@ pub record Putting (f : ℕ → List ℕ) (n : ℕ) (before : List ℕ) (at : �
 
 module _ {f : ℕ → List ℕ} {n : ℕ} {before : List ℕ} {at : ℕ} where
   putting-none : {k : ℕ} → k ≤ n → f k ≡ [] → at + 2 * length (f n) ≤ length before → Putting f n before at before at k
-  unfolding u16s
+  unfolding bytesOfAll
   putting-none l e room =
       let nothing : Put before before at [] at = record { contents = sym (putAt-none before at); place = omega arith } in
       record { within = l; room = room; short = omega (arith, ap length e); put = rw e nothing }
@@ -182,7 +182,7 @@ module _ {n m : ℕ} {scratch sends receipts lowest before : List ℕ} {at : ℕ
 
 -- ---- the two bytes of a number are those of its low 16 bits
 low-bits : (n : ℕ) → u16Bytes (n % 65536) ≡ u16Bytes n
-unfolding u16Bytes
+unfolding bytesOf
 low-bits n =
     let r : ℕ = n % 65536 in
     let whole : n ≡ 256 * (256 * (n / 65536)) + r = omega arith in
@@ -192,7 +192,7 @@ low-bits n =
     cc
 
 low-all : (ns : List ℕ) → u16s (map (λ n. n % 65536) ns) ≡ u16s ns
-unfolding u16s
+unfolding bytesOfAll
 low-all [] = refl
 low-all (n ∷ rest) = ap₂ (λ (bytes more : List ℕ). bytes ++ more) (low-bits n) (low-all rest)
 

@@ -121,7 +121,7 @@ module _ {at : ℕ} {receipts : List ℕ} {m : ℕ} {list : List ℕ} {number : 
       contents =
           λ before fits e.
           is ∙ ap₂ (λ (b : List ℕ) (j : ℕ). putAt b j (u16Bytes number)) (w .contents before fits e) place
-          ∙ number-within before (numbers receipts number m (take a list)) at (2 * k + 1) number (omega (arith, w .listed a l, size)) (omega (arith, size))
+          ∙ number-within 2 before (numbers receipts number m (take a list)) at (2 * k + 1) number (omega (arith, w .listed a l, size)) (omega (arith, size))
           ∙ ap (λ (l : List ℕ). putAt before at (u16s l))
           (numbers-set receipts number (take a list) k m (w .listed a l) ∙ ap (numbers receipts number m) (sym longer));
     }

@@ -10,13 +10,13 @@ use Rattle.number_writer.proofs.WriteLaws.{Front, front-next}
 use Rattle.tables.proofs.FormatLaws.{length-entries}
 use Rattle.tables.proofs.NumberLaws.{length-u16s, putAt-more, u16s-append}
 use Rattle.tables.specs.Format.{encode, receiptsAt, receiptsOf, sendsAt, sendsOf, tableLength}
-use Rattle.tables.specs.Numbers.{putAt, u16Bytes, u16s}
+use Rattle.tables.specs.Numbers.{bytesOf, bytesOfAll, putAt, u16Bytes, u16s}
 use Rattle.tables.specs.Table.{Table, messageCount, processCount}
 
 -- two numbers
 pub pair-put : (before : List ℕ) (at a b : ℕ) {after later : List ℕ} → at + 4 ≤ length before → after ≡ putAt before at (u16Bytes a)
     → later ≡ putAt after (at + 2) (u16Bytes b) → later ≡ putAt before at (u16s (a ∷ b ∷ []))
-unfolding u16s u16Bytes
+unfolding bytesOfAll bytesOf
 pair-put before at a b fits first second =
     second ∙ ap (λ (l : List ℕ). putAt l (at + 2) (u16Bytes b)) first ∙ putAt-more before at (u16Bytes a) (u16Bytes b) (omega arith)
 
@@ -24,7 +24,7 @@ pair-put before at a b fits first second =
 pub head-put : (counts : List ℕ) (m : ℕ) (b₀ : List ℕ) {b₁ b₂ : List ℕ} → sendsAt (length counts) ≤ length b₀
     → b₁ ≡ putAt b₀ 0 (u16s (length counts ∷ m ∷ [])) → b₂ ≡ putAt b₁ 4 (u16s counts)
     → b₂ ≡ putAt b₀ 0 (u16s (length counts ∷ m ∷ counts))
-unfolding u16s u16Bytes
+unfolding bytesOfAll bytesOf
 head-put counts m b₀ fits first second =
     second ∙ ap (λ (b : List ℕ). putAt b 4 (u16s counts)) first
     ∙ putAt-more b₀ 0 (u16s (length counts ∷ m ∷ [])) (u16s counts) (omega (arith, length-u16s counts))

@@ -6,20 +6,20 @@
 --     sends-numbers, receipts-numbers    the numbers of the parts are those of the decoded table
 -- Assumes nothing.
 use mathlib.Core.List.{List, [], _∷_, _++_, append-nil}
-use mathlib.Core.Path.{_≡_, refl, sym, ap, _∙_, subst, subst⁻¹}
-use Prim.Native.Nat.{ℕ, zero, suc, _+_, _*_, _/_, _%_, _<_}
-use native.Mathlib.Nat.{le-of-suc-le-suc, not-suc-le-zero}
+use mathlib.Core.Path.{_≡_, refl, sym, ap, ap₂, _∙_, subst, subst⁻¹}
+use Prim.Native.Nat.{ℕ, zero, suc, _+_, _*_, _/_, _%_, _≤_, _<_}
+use native.Mathlib.Nat.{add-comm, le-of-suc-le-suc, mul-suc, mul-zero, not-suc-le-zero}
 use native.Mathlib.Omega.{arith}
-use lib.ListN.{length, getD, length-append, List·getD-append}
-use lib.Seq.{ext-getD, getD-append-add}
+use lib.ListN.{length, getD, take, drop, length-append, length-drop, take-append-drop, List·getD-append}
+use lib.Seq.{ext-getD, getD-append-add, getD-drop}
 use Rattle.tables.proofs.FormatLaws.{ReadSizes, count-place, count-some, decode-messages, decode-processes, length-entries}
 use Rattle.tables.proofs.FormatLaws.{receipt-place, received-there, receiver-there, send-place, sender-there, sent-there}
 use Rattle.tables.proofs.ListLaws.{tabulate-append, tabulate-ext}
-use Rattle.tables.proofs.NumberLaws.{u16At-drop, u16At-u16s}
+use Rattle.tables.proofs.NumberLaws.{later-number, numberAt-drop, u16At-u16s}
 use Rattle.tables.specs.Format.{checkpointAt, countAt, countsAt, countsPart, decode, encode, entriesOf, messageAt, messagesIn}
 use Rattle.tables.specs.Format.{processAt, processesIn, receiptsAt, receiptsOf, receiptsPart, sendsAt, sendsOf, sendsPart, tableLength}
 use Rattle.tables.specs.Lists.{tabulate}
-use Rattle.tables.specs.Numbers.{u16At, u16Bytes, u16s}
+use Rattle.tables.specs.Numbers.{bytesOf, bytesOfAll, numberAt, u16At, u16s}
 use Rattle.tables.specs.Table.{Message, Table, countOf, messageCount, messageOf, noMessage, processCount}
 
 pub message-path : (m m′ : Message) → m .sender ≡ m′ .sender → m .sent ≡ m′ .sent → m .receiver ≡ m′ .receiver
@@ -164,16 +164,29 @@ module _ (t : Table) (fits : Fits16 t) where
 unfoldable pub AreBytes : List ℕ → Type 0
 AreBytes bytes = (i : ℕ) → getD bytes i 0 < 256
 
-value-low : (x y : ℕ) → x < 256 → y < 256 → (x + 256 * y) % 256 ≡ x
-value-low x y l l′ = omega arith
+bytes-read : (w : ℕ) (bytes : List ℕ) → w ≤ length bytes → AreBytes bytes → bytesOf w (numberAt w bytes 0) ≡ take w bytes
+unfolding bytesOf numberAt AreBytes
+bytes-read zero bytes l b = refl
+bytes-read (suc w) [] l b = absurd (omega arith)
+bytes-read (suc w) (x ∷ rest) l b =
+    let later : numberAt w (x ∷ rest) (0 + 1) ≡ numberAt w rest 0 = later-number w (x ∷ []) rest 0 in
+    let low : (x + 256 * numberAt w rest 0) % 256 ≡ x = omega (arith, b 0) in
+    let high : (x + 256 * numberAt w rest 0) / 256 ≡ numberAt w rest 0 = omega (arith, b 0) in
+    rw (later, low, high) (ap (λ (l : List ℕ). x ∷ l) (bytes-read w rest (le-of-suc-le-suc l) (λ i. b (suc i))))
 
-value-high : (x y : ℕ) → x < 256 → y < 256 → (x + 256 * y) / 256 % 256 ≡ y
-value-high x y l l′ = omega arith
-
-next-number : (x y : ℕ) (rest : List ℕ) (j : ℕ) → u16At (x ∷ y ∷ rest) (2 * suc j) ≡ u16At rest (2 * j)
-next-number x y rest j =
-    let place : 2 * suc j ≡ 2 + 2 * j = omega arith in
-    ap (u16At (x ∷ y ∷ rest)) place ∙ sym (u16At-drop 2 (x ∷ y ∷ rest) (2 * j))
+-- the numbers of the bytes, one after another, give the bytes again
+pub all-read : (w n : ℕ) (bytes : List ℕ) → length bytes ≡ w * n → AreBytes bytes
+    → bytesOfAll w (tabulate n (λ j. numberAt w bytes (w * j))) ≡ bytes
+unfolding bytesOfAll tabulate AreBytes
+all-read w zero [] e b = refl
+all-read w zero (x ∷ rest) e b = absurd (omega (arith, e, mul-zero w))
+all-read w (suc n) bytes e b =
+    let room : w + w * n ≡ length bytes = omega (arith, e, mul-suc w n) in
+    let first = ap (λ (at : ℕ). bytesOf w (numberAt w bytes at)) (mul-zero w) ∙ bytes-read w bytes (omega arith) b in
+    let same : tabulate n (λ j. numberAt w bytes (w * suc j)) ≡ tabulate n (λ j. numberAt w (drop w bytes) (w * j)) =
+    tabulate-ext n _ _ (λ j l. ap (numberAt w bytes) (mul-suc w j ∙ add-comm (w * j) w) ∙ sym (numberAt-drop w w bytes (w * j))) in
+    let rest = all-read w n (drop w bytes) (omega (arith, length-drop w bytes)) (λ i. rw (getD-drop w bytes i 0) (b (w + i))) in
+    ap₂ (λ (x y : List ℕ). x ++ y) first (ap (bytesOfAll w) same ∙ rest) ∙ take-append-drop w bytes
 
 -- where the numbers of each part stand
 count-byte : (p : ℕ) → countsAt + 2 * p ≡ 2 * suc (suc p)
@@ -196,22 +209,6 @@ twice-suc k = omega arith
 
 double : (k i : ℕ) → 2 * suc k + i ≡ suc (suc (2 * k + i))
 double k i = omega arith
-
--- the numbers of the bytes, two by two, give the bytes again
-u16s-read : (n : ℕ) (bytes : List ℕ) → length bytes ≡ 2 * n → AreBytes bytes → u16s (tabulate n (λ j. u16At bytes (2 * j))) ≡ bytes
-unfolding u16s u16Bytes u16At tabulate AreBytes
-u16s-read zero [] e b = refl
-u16s-read zero (x ∷ rest) e b = absurd (omega arith)
-u16s-read (suc n) [] e b = absurd (omega arith)
-u16s-read (suc n) (x ∷ []) e b = absurd (omega arith)
-u16s-read (suc n) (x ∷ y ∷ rest) e b =
-    let later : u16s (tabulate n (λ j. u16At rest (2 * j))) ≡ rest = u16s-read n rest (omega arith) (λ i. b (suc (suc i))) in
-    let same : tabulate n (λ j. u16At (x ∷ y ∷ rest) (2 * suc j)) ≡ tabulate n (λ j. u16At rest (2 * j)) =
-    tabulate-ext n _ _ (λ j l. next-number x y rest j)
-    in
-    let low = value-low x y (b 0) (b 1) in
-    let high = value-high x y (b 0) (b 1) in
-    rw (same, later, low, high)
 
 -- entries that are the even and the odd numbers of w, one after another
 pub entries-tabulate : (f g : Message → ℕ) (m : ℕ) (h : ℕ → Message) (w : ℕ → ℕ)
@@ -281,7 +278,7 @@ module _ (bytes : List ℕ) where
   pub encode-decode : length bytes ≡ tableLength n m → AreBytes bytes → encode (decode bytes) ≡ bytes
   unfolding encode
   encode-decode whole b =
-      ap u16s numbers-read ∙ u16s-read (suc (suc (n + (2 * m + 2 * m)))) bytes (omega arith) b
+      ap u16s numbers-read ∙ all-read 2 (suc (suc (n + (2 * m + 2 * m)))) bytes (omega arith) b
 
 -- the two numbers of entry k of an array
 pub even-number : (part : List ℕ) (k : ℕ) → u16At part (4 * k) ≡ u16At part (2 * (2 * k))

@@ -16,7 +16,7 @@ use native.Mathlib.Nat.{add-zero}
 use native.Mathlib.Omega.{arith}
 use lib.ListN.{length, length-append, drop, length-take, length-drop, List·getD-eq-default}
 use Rattle.tables.proofs.ListLaws.{getD-tabulate, length-tabulate}
-use Rattle.tables.proofs.NumberLaws.{length-u16s, u16At-drop, u16At-take}
+use Rattle.tables.proofs.NumberLaws.{length-u16s, numberAt-drop, numberAt-take}
 use Rattle.tables.specs.Format.{checkpointAt, countAt, countsAt, countsPart, decode, encode, entriesOf, messageAt, messagesIn}
 use Rattle.tables.specs.Format.{processAt, processesIn, receiptsAt, receiptsOf, receiptsPart, sendsAt, sendsOf, sendsPart, tableLength}
 use Rattle.tables.specs.Numbers.{u16At}
@@ -56,20 +56,20 @@ module _ (bytes : List ℕ) where
 module _ (bytes : List ℕ) where
   pub count-place : (p : ℕ) → p < processesIn bytes → countAt (countsPart bytes) p ≡ u16At bytes (countsAt + 2 * p)
   unfolding countAt countsPart
-  count-place p l = u16At-take (2 * processesIn bytes) (drop countsAt bytes) (2 * p) (omega arith) ∙ u16At-drop countsAt bytes (2 * p)
+  count-place p l = numberAt-take 2 (2 * processesIn bytes) (drop countsAt bytes) (2 * p) (omega arith) ∙ numberAt-drop 2 countsAt bytes (2 * p)
 
   module _ (at : ℕ) (l : at + 1 < 4 * messagesIn bytes) where
     pub send-place : u16At (sendsPart bytes) at ≡ u16At bytes (sendsAt (processesIn bytes) + at)
     unfolding sendsPart
     send-place =
-        u16At-take (4 * messagesIn bytes) (drop (sendsAt (processesIn bytes)) bytes) at l
-        ∙ u16At-drop (sendsAt (processesIn bytes)) bytes at
+        numberAt-take 2 (4 * messagesIn bytes) (drop (sendsAt (processesIn bytes)) bytes) at (omega arith)
+        ∙ numberAt-drop 2 (sendsAt (processesIn bytes)) bytes at
 
     pub receipt-place : u16At (receiptsPart bytes) at ≡ u16At bytes (receiptsAt (processesIn bytes) (messagesIn bytes) + at)
     unfolding receiptsPart
     receipt-place =
-        u16At-take (4 * messagesIn bytes) (drop (receiptsAt (processesIn bytes) (messagesIn bytes)) bytes) at l
-        ∙ u16At-drop (receiptsAt (processesIn bytes) (messagesIn bytes)) bytes at
+        numberAt-take 2 (4 * messagesIn bytes) (drop (receiptsAt (processesIn bytes) (messagesIn bytes)) bytes) at (omega arith)
+        ∙ numberAt-drop 2 (receiptsAt (processesIn bytes) (messagesIn bytes)) bytes at
 
 -- what stands beyond the last process and the last message of a table
 pub count-beyond : (t : Table) (p : ℕ) → processCount t ≤ p → countOf t p ≡ 0

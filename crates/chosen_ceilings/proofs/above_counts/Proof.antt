@@ -1,4 +1,5 @@
--- `above_counts` meets its contract: the loop leaves at the first ceiling that is above its count.
+-- `above_counts` meets its contract. The invariant: no ceiling of a process below p is above its count (`CeilingsBelow`), so the loop leaves at the
+-- first that is. The measure is the number of ceilings not looked at.
 -- Assumes nothing.
 use borrow.Author.Needs.{needs}
 use native.Mathlib.Omega.{arith}

@@ -1,4 +1,5 @@
--- `checkpoint_total` meets its contract: the loop adds one count after another.
+-- `checkpoint_total` meets its contract. The invariant: N is the table's and small, so that the sum can't wrap, and the total is that of the counts below
+-- p (`Summed`). The measure is the number of counts not added.
 -- Assumes nothing.
 use Prim.Native.Nat.{_-_, _≤_}
 use Rattle.listing_text.proofs.RowLaws.{Summed, summed-all, summed-more, summed-none}
@@ -10,7 +11,6 @@ use native.Mathlib.Omega.{arith}
 use Rattle.listing_text.proofs.checkpoint_total.Statement.{statement}
 use Rattle.listing_text.proofs.checkpoint_total.Tie as tie
 
--- N is the table's and small, so that the sum can't wrap.
 abbrev Inv-loop : tie.InvT-loop
 Inv-loop table n total₀ p₀ total p = (n ≡ processCount (decode table)) × (n ≤ 32) × Summed (decode table) total p
 

@@ -1,4 +1,5 @@
--- `give_way` meets its contract: it finds the latest unmarked state of one process after another.
+-- `give_way` meets its contract. The invariant: each process below p has its latest unmarked state at or below its root (`Giving`). The measure is the
+-- number of processes that are left.
 -- Assumes nothing.
 use native.Mathlib.Omega.{arith}
 use Prim.Native.Nat.{_-_}

@@ -1,4 +1,5 @@
--- `last_roots` meets its contract: what it holds is a stage of the procedure, from the ceilings on until no root is marked.
+-- `last_roots` meets its contract. The invariant: roots and marks are a stage of the procedure that began at the ceilings (`Running`). The measure is the
+-- sum of the roots, since a round with a marked root brings one down.
 -- Assumes nothing.
 use borrow.Author.Needs.{needs}
 use mathlib.Core.Path.{sym, _∙_}

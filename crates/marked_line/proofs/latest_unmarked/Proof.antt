@@ -1,4 +1,5 @@
--- `latest_unmarked` meets its contract: it goes down from the root until a bit is not set, and that of state 0 is not.
+-- `latest_unmarked` meets its contract. The invariant: all states above y, up to the root, are marked (`Descending`); that of state 0 is not, so the loop
+-- stops there at the latest. The measure is y.
 -- Assumes nothing.
 use native.Mathlib.Omega.{arith}
 use borrow.Author.Tests.{not-false, not-true}

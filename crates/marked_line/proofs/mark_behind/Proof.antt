@@ -1,4 +1,5 @@
--- `mark_behind` meets its contract: it marks the states behind the root of one process after another.
+-- `mark_behind` meets its contract. The invariant: of each process below p the states behind its root are marked, and nothing else was (`Behind`). The
+-- measure is the number of processes that are left.
 -- Assumes nothing.
 use native.Mathlib.Omega.{arith}
 use Prim.Native.Nat.{_-_}

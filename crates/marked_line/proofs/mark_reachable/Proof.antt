@@ -1,4 +1,5 @@
--- `mark_reachable` meets its contract: passes mark reachable states alone, and the last one, which marks none, says that no other is left.
+-- `mark_reachable` meets its contract. The invariant: all that is marked is reachable (`Growing`); a pass that marks nothing says that nothing is left. The
+-- measure is the number of bits that are not set.
 -- Assumes nothing.
 use borrow.Author.Tests.{not-false, not-true}
 use Rattle.marked_line.proofs.MarkPassLaws.{Growing, grown-none, passes-end, passes-more}

@@ -1,12 +1,12 @@
--- `pass` meets its contract: of each message its tests say that it leads to nothing new, or its receipt and the states behind it are
--- marked.
+-- `pass` meets its contract. The invariant: all that is marked is reachable, and where nothing was marked no message from k on leads to an unmarked state
+-- (`MarkPassing`). The measure is the number of messages not looked at.
 -- Assumes nothing.
 use borrow.Author.Needs.{needs}
 use borrow.Author.Tests.{not-false, not-true}
 use native.Mathlib.Omega.{arith}
 use mathlib.Core.Path.{sym, _∙_}
 use denote.Ref.{now}
-use Rattle.marked_line.proofs.MarkPassLaws.{AtReceipt, AtSend, Passing, end-in, pass-begins, pass-ends, pass-marks, receipt-in, receiver-few}
+use Rattle.marked_line.proofs.MarkPassLaws.{AtReceipt, AtSend, MarkPassing, end-in, pass-begins, pass-ends, pass-marks, receipt-in, receiver-few}
 use Rattle.marked_line.proofs.MarkPassLaws.{row-ready, send-there, skips-marked, skips-undelivered, skips-unreached}
 use Rattle.marked_line.proofs.MarkRowLaws.{first-there}
 use Rattle.tables.proofs.ReadLaws.{messages-read}
@@ -14,7 +14,7 @@ use Rattle.marked_line.proofs.pass.Statement.{statement}
 use Rattle.marked_line.proofs.pass.Tie as tie
 
 abbrev Inv-loop : tie.InvT-loop
-Inv-loop table first roots marks₀ m sends receipts marked₀ k₀ marks marked k = Passing table first roots marks₀ marks marked m sends receipts k
+Inv-loop table first roots marks₀ m sends receipts marked₀ k₀ marks marked k = MarkPassing table first roots marks₀ marks marked m sends receipts k
 
 abbrev μ-loop : tie.MeasureT-loop
 μ-loop table first roots marks₀ m sends receipts marked₀ k₀ marks marked k = k

@@ -1,16 +1,16 @@
--- `root_marked` meets its contract: it asks for the mark of one root after another.
+-- `root_marked` meets its contract. The invariant: no root of a process below p is marked (`RootsAsked`). The measure is the number of roots not asked for.
 -- Assumes nothing.
 use native.Mathlib.Omega.{arith}
-use mathlib.Core.Path.{refl, sym, _∙_}
+use mathlib.Core.Path.{sym, _∙_}
 use Prim.Native.Nat.{_-_}
-use Rattle.marked_line.proofs.RootLaws.{Asking, asking-found, asking-more, asking-none, first-there-now, over-known, over-none}
+use Rattle.marked_line.proofs.RootLaws.{RootsAsked, asked-found, asked-more, asked-none, first-there-now, over-known, over-none}
 use Rattle.marked_line.proofs.RootLaws.{root-in, root-there}
-use Rattle.tables.specs.Lists.{anyBelow}
+use Rattle.tables.proofs.SearchedLaws.{searched-none}
 use Rattle.marked_line.proofs.root_marked.Statement.{statement}
 use Rattle.marked_line.proofs.root_marked.Tie as tie
 
 abbrev Inv-loop : tie.InvT-loop
-Inv-loop table first roots marks n p₀ p = Asking table first roots marks n p
+Inv-loop table first roots marks n p₀ p = RootsAsked table first roots marks n p
 
 abbrev μ-loop : tie.MeasureT-loop
 μ-loop table first roots marks n p₀ p = n - p
@@ -24,14 +24,13 @@ turn c = c .before .before
 
 -- ---- the needs, in the code's course
 pub root-marked-spec : {M : Type 1} → statement M
-unfolding anyBelow
 root-marked-spec =
     tie.close
     (tie.spec
     Inv-loop
     μ-loop
     (λ c κs. c .before .before .before .before .pre .accepted)
-    (λ c. record { over = over-none (entry c .pre) (c .process-count .ensures); none = refl })
+    (λ c. record { over = over-none (entry c .pre) (c .process-count .ensures); searched = searched-none })
     (λ c. omega arith)
     (λ c. root-there (c .before .before .loop .inv .over) (c .before .loop-test .taken))
     (λ c κs. first-there-now (c .before .before .loop .inv .over) (c .before .loop-test .taken))
@@ -40,11 +39,11 @@ root-marked-spec =
     root-in (over .lent) (over-known over (turn c .loop-test .taken)) (c .state-bit .ensures))
     (λ c.
     let here = c .before .before in
-    asking-found (turn here .before .loop .inv) (turn here .loop-test .taken) (here .state-bit .ensures) (sym (c .before .is-marked .ensures)
+    asked-found (turn here .before .loop .inv) (turn here .loop-test .taken) (here .state-bit .ensures) (sym (c .before .is-marked .ensures)
     ∙ c .if1 .taken))
     (λ c. omega arith)
     (λ c. omega arith)
     (λ c.
     let here = c .before .before in
-    asking-more (turn here .before .loop .inv) (turn here .loop-test .taken) (here .state-bit .ensures) (sym (c .before .is-marked .ensures) ∙ c .if1 .left))
-    (λ c. asking-none (c .before .loop .inv) (c .loop-test .left)))
+    asked-more (turn here .before .loop .inv) (turn here .loop-test .taken) (here .state-bit .ensures) (sym (c .before .is-marked .ensures) ∙ c .if1 .left))
+    (λ c. asked-none (c .before .loop .inv) (c .loop-test .left)))

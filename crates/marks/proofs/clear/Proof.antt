@@ -1,4 +1,4 @@
--- `clear` meets its contract: the loop clears one byte after another.
+-- `clear` meets its contract. The invariant: the first k bytes are 0 and the others as they were. The measure is the number of bytes that are left.
 -- Assumes nothing.
 use mathlib.Core.Path.{refl}
 use native.Mathlib.Omega.{arith}

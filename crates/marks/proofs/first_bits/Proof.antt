@@ -1,4 +1,5 @@
--- `first_bits` meets its contract: the loop fills the array from the front.
+-- `first_bits` meets its contract. The invariant: the first p entries are the first bits of their processes, and the next one is known (`Firsts`). The
+-- measure is the number of entries that are left.
 -- Assumes nothing.
 use native.Mathlib.Omega.{arith}
 use mathlib.Core.Path.{refl}

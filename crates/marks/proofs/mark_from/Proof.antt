@@ -1,4 +1,5 @@
--- `mark_from` meets its contract: the loop sets one bit after another, and stops at the end or at one that is set.
+-- `mark_from` meets its contract. The invariant: the bits from the first up to b are set and the others as they were (`Rowing`); the loop stops at the end
+-- or at a bit that is set. The measure is the number of bits up to the end.
 -- Assumes nothing.
 use native.Mathlib.Omega.{arith}
 use Prim.Native.Nat.{_-_}

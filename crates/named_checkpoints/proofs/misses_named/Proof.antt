@@ -1,4 +1,4 @@
--- `misses_named` meets its contract: the loop leaves at the first name that the line does not have.
+-- `misses_named` meets its contract. The invariant: the line has the first k names. The measure is the number of names not looked at.
 -- Assumes nothing.
 use native.Mathlib.Omega.{arith}
 use borrow.Author.Tests.{eq-eqb, ne-eqb}

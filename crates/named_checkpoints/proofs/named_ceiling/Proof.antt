@@ -1,4 +1,5 @@
--- `named_ceiling` meets its contract: the loop puts the named numbers into an array of the counts.
+-- `named_ceiling` meets its contract. The invariant: the array has the counts, with the first k named numbers in their place (`NamedPut`). The measure is the
+-- number of names that are left.
 -- Assumes nothing.
 use borrow.Author.Needs.{needs}
 use native.Mathlib.Omega.{arith}

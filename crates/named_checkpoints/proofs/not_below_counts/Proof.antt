@@ -1,4 +1,5 @@
--- `not_below_counts` meets its contract: the loop leaves at the first number that is not below its count.
+-- `not_below_counts` meets its contract. The invariant: the first k numbers are below their counts (`NamedBelow`). The measure is the number of names not
+-- looked at.
 -- Assumes nothing.
 use borrow.Author.Needs.{needs}
 use native.Mathlib.Omega.{arith}

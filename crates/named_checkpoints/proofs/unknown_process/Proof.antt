@@ -1,4 +1,4 @@
--- `unknown_process` meets its contract: the loop leaves at the first process of N or above.
+-- `unknown_process` meets its contract. The invariant: the first k processes are known (`Known`). The measure is the number of those not looked at.
 -- Assumes nothing.
 use borrow.Author.Needs.{needs}
 use native.Mathlib.Omega.{arith}

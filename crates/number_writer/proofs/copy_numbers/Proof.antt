@@ -1,4 +1,5 @@
--- `copy_numbers` meets its contract: the loop copies one number after another.
+-- `copy_numbers` meets its contract. The invariant: the first k numbers stand where they belong, and the rest of the buffer is as it was (`Written`). The
+-- measure is the number of those that are left.
 -- Assumes nothing.
 use native.Mathlib.Omega.{arith}
 use Prim.Native.Nat.{_-_, _*_}
@@ -35,6 +36,6 @@ copy-numbers-spec =
     (λ c.
     let put = c .before .before in
     let read = put .before in
-    numbers-more _ (turn read .before .loop .inv) (turn read .loop-test .taken) (rw (read .u16-at .ensures) at (put .put-u16 .ensures)))
+    numbers-more 2 _ (turn read .before .loop .inv) (turn read .loop-test .taken) (rw (read .u16-at .ensures) at (put .put-u16 .ensures)))
     (λ c. c .before .loop .inv .same-length)
-    (λ c. numbers-all _ (c .before .loop .inv) (c .loop-test .left)))
+    (λ c. numbers-all 2 _ (c .before .loop .inv) (c .loop-test .left)))

@@ -1,4 +1,5 @@
--- `put_numbers` meets its contract: the loop puts one number after another.
+-- `put_numbers` meets its contract. The invariant: the first k numbers stand where they belong, and the rest of the buffer is as it was (`Written`). The
+-- measure is the number of those that are left.
 -- Assumes nothing.
 use native.Mathlib.Omega.{arith}
 use mathlib.Core.Path.{ap, _∙_}
@@ -37,6 +38,6 @@ put-numbers-spec =
     (λ c. omega arith)
     (λ c.
     let put = c .before .before in
-    numbers-more _ (turn put .before .loop .inv) (turn put .loop-test .taken) (put .put-u16 .ensures))
+    numbers-more 2 _ (turn put .before .loop .inv) (turn put .loop-test .taken) (put .put-u16 .ensures))
     (λ c. c .before .loop .inv .same-length)
-    (λ c. numbers-all _ (c .before .loop .inv) (c .loop-test .left) ∙ ap (putAt _ _) (ap u16s (tabulate-getD _ 0))))
+    (λ c. numbers-all 2 _ (c .before .loop .inv) (c .loop-test .left) ∙ ap (putAt _ _) (ap u16s (tabulate-getD _ 0))))

@@ -1,4 +1,5 @@
--- `store_numbers` meets its contract: the loop copies one number after another.
+-- `store_numbers` meets its contract. The invariant: the first k numbers stand where they belong, and the rest of the buffer is as it was (`Written`). The
+-- measure is the number of those that are left.
 -- Assumes nothing.
 use native.Mathlib.Omega.{arith}
 use mathlib.Core.List.{[], _∷_}

@@ -1,4 +1,4 @@
--- `checks::bad_count` meets its contract: the loop leaves at the first count that is 0 or above 4,096.
+-- `checks::bad_count` meets its contract. The invariant: no count below p is bad. The measure is the number of counts not looked at.
 -- Assumes nothing.
 use native.Mathlib.Omega.{arith}
 use Prim.Native.Nat.{_-_}

@@ -1,4 +1,5 @@
--- `checks::first_caught` meets its contract: the loop leaves at the first message that a check catches or that is out of turn.
+-- `checks::first_caught` meets its contract. The invariant: no check catches a message below k, each of them is in turn, and the array has where the last
+-- of each channel stands (`Turned`). The measure is the number of messages not looked at.
 -- Assumes nothing.
 use borrow.Author.Needs.{needs}
 use native.Mathlib.Omega.{arith}

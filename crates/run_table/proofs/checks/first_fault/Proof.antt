@@ -1,4 +1,5 @@
--- `checks::first_fault` meets its contract: the loop looks at one message after another, from the first that a check catches, or that is out of turn, on.
+-- `checks::first_fault` meets its contract. The invariant: `first` is the first place of a check that catches a message below k (`Looked`); from there on it
+-- can only come down. The measure is the number of messages not looked at.
 -- Assumes nothing.
 use native.Mathlib.Omega.{arith}
 use Prim.Native.Nat.{_-_}

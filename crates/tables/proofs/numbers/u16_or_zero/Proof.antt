@@ -3,7 +3,7 @@
 use borrow.Author.Needs.{needs}
 use native.Mathlib.Omega.{arith}
 use mathlib.Core.Path.{sym, _∙_}
-use Rattle.tables.proofs.NumberLaws.{u16At-beyond, u16At-last}
+use Rattle.tables.proofs.NumberLaws.{numberAt-beyond, u16At-last}
 use Rattle.tables.proofs.numbers.u16_or_zero.Statement.{statement}
 use Rattle.tables.proofs.numbers.u16_or_zero.Tie as tie
 
@@ -12,7 +12,7 @@ u16-or-zero-spec =
     tie.close
     (tie.spec
     -- beyond the end
-    (λ c. sym (u16At-beyond _ _ (c .if1 .taken)))
+    (λ c. sym (numberAt-beyond 2 _ _ (c .if1 .taken)))
     -- at its last byte
     (λ c. search needs)
     (λ c. search needs)

@@ -1,4 +1,5 @@
--- `parts::count_array` meets its contract: the loop fills the array from the front.
+-- `parts::count_array` meets its contract. The invariant: the parts are the table's, and the first p entries of the array are its counts, the others 0
+-- (`Filling`). The measure is the number of counts that are left.
 -- Assumes nothing.
 use borrow.Author.Needs.{needs}
 use native.Mathlib.Omega.{arith}

@@ -1,4 +1,5 @@
--- `parts::number_array` meets its contract: the loop fills the array from the front.
+-- `parts::number_array` meets its contract. The invariant: the first p entries of the array are the numbers, the others 0 (`Filling`). The measure is the
+-- number of those that are left.
 -- Assumes nothing.
 use native.Mathlib.Omega.{arith}
 use mathlib.Core.Path.{refl}
