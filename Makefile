@@ -85,13 +85,20 @@ format: need-rt
 	@sh tests/crates/readable.sh
 	@sh tests/crates/must_fail.sh target/tests
 
-# The second implementation: its own tests, and its answers to the scripts of the test programs.
+# The tests of a Rust folder: $(call cargo_test,folder,name,options) runs them, shows the log where one fails, and leaves it in
+# target/tests/name.log; $(call tests_passed,name,whose) says how many passed.
 CARGO = cargo --quiet
+define cargo_test
+@mkdir -p target/tests
+@cd $(1) && $(CARGO) test $(3) --target-dir ../../target/cargo >../../target/tests/$(2).log 2>&1 || { cat ../../target/tests/$(2).log; exit 1; }
+endef
+tests_passed = @awk '/^test result/ { n += $$4 } END { print n " tests of $(2) passed" }' target/tests/$(1).log
+
+# The second implementation: its own tests, and its answers to the scripts of the test programs.
 CASES = run_table_cases keeper_cases marking_cases
 reference-tests: need-cargo
-	@mkdir -p target/tests
-	@cd tests/reference && $(CARGO) test --release --target-dir ../../target/cargo >../../target/tests/reference.log 2>&1 || { cat ../../target/tests/reference.log; exit 1; }
-	@awk '/^test result/ { n += $$4 } END { print n " tests of the second implementation passed" }' target/tests/reference.log
+	$(call cargo_test,tests/reference,reference,--release)
+	$(call tests_passed,reference,the second implementation)
 	@cd tests/reference && $(CARGO) build --release --target-dir ../../target/cargo
 	@sh tests/corpus/fresh.sh target/cargo/release/corpus
 	@for c in $(CASES); do \
@@ -204,12 +211,11 @@ rust-lint: archives need-cargo
 # The Rust binding: its doc tests on example A and its tests on the corpus, with all its features; and that it builds
 # with none of them, and with each alone.
 binding-tests: archives need-cargo
-	@mkdir -p target/tests
 	@for features in '' run_table listing_text; do \
 	    (cd bindings/rust && $(CARGO) build --release --no-default-features --features "$$features" --target-dir ../../target/cargo) || exit 1; \
 	done
-	@cd bindings/rust && $(CARGO) test --release --all-features --target-dir ../../target/cargo >../../target/tests/binding.log 2>&1 || { cat ../../target/tests/binding.log; exit 1; }
-	@awk '/^test result/ { n += $$4 } END { print n " tests of the Rust binding passed" }' target/tests/binding.log
+	$(call cargo_test,bindings/rust,binding,--release --all-features)
+	$(call tests_passed,binding,the Rust binding)
 
 # Every call of the library beside the second implementation: tables by chance, at the limits, damaged, mark buffers
 # at and near their least length, shares at and near exact halves, chains of steps; then every table of small scopes. A
@@ -218,7 +224,7 @@ CALLS = 510000
 SEED = 20260101
 SCOPES =
 differential-tests: archives need-cargo
-	@cd tests/differential && $(CARGO) test --release --target-dir ../../target/cargo >../../target/tests/differential.log 2>&1 || { cat ../../target/tests/differential.log; exit 1; }
+	$(call cargo_test,tests/differential,differential,--release)
 	@cd tests/differential && $(CARGO) build --release --target-dir ../../target/cargo
 	@target/cargo/release/calls $(CALLS) $(SEED)
 	@target/cargo/release/scopes $(SCOPES)
@@ -247,10 +253,9 @@ tools: need-cargo archives
 	@cd tools/keeper && $(CARGO) build --release --target-dir ../../target/cargo
 
 tools-tests: tools
-	@mkdir -p target/tests
-	@cd tools/keeper && $(CARGO) test --release --target-dir ../../target/cargo >../../target/tests/tools.log 2>&1 || { cat ../../target/tests/tools.log; exit 1; }
+	$(call cargo_test,tools/keeper,tools,--release)
 	@sed -n 's/.*keeper tests: /keeper tests: /p' target/tests/tools.log
-	@awk '/^test result/ { n += $$4 } END { print n " tests of the command keeper passed" }' target/tests/tools.log
+	$(call tests_passed,tools,the command keeper)
 
 # The examples. first_run.c: its output is the expected one. The run that discards: its tests, in which every store
 # that deletes too much is found, and then further seeds, in a temporary folder that is removed whatever happens.
@@ -262,8 +267,8 @@ examples-tests: archives need-gcc need-cargo discarding
 	@target/tests/first_run >target/tests/first_run.output
 	@diff examples/first_run.expected target/tests/first_run.output || { echo "examples/first_run.c prints something else than expected (<)"; exit 1; }
 	@echo "examples/first_run.c prints what is expected"
-	@cd examples/discarding && $(CARGO) test --release --target-dir ../../target/cargo >../../target/tests/discarding.log 2>&1 || { cat ../../target/tests/discarding.log; exit 1; }
-	@awk '/^test result/ { n += $$4 } END { print n " tests of the run that discards passed" }' target/tests/discarding.log
+	$(call cargo_test,examples/discarding,discarding,--release)
+	$(call tests_passed,discarding,the run that discards)
 	@$(in_folder) $(DISCARDING) --seed 11 --seeds 2 --folder "$$folder"
 
 SOAK_SECONDS = 60
@@ -286,10 +291,9 @@ change-report: need-git need-cargo
 
 # The report's own tests. Without git, those on small repositories are left out.
 report-tests: need-cargo
-	@mkdir -p target/tests
-	@tests=; command -v git >/dev/null 2>&1 || { tests=--lib; echo "git is missing: the change report is tested on no repository"; }; \
-	    cd tools/change_report && $(CARGO) test $$tests --target-dir ../../target/cargo >../../target/tests/report.log 2>&1 || { cat ../../target/tests/report.log; exit 1; }
-	@awk '/^test result/ { n += $$4 } END { print n " tests of the change report passed" }' target/tests/report.log
+	@command -v git >/dev/null 2>&1 || echo "git is missing: the change report is tested on no repository"
+	$(call cargo_test,tools/change_report,report,$$(command -v git >/dev/null 2>&1 || echo --lib))
+	$(call tests_passed,report,the change report)
 
 # Times of the archive's calls, some two or three minutes; no part of `make test`. valgrind, and python3 with
 # networkx, add columns where they are there.
