@@ -47,6 +47,7 @@
 //!     1, 2, 0, 1, 0, 2, 1, 2, 0, 0, // the receipts: process, number; 0: waiting
 //! ]);
 //! assert_eq!(keeper::check_table(&example_a), Ok(()));
+//! # assert_eq!(example_a, include_bytes!("../../../tests/corpus/example_a.table"));
 //! ```
 //!
 //! # Features
@@ -135,8 +136,7 @@ pub const SHEET_ROOM: usize = 4 + 4 * SCRATCH_NUMBERS + 2 * MOST_MESSAGES;
 /// Checks: the table's.
 ///
 /// ```
-/// # let example_a: Vec<u8> = [2u16, 5, 3, 3, 0, 0, 1, 0, 1, 1, 0, 2, 1, 2, 1, 2, 0, 1, 0, 2, 1, 2, 0, 0]
-/// #     .iter().flat_map(|number| number.to_le_bytes()).collect();
+/// # let example_a = include_bytes!("../../../tests/corpus/example_a.table").to_vec();
 /// use keeper::{check_table, Refusal};
 /// assert_eq!(check_table(&example_a), Ok(()));
 /// assert_eq!(check_table(&example_a[..3]), Err(Refusal::TableTooShort));
@@ -160,8 +160,7 @@ pub fn check_table(table: &[u8]) -> Result<(), Refusal> {
 /// Checks: the table's, 16.
 ///
 /// ```
-/// # let example_a: Vec<u8> = [2u16, 5, 3, 3, 0, 0, 1, 0, 1, 1, 0, 2, 1, 2, 1, 2, 0, 1, 0, 2, 1, 2, 0, 0]
-/// #     .iter().flat_map(|number| number.to_le_bytes()).collect();
+/// # let example_a = include_bytes!("../../../tests/corpus/example_a.table").to_vec();
 /// let mut line = [0; keeper::LARGEST_LINE];
 /// let written = keeper::recovery_line(&example_a, &mut line)?;
 /// assert_eq!(line[..written], [1, 0, 1, 0]);
@@ -194,8 +193,7 @@ pub fn recovery_line(table: &[u8], answer: &mut [u8]) -> Result<usize, Refusal> 
 /// Checks: the table's, 12, 16.
 ///
 /// ```
-/// # let example_a: Vec<u8> = [2u16, 5, 3, 3, 0, 0, 1, 0, 1, 1, 0, 2, 1, 2, 1, 2, 0, 1, 0, 2, 1, 2, 0, 0]
-/// #     .iter().flat_map(|number| number.to_le_bytes()).collect();
+/// # let example_a = include_bytes!("../../../tests/corpus/example_a.table").to_vec();
 /// use keeper::{line_of_set, Refusal};
 /// let mut line = [0; keeper::LARGEST_LINE];
 /// // Process 0 holds; process 1 holds; nobody holds.
@@ -238,8 +236,7 @@ pub fn line_of_set(table: &[u8], set: u32, answer: &mut [u8]) -> Result<usize, R
 /// Checks: the table's, 17, 18, 16.
 ///
 /// ```
-/// # let example_a: Vec<u8> = [2u16, 5, 3, 3, 0, 0, 1, 0, 1, 1, 0, 2, 1, 2, 1, 2, 0, 1, 0, 2, 1, 2, 0, 0]
-/// #     .iter().flat_map(|number| number.to_le_bytes()).collect();
+/// # let example_a = include_bytes!("../../../tests/corpus/example_a.table").to_vec();
 /// use keeper::{line_under, Refusal};
 /// let mut line = [0; keeper::LARGEST_LINE];
 /// // Process 1 from before its checkpoint 2; then process 0 from before its checkpoint 1.
@@ -292,8 +289,7 @@ pub fn line_under(table: &[u8], ceilings: &[u16], answer: &mut [u8]) -> Result<u
 /// Checks: the table's, 17, 18, 19, 16.
 ///
 /// ```
-/// # let example_a: Vec<u8> = [2u16, 5, 3, 3, 0, 0, 1, 0, 1, 1, 0, 2, 1, 2, 1, 2, 0, 1, 0, 2, 1, 2, 0, 0]
-/// #     .iter().flat_map(|number| number.to_le_bytes()).collect();
+/// # let example_a = include_bytes!("../../../tests/corpus/example_a.table").to_vec();
 /// use keeper::{marked_line, marks_size, Refusal};
 /// let mut line = [0; keeper::LARGEST_LINE];
 /// let mut marks = vec![0; marks_size(&example_a)?];
@@ -339,8 +335,7 @@ pub fn marked_line(
 /// / 8 bytes, rounded up; [`MARKS_ROOM`] at most. Refused as by [`check_table`].
 ///
 /// ```
-/// # let example_a: Vec<u8> = [2u16, 5, 3, 3, 0, 0, 1, 0, 1, 1, 0, 2, 1, 2, 1, 2, 0, 1, 0, 2, 1, 2, 0, 0]
-/// #     .iter().flat_map(|number| number.to_le_bytes()).collect();
+/// # let example_a = include_bytes!("../../../tests/corpus/example_a.table").to_vec();
 /// use keeper::{marks_size, Refusal};
 /// assert_eq!(marks_size(&example_a), Ok(1)); // 3 + 3 + 2 bits
 /// assert_eq!(marks_size(&[1, 0, 0, 0, 8, 0]), Ok(2)); // 8 + 1 bits
@@ -386,8 +381,7 @@ const fn marks_bytes(sum: usize, n: usize) -> usize {
 /// Checks: the table's, 20, 21, 22, 16.
 ///
 /// ```
-/// # let example_a: Vec<u8> = [2u16, 5, 3, 3, 0, 0, 1, 0, 1, 1, 0, 2, 1, 2, 1, 2, 0, 1, 0, 2, 1, 2, 0, 0]
-/// #     .iter().flat_map(|number| number.to_le_bytes()).collect();
+/// # let example_a = include_bytes!("../../../tests/corpus/example_a.table").to_vec();
 /// use keeper::{stand_together, Refusal};
 /// let mut line = [0; keeper::LARGEST_LINE];
 /// // Checkpoint 1 of both processes; then checkpoint 2 of process 1.
@@ -440,8 +434,7 @@ pub fn stand_together(
 /// Checks: the table's, 10, 11, 14, 16.
 ///
 /// ```
-/// # let example_a: Vec<u8> = [2u16, 5, 3, 3, 0, 0, 1, 0, 1, 1, 0, 2, 1, 2, 1, 2, 0, 1, 0, 2, 1, 2, 0, 0]
-/// #     .iter().flat_map(|number| number.to_le_bytes()).collect();
+/// # let example_a = include_bytes!("../../../tests/corpus/example_a.table").to_vec();
 /// use keeper::{send, Refusal};
 /// let mut next = vec![0; keeper::LARGEST_TABLE];
 /// assert_eq!(send(&example_a, 0, 1, &mut next), Ok(56));
@@ -480,8 +473,7 @@ pub fn send(table: &[u8], from: u16, to: u16, answer: &mut [u8]) -> Result<usize
 /// Checks: the table's, 10, 13, 24, 14, 16.
 ///
 /// ```
-/// # let example_a: Vec<u8> = [2u16, 5, 3, 3, 0, 0, 1, 0, 1, 1, 0, 2, 1, 2, 1, 2, 0, 1, 0, 2, 1, 2, 0, 0]
-/// #     .iter().flat_map(|number| number.to_le_bytes()).collect();
+/// # let example_a = include_bytes!("../../../tests/corpus/example_a.table").to_vec();
 /// use keeper::{save, Refusal};
 /// let mut next = vec![0; keeper::LARGEST_TABLE];
 /// // Message 4 waits for process 0.
@@ -525,8 +517,7 @@ pub fn save(table: &[u8], process: u16, list: &[u16], answer: &mut [u8]) -> Resu
 /// Checks: the table's, 10, 13, 24, 16.
 ///
 /// ```
-/// # let example_a: Vec<u8> = [2u16, 5, 3, 3, 0, 0, 1, 0, 1, 1, 0, 2, 1, 2, 1, 2, 0, 1, 0, 2, 1, 2, 0, 0]
-/// #     .iter().flat_map(|number| number.to_le_bytes()).collect();
+/// # let example_a = include_bytes!("../../../tests/corpus/example_a.table").to_vec();
 /// use keeper::{receive, Refusal};
 /// let mut next = vec![0; keeper::LARGEST_TABLE];
 /// // Message 4 waits for process 0.
@@ -573,8 +564,7 @@ pub fn receive(
 /// answer is.
 ///
 /// ```
-/// # let example_a: Vec<u8> = [2u16, 5, 3, 3, 0, 0, 1, 0, 1, 1, 0, 2, 1, 2, 1, 2, 0, 1, 0, 2, 1, 2, 0, 0]
-/// #     .iter().flat_map(|number| number.to_le_bytes()).collect();
+/// # let example_a = include_bytes!("../../../tests/corpus/example_a.table").to_vec();
 /// let mut next = vec![0; keeper::LARGEST_TABLE];
 /// let written = keeper::fall_back(&example_a, &mut next)?;
 /// let after: Vec<u8> = [2u16, 2, 2, 2, 0, 0, 1, 0, 1, 0, 0, 1]
@@ -611,8 +601,7 @@ pub fn fall_back(table: &[u8], answer: &mut [u8]) -> Result<usize, Refusal> {
 /// Checks: the table's, 15, 16.
 ///
 /// ```
-/// # let example_a: Vec<u8> = [2u16, 5, 3, 3, 0, 0, 1, 0, 1, 1, 0, 2, 1, 2, 1, 2, 0, 1, 0, 2, 1, 2, 0, 0]
-/// #     .iter().flat_map(|number| number.to_le_bytes()).collect();
+/// # let example_a = include_bytes!("../../../tests/corpus/example_a.table").to_vec();
 /// use keeper::{keep_sheet, Refusal};
 /// let mut scratch = [0; keeper::SCRATCH_NUMBERS];
 /// let mut sheet = [0; keeper::SHEET_ROOM];

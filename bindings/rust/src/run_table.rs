@@ -4,8 +4,7 @@
 //! as 0, and a process or message that is not there has numbers of 0.
 //!
 //! ```
-//! # let example_a: Vec<u8> = [2u16, 5, 3, 3, 0, 0, 1, 0, 1, 1, 0, 2, 1, 2, 1, 2, 0, 1, 0, 2, 1, 2, 0, 0]
-//! #     .iter().flat_map(|number| number.to_le_bytes()).collect();
+//! # let example_a = include_bytes!("../../../tests/corpus/example_a.table").to_vec();
 //! use keeper::run_table::{check, count, messages, processes, received, receiver, sender, sent};
 //! assert_eq!(check(&example_a), Ok(()));
 //! assert_eq!((processes(&example_a), messages(&example_a)), (2, 5));

@@ -136,8 +136,7 @@ impl Sheet {
     ///
     /// ```
     /// # use keeper::{Refusal, Sheet, Table};
-    /// # let example_a: Vec<u8> = [2u16, 5, 3, 3, 0, 0, 1, 0, 1, 1, 0, 2, 1, 2, 1, 2, 0, 1, 0, 2, 1, 2, 0, 0]
-    /// #     .iter().flat_map(|number| number.to_le_bytes()).collect();
+    /// # let example_a = include_bytes!("../../../tests/corpus/example_a.table").to_vec();
     /// let sheet = Table::from_bytes(&example_a[..])?.keep_sheet();
     /// assert_eq!(**sheet.line(1).unwrap(), [3, 2]);
     /// assert_eq!(sheet.line(2), None);

@@ -143,8 +143,7 @@ impl Table {
     ///
     /// ```
     /// use keeper::{Refusal, Table};
-    /// # let example_a: Vec<u8> = [2u16, 5, 3, 3, 0, 0, 1, 0, 1, 1, 0, 2, 1, 2, 1, 2, 0, 1, 0, 2, 1, 2, 0, 0]
-    /// #     .iter().flat_map(|number| number.to_le_bytes()).collect();
+    /// # let example_a = include_bytes!("../../../tests/corpus/example_a.table").to_vec();
     /// let table = Table::from_bytes(&example_a[..])?;
     /// assert_eq!(table.counts().collect::<Vec<_>>(), [3, 3]);
     /// assert_eq!(Table::from_bytes(&example_a[..47]), Err(Refusal::WrongLength));
@@ -186,8 +185,7 @@ impl Table {
     ///
     /// ```
     /// # use keeper::{Refusal, Table};
-    /// # let example_a: Vec<u8> = [2u16, 5, 3, 3, 0, 0, 1, 0, 1, 1, 0, 2, 1, 2, 1, 2, 0, 1, 0, 2, 1, 2, 0, 0]
-    /// #     .iter().flat_map(|number| number.to_le_bytes()).collect();
+    /// # let example_a = include_bytes!("../../../tests/corpus/example_a.table").to_vec();
     /// let table = Table::from_bytes(&example_a[..])?;
     /// // Message 3 of example A was sent by process 0 after its checkpoint 2,
     /// // and received by process 1 before its checkpoint 2.
@@ -233,8 +231,7 @@ impl Table {
     ///
     /// ```
     /// # use keeper::{Refusal, Table};
-    /// # let example_a: Vec<u8> = [2u16, 5, 3, 3, 0, 0, 1, 0, 1, 1, 0, 2, 1, 2, 1, 2, 0, 1, 0, 2, 1, 2, 0, 0]
-    /// #     .iter().flat_map(|number| number.to_le_bytes()).collect();
+    /// # let example_a = include_bytes!("../../../tests/corpus/example_a.table").to_vec();
     /// let table = Table::from_bytes(&example_a[..])?;
     /// assert_eq!(*table.line_of_set(0b10)?, [3, 2]); // process 1 of example A holds
     /// assert_eq!(table.line_of_set(0b11)?, table.recovery_line());
@@ -252,8 +249,7 @@ impl Table {
     ///
     /// ```
     /// # use keeper::{Refusal, Table};
-    /// # let example_a: Vec<u8> = [2u16, 5, 3, 3, 0, 0, 1, 0, 1, 1, 0, 2, 1, 2, 1, 2, 0, 1, 0, 2, 1, 2, 0, 0]
-    /// #     .iter().flat_map(|number| number.to_le_bytes()).collect();
+    /// # let example_a = include_bytes!("../../../tests/corpus/example_a.table").to_vec();
     /// let table = Table::from_bytes(&example_a[..])?;
     /// // Process 0 is taken up from before its checkpoint 1; process 1 is free.
     /// assert_eq!(*table.line_under(&[0, table.count(1)])?, [0, 1]);
@@ -275,8 +271,7 @@ impl Table {
     ///
     /// ```
     /// # use keeper::{Refusal, Table};
-    /// # let example_a: Vec<u8> = [2u16, 5, 3, 3, 0, 0, 1, 0, 1, 1, 0, 2, 1, 2, 1, 2, 0, 1, 0, 2, 1, 2, 0, 0]
-    /// #     .iter().flat_map(|number| number.to_le_bytes()).collect();
+    /// # let example_a = include_bytes!("../../../tests/corpus/example_a.table").to_vec();
     /// let table = Table::from_bytes(&example_a[..])?;
     /// let mut marks = vec![0; table.marks_size()];
     /// assert_eq!(*table.marked_line(&[0, 3], &mut marks)?, [0, 1]);
@@ -305,8 +300,7 @@ impl Table {
     ///
     /// ```
     /// # use keeper::{Checkpoint, Refusal, Table};
-    /// # let example_a: Vec<u8> = [2u16, 5, 3, 3, 0, 0, 1, 0, 1, 1, 0, 2, 1, 2, 1, 2, 0, 1, 0, 2, 1, 2, 0, 0]
-    /// #     .iter().flat_map(|number| number.to_le_bytes()).collect();
+    /// # let example_a = include_bytes!("../../../tests/corpus/example_a.table").to_vec();
     /// let table = Table::from_bytes(&example_a[..])?;
     /// let of = |process, number| Checkpoint { process, number };
     /// let line = table.stand_together(&[of(0, 1), of(1, 1)])?.expect("a yes");
@@ -334,8 +328,7 @@ impl Table {
     ///
     /// ```
     /// # use keeper::{Refusal, Table};
-    /// # let example_a: Vec<u8> = [2u16, 5, 3, 3, 0, 0, 1, 0, 1, 1, 0, 2, 1, 2, 1, 2, 0, 1, 0, 2, 1, 2, 0, 0]
-    /// #     .iter().flat_map(|number| number.to_le_bytes()).collect();
+    /// # let example_a = include_bytes!("../../../tests/corpus/example_a.table").to_vec();
     /// let mut table = Table::from_bytes(&example_a[..])?;
     /// assert_eq!(table.send(0, 1), Ok(5));
     /// assert!(table.message(5).unwrap().is_waiting());
@@ -358,8 +351,7 @@ impl Table {
     ///
     /// ```
     /// # use keeper::{Refusal, Table};
-    /// # let example_a: Vec<u8> = [2u16, 5, 3, 3, 0, 0, 1, 0, 1, 1, 0, 2, 1, 2, 1, 2, 0, 1, 0, 2, 1, 2, 0, 0]
-    /// #     .iter().flat_map(|number| number.to_le_bytes()).collect();
+    /// # let example_a = include_bytes!("../../../tests/corpus/example_a.table").to_vec();
     /// let mut table = Table::from_bytes(&example_a[..])?;
     /// assert_eq!(table.save(1, &[4]), Err(Refusal::BadList)); // it waits for process 0
     /// assert_eq!(table.save(0, &[4]), Ok(3));
@@ -384,8 +376,7 @@ impl Table {
     ///
     /// ```
     /// # use keeper::{Refusal, Table};
-    /// # let example_a: Vec<u8> = [2u16, 5, 3, 3, 0, 0, 1, 0, 1, 1, 0, 2, 1, 2, 1, 2, 0, 1, 0, 2, 1, 2, 0, 0]
-    /// #     .iter().flat_map(|number| number.to_le_bytes()).collect();
+    /// # let example_a = include_bytes!("../../../tests/corpus/example_a.table").to_vec();
     /// let mut table = Table::from_bytes(&example_a[..])?;
     /// assert_eq!(table.receive(1, &[4]), Err(Refusal::BadList)); // it waits for process 0
     /// table.receive(0, &[4])?;
@@ -423,8 +414,7 @@ impl Table {
     ///
     /// ```
     /// # use keeper::{Refusal, Table};
-    /// # let example_a: Vec<u8> = [2u16, 5, 3, 3, 0, 0, 1, 0, 1, 1, 0, 2, 1, 2, 1, 2, 0, 1, 0, 2, 1, 2, 0, 0]
-    /// #     .iter().flat_map(|number| number.to_le_bytes()).collect();
+    /// # let example_a = include_bytes!("../../../tests/corpus/example_a.table").to_vec();
     /// let mut table = Table::from_bytes(&example_a[..])?;
     /// // The identities of what is stored: by process and number, and by position.
     /// let mut checkpoints = vec![vec![100, 102, 105], vec![101, 103, 104]];
@@ -472,8 +462,7 @@ impl Table {
     ///
     /// ```
     /// # use keeper::{Checkpoint, Refusal, Table};
-    /// # let example_a: Vec<u8> = [2u16, 5, 3, 3, 0, 0, 1, 0, 1, 1, 0, 2, 1, 2, 1, 2, 0, 1, 0, 2, 1, 2, 0, 0]
-    /// #     .iter().flat_map(|number| number.to_le_bytes()).collect();
+    /// # let example_a = include_bytes!("../../../tests/corpus/example_a.table").to_vec();
     /// let sheet = Table::from_bytes(&example_a[..])?.keep_sheet();
     /// let kept: Vec<_> = sheet.checkpoints().map(|kept| (kept.process, kept.number)).collect();
     /// assert_eq!(kept, [(0, 1), (1, 1), (1, 2)]);
