@@ -17,8 +17,8 @@
 //     sheet SCRATCH LEN   the keep sheet, with a scratch of SCRATCH numbers, 1,184 at most
 //     use                 puts the last answer at the front of the table; a refusal is no answer
 //     # TEXT              printed as it stands
-// test_kit has the lines that build a table. A further call is an arm of `ask`, with LEN as its second
-// number.
+// test_kit has the lines that build a table. A further call is a word of `call_of` and an arm of `ask`, with
+// LEN as its second number.
 use libc::STDIN_FILENO;
 use number_writer::put_numbers;
 use tables::format::MOST_PROCESSES;
@@ -41,11 +41,12 @@ use test_kit::script::MOST_CEILINGS;
 use test_kit::script::ceilings_of;
 use test_kit::script::lent;
 use test_kit::script::line_at;
+use test_kit::script::numbers_in;
+use test_kit::script::says;
 use test_kit::script::size;
 use test_kit::script::size_up_to;
 use test_kit::script::small;
 use test_kit::script::smalls;
-use test_kit::script::starts;
 use test_kit::value;
 use test_kit::word;
 ghost use mathlib.Core.Path.{_≡_};
@@ -113,66 +114,113 @@ fn stand_together(table: &[u8], line: Line, answer: &mut [u8], written: &mut usi
     parts_together(table, &numbers, middle, last, answer, written)
 }
 
-// Makes the call that a line asks for, and answers its number: the one place that knows the calls.
-fn ask(table: &[u8], line: Line, scratch: &mut [u16], answer: &mut [u8], written: &mut usize) -> u32
+// A call that a line asks for.
+enum Call {
+    Recovery,
+    Hold,
+    Under,
+    Stand,
+    Send,
+    Deliver,
+    Save,
+    Fall,
+    Sheet,
+    Nothing,
+}
+
+// The call of a line, by its word.
+fn call_of(text: &[u8]) -> Call {
+    if says(text, b"recovery") {
+        return Call::Recovery;
+    }
+    if says(text, b"hold") {
+        return Call::Hold;
+    }
+    if says(text, b"under") {
+        return Call::Under;
+    }
+    if says(text, b"stand") {
+        return Call::Stand;
+    }
+    if says(text, b"send") {
+        return Call::Send;
+    }
+    if says(text, b"deliver") {
+        return Call::Deliver;
+    }
+    if says(text, b"save") {
+        return Call::Save;
+    }
+    if says(text, b"fall") {
+        return Call::Fall;
+    }
+    if says(text, b"sheet") {
+        return Call::Sheet;
+    }
+    Call::Nothing
+}
+
+// Makes a call with the numbers of a line, and answers its number.
+fn ask(
+    call: Call,
+    table: &[u8],
+    line: Line,
+    scratch: &mut [u16],
+    answer: &mut [u8],
+    written: &mut usize,
+) -> u32
     requires { ⌜ line .count ≤ 16 ⌝ }
 {
-    if starts(line.code, b'r', b'e') {
-        return keeper::keeper_recovery_line(table, answer, written);
-    }
-    if starts(line.code, b'h', b'o') {
-        let set = (size(&line.numbers, 0) % 4294967296) as u32;
-        return keeper::keeper_line_of_set(table, set, answer, written);
-    }
-    if starts(line.code, b'u', b'n') {
-        return line_under(table, line, answer, written);
-    }
-    if starts(line.code, b's', b't') {
-        return stand_together(table, line, answer, written);
-    }
-    if starts(line.code, b's', b'e') {
-        return keeper::keeper_send(
+    match call {
+        Call::Recovery => keeper::keeper_recovery_line(table, answer, written),
+        Call::Hold => {
+            let set = (size(&line.numbers, 0) % 4294967296) as u32;
+            keeper::keeper_line_of_set(table, set, answer, written)
+        }
+        Call::Under => line_under(table, line, answer, written),
+        Call::Stand => stand_together(table, line, answer, written),
+        Call::Send => keeper::keeper_send(
             table,
             small(&line.numbers, 0),
             small(&line.numbers, 1),
             answer,
             written,
-        );
+        ),
+        Call::Deliver => {
+            let numbers = smalls(&line.numbers);
+            let received = behind_two(&numbers, line.count);
+            keeper::keeper_receive(table, small(&line.numbers, 0), received, answer, written)
+        }
+        Call::Save => {
+            let numbers = smalls(&line.numbers);
+            let received = behind_two(&numbers, line.count);
+            keeper::keeper_save(table, small(&line.numbers, 0), received, answer, written)
+        }
+        Call::Fall => keeper::keeper_fall_back(table, answer, written),
+        Call::Sheet => keeper::keeper_keep_sheet(table, scratch, answer, written),
+        Call::Nothing => NO_CALL,
     }
-    if starts(line.code, b'd', b'e') {
-        let numbers = smalls(&line.numbers);
-        let received = behind_two(&numbers, line.count);
-        return keeper::keeper_receive(table, small(&line.numbers, 0), received, answer, written);
-    }
-    if starts(line.code, b's', b'a') {
-        let numbers = smalls(&line.numbers);
-        let received = behind_two(&numbers, line.count);
-        return keeper::keeper_save(table, small(&line.numbers, 0), received, answer, written);
-    }
-    if starts(line.code, b'f', b'a') {
-        return keeper::keeper_fall_back(table, answer, written);
-    }
-    if starts(line.code, b's', b'h') {
-        return keeper::keeper_keep_sheet(table, scratch, answer, written);
-    }
-    NO_CALL
 }
 
-// The length of a line's answer buffer.
-fn room_of(code: u16, list: &[u64; 16]) -> usize {
-    if starts(code, b'r', b'e') {
-        return size(list, 0);
+// The length of a call's answer buffer.
+fn room_of(call: Call, list: &[u64; 16]) -> usize {
+    match call {
+        Call::Recovery => size(list, 0),
+        Call::Fall => size(list, 0),
+        Call::Send => size(list, 2),
+        _ => size(list, 1),
     }
-    if starts(code, b'f', b'a') {
-        return size(list, 0);
-    }
-    if starts(code, b's', b'e') {
-        return size(list, 2);
-    }
-    size(list, 1)
 }
 
-// The length of its scratch: only a keep sheet has one.
+// Whether a call is the keep sheet's, which alone has a scratch.
+fn is_sheet(call: Call) -> bool {
+    match call {
+        Call::Sheet => true,
+        _ => false,
+    }
+}
+
+// The length of its scratch.
 fn scratch_of(sheet: bool, list: &[u64; 16]) -> usize {
     if sheet {
         return size(list, 0);
@@ -241,9 +289,8 @@ fn show(
 
 // Makes the call that a line asks for, with a lent part of the guarded scratch and a room inside the
 // guarded buffer, and prints what it left. Says where the answer ends in the guarded buffer.
-fn call(
+fn guarded_call(
     text: &[u8],
-    at: usize,
     table: &[u8],
     line: Line,
     scratch: &mut [u16],
@@ -252,9 +299,10 @@ fn call(
     requires { ⌜ line .count ≤ 16 ⌝ }
     requires { ⌜ (length (now scratch) ≡ scratchSize) × (length (now space) ≡ spaceSize) ⌝ }
 {
-    let sheet = starts(line.code, b's', b'h');
+    let call = call_of(text);
+    let sheet = is_sheet(call);
     let lent = scratch_of(sheet, &line.numbers);
-    let room = room_of(line.code, &line.numbers);
+    let room = room_of(call, &line.numbers);
     if MOST_LENT < lent {
         return GUARDS;
     }
@@ -265,6 +313,7 @@ fn call(
     let room_end = GUARDS + room;
     let mut written: usize = 777;
     let number = ask(
+        call,
         table,
         line,
         &mut scratch[GUARDS..lent_end],
@@ -274,7 +323,7 @@ fn call(
     if number == NO_CALL {
         return GUARDS;
     }
-    asked(text, at);
+    asked(text);
     let n = run_table::run_table_processes(table) as usize;
     let answer_end = show(sheet, number, written, n, scratch, space, room);
     end();
@@ -282,16 +331,15 @@ fn call(
 }
 
 // Answers a line with new guards, and says where its answer ends in the guarded buffer.
-fn answer(text: &[u8], at: usize, table: &[u8], line: Line, space: &mut [u8]) -> usize
+fn answer(text: &[u8], table: &[u8], line: Line, space: &mut [u8]) -> usize
     requires { ⌜ line .count ≤ 16 ⌝ }
     requires { ⌜ length (now space) ≡ spaceSize ⌝ }
 {
-    comment(text, at, line.code);
+    comment(text);
     let mut scratch = [42405u16; SCRATCH];
     fill(space, 165);
-    call(
+    guarded_call(
         text,
-        at,
         first(table, length_of(table)),
         line,
         &mut scratch,
@@ -310,33 +358,34 @@ fn keep(kept: &mut [u8], len: usize, space: &[u8], answer_end: usize) -> usize {
     len
 }
 
-// Puts the answer that is kept at the front of the table, if a line says so.
-fn use_kept(table: &mut [u8], code: u16, kept: &[u8]) {
-    if starts(code, b'u', b's') {
+// Does what a line says of the table: builds it, or puts the answer that is kept at its front.
+fn change(table: &mut [u8], text: &[u8], list: &[u64; 16], kept: &[u8]) {
+    build(table, text, list);
+    if says(text, b"use") {
         copy(table, kept);
     }
 }
 
-fn run(text: &[u8], table: &mut [u8], space: &mut [u8], kept: &mut [u8])
+fn run(script: &[u8], table: &mut [u8], space: &mut [u8], kept: &mut [u8])
     requires { ⌜ length (now space) ≡ spaceSize ⌝ }
 {
     let mut at = 0;
     let mut kept_len = 0;
-    while at < text.len() {
-        let line = line_at(text, at);
-        build(table, line.code, &line.numbers);
-        use_kept(table, line.code, first(kept, kept_len));
-        let answer_end = answer(text, at, table, line, space);
+    while at < script.len() {
+        let text = line_at(script, at);
+        let line = numbers_in(text);
+        change(table, text, &line.numbers, first(kept, kept_len));
+        let answer_end = answer(text, table, line, space);
         kept_len = keep(kept, kept_len, space, answer_end);
-        at = line.next;
+        at += text.len() + 1;
     }
 }
 
 fn main() {
-    let mut text = [0u8; 65536];
-    let len = io::read_full(STDIN_FILENO, &mut text);
+    let mut script = [0u8; 65536];
+    let len = io::read_full(STDIN_FILENO, &mut script);
     let mut table = [0u8; SPACE];
     let mut space = [0u8; SPACE];
     let mut kept = [0u8; SPACE];
-    run(&text[..len], &mut table, &mut space, &mut kept);
+    run(&script[..len], &mut table, &mut space, &mut kept);
 }

@@ -29,10 +29,11 @@ use test_kit::script::MOST_CEILINGS;
 use test_kit::script::ceilings_of;
 use test_kit::script::lent;
 use test_kit::script::line_at;
+use test_kit::script::numbers_in;
+use test_kit::script::says;
 use test_kit::script::size;
 use test_kit::script::size_up_to;
 use test_kit::script::smalls;
-use test_kit::script::starts;
 use test_kit::value;
 use test_kit::values_end;
 use test_kit::word;
@@ -93,7 +94,7 @@ fn show(
 
 // Makes the call that a line asks for, with marks and a room inside the guarded buffers, and prints what
 // it left.
-fn call(text: &[u8], at: usize, table: &[u8], line: Line, marks: &mut [u8], space: &mut [u8])
+fn call(text: &[u8], table: &[u8], line: Line, marks: &mut [u8], space: &mut [u8])
     requires { ⌜ line .count ≤ 16 ⌝ }
     requires { ⌜ (length (now marks) ≡ spaceSize) × (length (now space) ≡ spaceSize) ⌝ }
 {
@@ -110,41 +111,42 @@ fn call(text: &[u8], at: usize, table: &[u8], line: Line, marks: &mut [u8], spac
         &mut space[GUARDS..room_end],
         &mut written,
     );
-    asked(text, at);
+    asked(text);
     show(number, written, marks, marks_end, before, space, room);
     end();
 }
 
 // Answers a line with new guards.
-fn answer(text: &[u8], at: usize, table: &[u8], line: Line, marks: &mut [u8], space: &mut [u8])
+fn answer(text: &[u8], table: &[u8], line: Line, marks: &mut [u8], space: &mut [u8])
     requires { ⌜ line .count ≤ 16 ⌝ }
     requires { ⌜ (length (now marks) ≡ spaceSize) × (length (now space) ≡ spaceSize) ⌝ }
 {
-    comment(text, at, line.code);
-    if starts(line.code, b'm', b'a') {
+    comment(text);
+    if says(text, b"marked") {
         fill(marks, 165);
         fill(space, 165);
-        call(text, at, first(table, length_of(table)), line, marks, space);
+        call(text, first(table, length_of(table)), line, marks, space);
     }
 }
 
-fn run(text: &[u8], table: &mut [u8], marks: &mut [u8], space: &mut [u8])
+fn run(script: &[u8], table: &mut [u8], marks: &mut [u8], space: &mut [u8])
     requires { ⌜ (length (now marks) ≡ spaceSize) × (length (now space) ≡ spaceSize) ⌝ }
 {
     let mut at = 0;
-    while at < text.len() {
-        let line = line_at(text, at);
-        build(table, line.code, &line.numbers);
-        answer(text, at, table, line, marks, space);
-        at = line.next;
+    while at < script.len() {
+        let text = line_at(script, at);
+        let line = numbers_in(text);
+        build(table, text, &line.numbers);
+        answer(text, table, line, marks, space);
+        at += text.len() + 1;
     }
 }
 
 fn main() {
-    let mut text = [0u8; 32768];
-    let len = io::read_full(STDIN_FILENO, &mut text);
+    let mut script = [0u8; 32768];
+    let len = io::read_full(STDIN_FILENO, &mut script);
     let mut table = [0u8; SPACE];
     let mut marks = [0u8; SPACE];
     let mut space = [0u8; SPACE];
-    run(&text[..len], &mut table, &mut marks, &mut space);
+    run(&script[..len], &mut table, &mut marks, &mut space);
 }

@@ -14,8 +14,9 @@ use test_kit::end;
 use test_kit::first;
 use test_kit::length_of;
 use test_kit::script::line_at;
+use test_kit::script::numbers_in;
+use test_kit::script::says;
 use test_kit::script::size;
-use test_kit::script::starts;
 use test_kit::value;
 
 fn check(table: &[u8]) {
@@ -33,22 +34,22 @@ fn lookup(table: &[u8], p: usize, k: usize) {
 }
 
 // Answers a line.
-fn answer(text: &[u8], at: usize, buffer: &[u8], code: u16, numbers: &[u64; 16]) {
-    comment(text, at, code);
-    if starts(code, b'c', b'h') {
-        asked(text, at);
+fn answer(text: &[u8], buffer: &[u8], numbers: &[u64; 16]) {
+    comment(text);
+    if says(text, b"check") {
+        asked(text);
         check(first(buffer, size(numbers, 0)));
         end();
         return;
     }
-    if starts(code, b'w', b'h') {
-        asked(text, at);
+    if says(text, b"whole") {
+        asked(text);
         check(first(buffer, length_of(buffer)));
         end();
         return;
     }
-    if starts(code, b'l', b'o') {
-        asked(text, at);
+    if says(text, b"lookup") {
+        asked(text);
         lookup(
             first(buffer, size(numbers, 0)),
             size(numbers, 1),
@@ -58,21 +59,20 @@ fn answer(text: &[u8], at: usize, buffer: &[u8], code: u16, numbers: &[u64; 16])
     }
 }
 
-fn run(text: &[u8], buffer: &mut [u8]) {
+fn run(script: &[u8], buffer: &mut [u8]) {
     let mut at = 0;
-    while at < text.len() {
-        let line = line_at(text, at);
-        let code = line.code;
-        let numbers = line.numbers;
-        build(buffer, code, &numbers);
-        answer(text, at, buffer, code, &numbers);
-        at = line.next;
+    while at < script.len() {
+        let text = line_at(script, at);
+        let numbers = numbers_in(text).numbers;
+        build(buffer, text, &numbers);
+        answer(text, buffer, &numbers);
+        at += text.len() + 1;
     }
 }
 
 fn main() {
-    let mut text = [0u8; 16384];
-    let len = io::read_full(STDIN_FILENO, &mut text);
+    let mut script = [0u8; 16384];
+    let len = io::read_full(STDIN_FILENO, &mut script);
     let mut table = [0u8; SPACE];
-    run(&text[..len], &mut table);
+    run(&script[..len], &mut table);
 }

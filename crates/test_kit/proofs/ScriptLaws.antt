@@ -1,19 +1,31 @@
--- What the numbers of a line of a script say.
+-- The lines of a script.
+--     up-to-found, line-there                    what stands before a byte that was searched for; a line, in what is left of the script
 --     given                                      a ceiling that the line has
 --     Lending, lending-none .. lending-all       a loop that takes the ceilings of a line
 -- Assumes nothing.
 use mathlib.Core.List.{List}
-use mathlib.Core.Path.{_≡_, refl, _∙_}
+use mathlib.Core.Path.{_≡_, refl, ap, _∙_}
 use Prim.Native.Nat.{ℕ, _+_, _-_, _≤_, _<_, min, zero-le}
 use native.Mathlib.Decide.{decLt}
-use native.Mathlib.Nat.{min-eq-left, min-eq-right}
+use native.Mathlib.Nat.{min-eq-left, min-eq-right, sub-zero, zero-add}
 use native.Mathlib.Omega.{arith}
 use borrow.Author.Tests.{le-ltb, lt-ltb}
-use lib.ListN.{getD, replicate, set}
+use lib.ListN.{drop, getD, length, length-drop, replicate, set, take}
+use lib.Seq.{take-all, take-length}
+use Rattle.bytes.specs.Bytes.{indexOf, slice}
 use Rattle.tables.proofs.ArrayLaws.{filled-list, filled-more, filled-none}
 use Rattle.tables.specs.Arrays.{Filled}
 use Rattle.tables.specs.Lists.{tabulate}
-use Rattle.test_kit.specs.Scripts.{ceilingAt}
+use Rattle.test_kit.specs.Scripts.{ceilingAt, lineAt, upTo}
+
+-- What stands before a byte that was searched for in all of the text.
+pub up-to-found : (stop : ℕ) (text : List ℕ) {e : ℕ} → e ≡ 0 + indexOf stop (slice 0 (length text) text) → take (e - 0) text ≡ upTo stop text
+unfolding upTo slice
+up-to-found stop text found = rw (sub-zero, found, zero-add, take-length)
+
+-- A line, in what is left of the script.
+pub line-there : (script : List ℕ) (at : ℕ) → upTo 10 (take (length script - at) (drop at script)) ≡ lineAt script at
+line-there script at = ap (upTo 10) (take-all (length script - at) (drop at script) (omega (arith, length-drop at script)))
 
 module _ (numbers : List ℕ) (from count : ℕ) where
   -- a ceiling that the line has; one behind its last number is the one before it

@@ -4,10 +4,9 @@ pub mod guards;
 pub mod script;
 
 use libc::STDOUT_FILENO;
-use script::line_end;
+use script::says;
 use script::size;
 use script::small;
-use script::starts;
 use tables::format::COUNTS_AT;
 use tables::format::receipts_at;
 use tables::format::sends_at;
@@ -247,78 +246,91 @@ pub fn end() {
     io::write_all(STDOUT_FILENO, b"\n");
 }
 
-// Prints the line of a script that starts at a place.
-pub fn echo(text: &[u8], at: usize) {
-    if at < text.len() {
-        let end = line_end(text, at);
-        word(&text[at..end]);
-    }
-}
-
-// Prints the line of a script that starts at a place, where it is a comment.
-pub fn comment(text: &[u8], at: usize, code: u16) {
-    if starts(code, b'#', b' ') {
-        echo(text, at);
+// Prints a line that is a comment.
+pub fn comment(line: &[u8]) {
+    if says(line, b"#") {
+        word(line);
         end();
     }
 }
 
 // Prints a line that asks something, and what stands in front of the answer.
-pub fn asked(text: &[u8], at: usize) {
-    echo(text, at);
+pub fn asked(line: &[u8]) {
+    word(line);
     word(b" ->");
 }
 
-// Does what a line of a script says of the table in the buffer:
+// What a line of a script writes to the table in a buffer:
 //     table N M COUNT      sizes, and every count alike
 //     count P COUNT
 //     message K J Y I R    from checkpoint Y of J to checkpoint R of I
 //     all M J Y I R        the first M messages alike
 //     number AT VALUE      a number at a byte
 //     domino M, backward M a domino of M messages, in the order of sending or the other one
-// A line that says something else is left to the caller.
-pub fn build(buffer: &mut [u8], code: u16, list: &[u64; 16])
+enum Written {
+    Table,
+    Count,
+    Message,
+    All,
+    Number,
+    Domino,
+    Backward,
+    Nothing,
+}
+
+// What a line writes, by its word.
+fn written_by(line: &[u8]) -> Written {
+    if says(line, b"table") {
+        return Written::Table;
+    }
+    if says(line, b"count") {
+        return Written::Count;
+    }
+    if says(line, b"message") {
+        return Written::Message;
+    }
+    if says(line, b"all") {
+        return Written::All;
+    }
+    if says(line, b"number") {
+        return Written::Number;
+    }
+    if says(line, b"domino") {
+        return Written::Domino;
+    }
+    if says(line, b"backward") {
+        return Written::Backward;
+    }
+    Written::Nothing
+}
+
+// Writes what a line says, with its numbers. A line that says something else writes nothing, and is left
+// to the caller.
+pub fn build(buffer: &mut [u8], line: &[u8], list: &[u64; 16])
     ensures { λ _. ⌜ length (now (buffer .exit)) ≡ length (now (buffer .entry)) ⌝ }
 {
-    if starts(code, b't', b'a') {
-        sizes(buffer, small(list, 0), small(list, 1), small(list, 2));
-        return;
-    }
-    if starts(code, b'c', b'o') {
-        count(buffer, small(list, 0), small(list, 1));
-        return;
-    }
-    if starts(code, b'm', b'e') {
-        message(
+    match written_by(line) {
+        Written::Table => sizes(buffer, small(list, 0), small(list, 1), small(list, 2)),
+        Written::Count => count(buffer, small(list, 0), small(list, 1)),
+        Written::Message => message(
             buffer,
             small(list, 0),
             small(list, 1),
             small(list, 2),
             small(list, 3),
             small(list, 4),
-        );
-        return;
-    }
-    if starts(code, b'a', b'l') {
-        messages(
+        ),
+        Written::All => messages(
             buffer,
             small(list, 0),
             small(list, 1),
             small(list, 2),
             small(list, 3),
             small(list, 4),
-        );
-        return;
-    }
-    if starts(code, b'n', b'u') {
-        number(buffer, size(list, 0), small(list, 1));
-        return;
-    }
-    if starts(code, b'd', b'o') {
-        domino(buffer, small(list, 0), false);
-        return;
-    }
-    if starts(code, b'b', b'a') {
-        domino(buffer, small(list, 0), true);
+        ),
+        Written::Number => number(buffer, size(list, 0), small(list, 1)),
+        Written::Domino => domino(buffer, small(list, 0), false),
+        Written::Backward => domino(buffer, small(list, 0), true),
+        Written::Nothing => {}
     }
 }

@@ -1,100 +1,96 @@
-// A test script: lines of a word and decimal numbers, as "message 0 1 2 3 4". A word is known by its
-// first two letters.
-use tables::numbers::u16_or_zero;
+// A test script: lines of a word and decimal numbers, as "message 0 1 2 3 4". A word is all that stands
+// before the first blank.
+use bytes::scan::find;
+use check::same;
+ghost use mathlib.Core.Bool.{true};
 ghost use mathlib.Core.Path.{_≡_};
-ghost use Prim.Native.Nat.{_+_, _*_, _%_, _<_, _≤_, min};
-ghost use lib.Dec.{eqb};
+ghost use Prim.Native.Nat.{_+_, _%_, _<_, _≤_, min};
 ghost use lib.ListN.{getD, length, take};
 ghost use Rattle.tables.specs.Lists.{tabulate};
-ghost use Rattle.tables.specs.Numbers.{u16At};
-ghost use Rattle.test_kit.specs.Scripts.{ceilingAt};
+ghost use Rattle.test_kit.specs.Scripts.{ceilingAt, lineAt, upTo, wordOf};
 
-// A line: its word, its numbers, how many they are, and where the next line starts.
+// The numbers of a line, and how many they are.
 pub struct Line {
-    pub code: u16,
     pub numbers: [u64; 16],
     pub count: usize,
-    pub next: usize,
 }
 
-// Where the line that starts at a place ends: at its line feed, or at the end of the text.
-pub fn line_end(text: &[u8], at: usize) -> usize
+// What stands before the first byte of a value, or all of the text.
+fn up_to(text: &[u8], stop: u8) -> &[u8]
+    ensures { λ r. ⌜ (now r ≡ upTo stop (now (text .entry)))
+        × (length (now r) ≤ length (now (text .entry))) ⌝ }
+{
+    let end = find(text, 0, text.len(), stop);
+    &text[0..end]
+}
+
+// The line of a script that starts at a place, without its line feed.
+pub fn line_at(script: &[u8], at: usize) -> &[u8]
+    requires { ⌜ at ≤ length (now script) ⌝ }
+    ensures { λ r. ⌜ (now r ≡ lineAt (now (script .entry)) at)
+        × (at + length (now r) ≤ length (now (script .entry))) ⌝ }
+{
+    up_to(&script[at..], b'\n')
+}
+
+// Whether a line begins with a word, all of which stands before its first blank.
+pub fn says(line: &[u8], word: &[u8]) -> bool
+    ensures { λ r. ⌜ (r ≡ true → wordOf (now (line .entry)) ≡ now (word .entry))
+        × (wordOf (now (line .entry)) ≡ now (word .entry) → r ≡ true) ⌝ }
+{
+    same(up_to(line, b' '), word)
+}
+
+// A number, and where its digits end.
+struct Number {
+    value: u64,
+    end: usize,
+}
+
+// The number whose digits start at a place, of which the first seventeen count. It ends where it starts
+// if there are none.
+fn number_at(text: &[u8], at: usize) -> Number
     requires { ⌜ at ≤ length (now text) ⌝ }
-    ensures { λ r. ⌜ (at ≤ r) × (r ≤ length (now (text .entry))) ⌝ }
-{
-    let mut i = at;
-    while i < text.len() {
-        if text[i] == b'\n' {
-            return i;
-        }
-        i += 1;
-    }
-    i
-}
-
-// Where the digits that start at a place end, at `end` at the latest.
-fn digits_end(text: &[u8], at: usize, end: usize) -> usize
-    requires { ⌜ (at ≤ end) × (end ≤ length (now text)) ⌝ }
-    ensures { λ r. ⌜ (at ≤ r) × (r ≤ end) ⌝ }
-{
-    let mut i = at;
-    while i < end {
-        if text[i] < b'0' {
-            return i;
-        }
-        if b'9' < text[i] {
-            return i;
-        }
-        i += 1;
-    }
-    i
-}
-
-// The number that the digits from a place to another spell, of which the first seventeen count.
-fn digits_value(text: &[u8], from: usize, to: usize) -> u64
-    requires { ⌜ to ≤ length (now text) ⌝ }
-    ensures { λ r. ⌜ r < 1000000000000000000 ⌝ }
+    ensures { λ r. ⌜ (at ≤ r .end) × (r .end ≤ length (now (text .entry))) ⌝ }
 {
     let mut value: u64 = 0;
-    let mut i = from;
-    while i < to {
-        let digit = (text[i] % 16 % 10) as u64;
-        i += 1;
-        if value < 99999999999999999 {
-            value = 10 * value + digit;
+    let mut i = at;
+    while i < text.len() {
+        let byte = text[i];
+        if byte < b'0' {
+            return Number { value, end: i };
         }
+        if b'9' < byte {
+            return Number { value, end: i };
+        }
+        if value < 99999999999999999 {
+            value = 10 * value + ((byte - b'0') as u64);
+        }
+        i += 1;
     }
-    value
+    Number { value, end: i }
 }
 
-// The line that starts at a place of the text.
-pub fn line_at(text: &[u8], at: usize) -> Line
-    requires { ⌜ at < length (now text) ⌝ }
-    ensures { λ r. ⌜ (at < r .next) × (r .next ≤ length (now (text .entry)) + 1) × (r .count ≤ 16)
-        × (r .code ≡ u16At (now (text .entry)) at) ⌝ }
+// The numbers of a line: sixteen at most.
+pub fn numbers_in(text: &[u8]) -> Line
+    ensures { λ r. ⌜ r .count ≤ 16 ⌝ }
 {
-    let end = line_end(text, at);
     let mut numbers = [0u64; 16];
     let mut count = 0;
-    let mut i = at;
-    while i < end {
-        let stop = digits_end(text, i, end);
-        if stop == i {
+    let mut i = 0;
+    while i < text.len() {
+        let number = number_at(text, i);
+        if number.end == i {
             i += 1;
             continue;
         }
         if count < 16 {
-            numbers[count] = digits_value(text, i, stop);
+            numbers[count] = number.value;
             count += 1;
         }
-        i = stop;
+        i = number.end;
     }
-    Line {
-        code: u16_or_zero(text, at),
-        numbers,
-        count,
-        next: end + 1,
-    }
+    Line { numbers, count }
 }
 
 // Number i of a line, as 16 bits.
@@ -166,11 +162,4 @@ pub fn lent(ceilings: &[u16], count: usize) -> &[u16]
     ensures { λ r. ⌜ now r ≡ take count (now (ceilings .entry)) ⌝ }
 {
     &ceilings[..count]
-}
-
-// Whether a word's code is that of two letters: the 16-bit number that they are.
-pub fn starts(code: u16, first: u8, second: u8) -> bool
-    ensures { λ r. ⌜ r ≡ eqb code (first + 256 * second) ⌝ }
-{
-    code == (first as u16) + 256 * (second as u16)
 }

@@ -9,11 +9,11 @@ use Rattle.keeper_cases.proofs.run.Statement.{statement}
 use Rattle.keeper_cases.proofs.run.Tie as tie
 
 abbrev Inv-loop : tie.InvT-loop
-Inv-loop text table₀ space₀ kept₀ at₀ kept-len₀ table space kept at kept-len =
+Inv-loop script table₀ space₀ kept₀ at₀ kept-len₀ table space kept at kept-len =
     (length table ≡ length table₀) × (length space ≡ spaceSize) × (length kept ≡ length kept₀)
 
 abbrev μ-loop : tie.MeasureT-loop
-μ-loop text table₀ space₀ kept₀ at₀ kept-len₀ table space kept at kept-len = length text + 1 - at
+μ-loop script table₀ space₀ kept₀ at₀ kept-len₀ table space kept at kept-len = length script + 1 - at
 
 pub run-spec : {M : Type 1} → statement M
 run-spec =
@@ -30,6 +30,8 @@ run-spec =
     (λ c κs. search needs)
     (λ c κs. search needs)
     -- the next one
+    (λ c. search needs)
+    (λ c. search needs)
     (λ c. search needs)
     (λ c. search needs)
     -- the buffers are as long as they were

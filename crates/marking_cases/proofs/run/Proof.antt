@@ -9,11 +9,11 @@ use Rattle.marking_cases.proofs.run.Statement.{statement}
 use Rattle.marking_cases.proofs.run.Tie as tie
 
 abbrev Inv-loop : tie.InvT-loop
-Inv-loop text table₀ marks₀ space₀ at₀ table marks space at =
+Inv-loop script table₀ marks₀ space₀ at₀ table marks space at =
     (length table ≡ length table₀) × (length marks ≡ spaceSize) × (length space ≡ spaceSize)
 
 abbrev μ-loop : tie.MeasureT-loop
-μ-loop text table₀ marks₀ space₀ at₀ table marks space at = length text + 1 - at
+μ-loop script table₀ marks₀ space₀ at₀ table marks space at = length script + 1 - at
 
 pub run-spec : {M : Type 1} → statement M
 run-spec =
@@ -26,7 +26,10 @@ run-spec =
     (λ c κs. search needs)
     (λ c κs. search needs)
     (λ c κs. search needs)
+    (λ c κs. search needs)
     -- the next one
+    (λ c. search needs)
+    (λ c. search needs)
     (λ c. search needs)
     (λ c. search needs)
     -- the buffers are as long as they were

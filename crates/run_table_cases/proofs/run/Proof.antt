@@ -8,10 +8,10 @@ use Rattle.run_table_cases.proofs.run.Statement.{statement}
 use Rattle.run_table_cases.proofs.run.Tie as tie
 
 abbrev Inv-loop : tie.InvT-loop
-Inv-loop text buffer₀ at₀ buffer at = length buffer ≡ length buffer₀
+Inv-loop script buffer₀ at₀ buffer at = length buffer ≡ length buffer₀
 
 abbrev μ-loop : tie.MeasureT-loop
-μ-loop text buffer₀ at₀ buffer at = length text + 1 - at
+μ-loop script buffer₀ at₀ buffer at = length script + 1 - at
 
 pub run-spec : {M : Type 1} → statement M
 run-spec =
@@ -24,7 +24,10 @@ run-spec =
     (λ c κs. search needs)
     (λ c κs. search needs)
     (λ c κs. search needs)
+    (λ c κs. search needs)
     -- the next one
+    (λ c. search needs)
+    (λ c. search needs)
     (λ c. search needs)
     (λ c. search needs)
     -- the buffer is as long as it was
