@@ -20,7 +20,7 @@ unfolding evenOf roundedQuotient allPortions portions
 all-portions = refl
 
 pub share-cases : allShares shareCases ≡ true
-unfolding evenOf roundedQuotient allShares shareCases share checkpointTotal tableA tableB tableC tableD processesIn messagesIn countsPart sendsPart receiptsPart countAt
-    processAt checkpointAt messageAt decode numberAt bytesOf bytesOfAll tabulate anyBelow rows select sum processCount messageCount countOf messageOf ceilingOf
-    lineOf single isOrphan lower pass passes lineUnder holderLine keepsCheckpoint keptCheckpoints
+unfolding evenOf roundedQuotient allShares shareCases share checkpointTotal tableA tableB tableC tableD processesIn messagesIn countsPart sendsPart
+    receiptsPart countAt processAt checkpointAt messageAt decode numberAt bytesOf bytesOfAll tabulate anyBelow rows select sum processCount
+    messageCount countOf messageOf ceilingOf lineOf single isOrphan lower pass passes lineUnder holderLine keepsCheckpoint keptCheckpoints
 share-cases = refl

@@ -15,7 +15,8 @@ use Rattle.run_table.specs.EntryChecks.{aboveAt, badCountAt, notBelowAt,
 use Rattle.tables.specs.Table.{mostCheckpoints}
 
 -- ---- count p, as the loop of check 5 read it
-pub bad-is : (counts : List ℕ) (p : ℕ) {r : ℕ} → r ≡ u16At counts (2 * p) → {b : Bool} → outside mostCheckpoints r ≡ b → badCountAt counts p ≡ b
+pub bad-is : (counts : List ℕ) (p : ℕ) {r : ℕ} → r ≡ u16At counts (2 * p) → {b : Bool}
+    → outside mostCheckpoints r ≡ b → badCountAt counts p ≡ b
 unfolding badCountAt badCount countAt
 bad-is counts p read e = ap (outside mostCheckpoints) (sym read) ∙ e
 

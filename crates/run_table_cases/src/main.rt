@@ -13,11 +13,11 @@ use test_kit::comment;
 use test_kit::end;
 use test_kit::first;
 use test_kit::length_of;
-use test_kit::script::line_at;
-use test_kit::script::numbers_in;
-use test_kit::script::says;
-use test_kit::script::size;
 use test_kit::value;
+use test_script::line_at;
+use test_script::numbers_in;
+use test_script::says;
+use test_script::size;
 
 fn check(table: &[u8]) {
     value(run_table::run_table_check(table) as u64);

@@ -1,5 +1,3 @@
 -- The laws of the test programs' functions.
 --     BufferLaws    what they write to a buffer, and what a test says of one
---     ScriptLaws    what the numbers of a line say
 mod BufferLaws
-mod ScriptLaws

@@ -1,17 +1,16 @@
 // What the test programs build tables and print their lines with. A place beyond the end of a buffer
 // is left out, so that every function takes any buffer.
 pub mod guards;
-pub mod script;
 
 use libc::STDOUT_FILENO;
-use script::says;
-use script::size;
-use script::small;
 use tables::format::COUNTS_AT;
 use tables::format::receipts_at;
 use tables::format::sends_at;
 use tables::format::table_length;
 use tables::numbers::u16_or_zero;
+use test_script::says;
+use test_script::size;
+use test_script::small;
 ghost use mathlib.Core.Path.{_≡_};
 ghost use Prim.Native.Nat.{_<_};
 ghost use lib.ListN.{getD, length, set, take};

@@ -1,10 +1,10 @@
--- `script::number_at` stays within the text.
+-- `number_at` stays within the text.
 -- Assumes nothing.
 use borrow.Author.Needs.{needs}
 use Prim.Native.Nat.{_-_, _≤_}
 use lib.ListN.{length}
-use Rattle.test_kit.proofs.script.number_at.Statement.{statement}
-use Rattle.test_kit.proofs.script.number_at.Tie as tie
+use Rattle.test_script.proofs.number_at.Statement.{statement}
+use Rattle.test_script.proofs.number_at.Tie as tie
 
 abbrev Inv-loop : tie.InvT-loop
 Inv-loop text at value₀ i₀ value i = (at ≤ i) × (i ≤ length text)

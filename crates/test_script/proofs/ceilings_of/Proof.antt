@@ -1,13 +1,13 @@
--- `script::ceilings_of` meets its contract: the loop takes one ceiling after another.
+-- `ceilings_of` meets its contract: the loop takes one ceiling after another.
 -- Assumes nothing.
 use borrow.Author.Needs.{needs}
 use native.Mathlib.Omega.{arith}
 use mathlib.Core.Logic.{⊎-elim}
 use mathlib.Core.Path.{_∙_}
 use Prim.Native.Nat.{_-_}
-use Rattle.test_kit.proofs.ScriptLaws.{Lending, given, lending-all, lending-more, lending-none}
-use Rattle.test_kit.proofs.script.ceilings_of.Statement.{statement}
-use Rattle.test_kit.proofs.script.ceilings_of.Tie as tie
+use Rattle.test_script.proofs.ScriptLaws.{Lending, given, lending-all, lending-more, lending-none}
+use Rattle.test_script.proofs.ceilings_of.Statement.{statement}
+use Rattle.test_script.proofs.ceilings_of.Tie as tie
 
 abbrev Inv-loop : tie.InvT-loop
 Inv-loop numbers from count ceilings₀ last₀ k₀ ceilings last k = Lending numbers from count ceilings last k

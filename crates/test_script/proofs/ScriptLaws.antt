@@ -16,7 +16,7 @@ use Rattle.bytes.specs.Bytes.{indexOf, slice}
 use Rattle.tables.proofs.ArrayLaws.{filled-list, filled-more, filled-none}
 use Rattle.tables.specs.Arrays.{Filled}
 use Rattle.tables.specs.Lists.{tabulate}
-use Rattle.test_kit.specs.Scripts.{ceilingAt, lineAt, upTo}
+use Rattle.test_script.specs.Scripts.{ceilingAt, lineAt, upTo}
 
 -- What stands before a byte that was searched for in all of the text.
 pub up-to-found : (stop : ℕ) (text : List ℕ) {e : ℕ} → e ≡ 0 + indexOf stop (slice 0 (length text) text) → take (e - 0) text ≡ upTo stop text

@@ -1,12 +1,12 @@
--- `script::up_to` meets its contract: all of the text is searched.
+-- `up_to` meets its contract: all of the text is searched.
 -- Assumes nothing.
 use borrow.Author.Needs.{needs}
 use native.Mathlib.Omega.{arith}
 use native.Mathlib.Nat.{sub-zero}
 use lib.ListN.{length-take}
-use Rattle.test_kit.proofs.ScriptLaws.{up-to-found}
-use Rattle.test_kit.proofs.script.up_to.Statement.{statement}
-use Rattle.test_kit.proofs.script.up_to.Tie as tie
+use Rattle.test_script.proofs.ScriptLaws.{up-to-found}
+use Rattle.test_script.proofs.up_to.Statement.{statement}
+use Rattle.test_script.proofs.up_to.Tie as tie
 
 pub up-to-spec : {M : Type 1} → statement M
 up-to-spec =

@@ -1,9 +1,9 @@
--- `script::says` meets its contract: the bytes up to the first blank are compared with the word.
+-- `says` meets its contract: the bytes up to the first blank are compared with the word.
 -- Assumes nothing.
 use borrow.Author.Needs.{needs}
 use mathlib.Core.Path.{sym, _∙_}
-use Rattle.test_kit.proofs.script.says.Statement.{statement}
-use Rattle.test_kit.proofs.script.says.Tie as tie
+use Rattle.test_script.proofs.says.Statement.{statement}
+use Rattle.test_script.proofs.says.Tie as tie
 
 pub says-spec : {M : Type 1} → statement M
 says-spec =

@@ -7,7 +7,7 @@ ghost use mathlib.Core.Path.{_≡_};
 ghost use Prim.Native.Nat.{_+_, _%_, _<_, _≤_, min};
 ghost use lib.ListN.{getD, length, take};
 ghost use Rattle.tables.specs.Lists.{tabulate};
-ghost use Rattle.test_kit.specs.Scripts.{ceilingAt, lineAt, upTo, wordOf};
+ghost use Rattle.test_script.specs.Scripts.{ceilingAt, lineAt, upTo, wordOf};
 
 // The numbers of a line, and how many they are.
 pub struct Line {

@@ -1,11 +1,11 @@
--- `script::numbers_in` stays within the text, and takes sixteen numbers at most.
+-- `numbers_in` stays within the text, and takes sixteen numbers at most.
 -- Assumes nothing.
 use borrow.Author.Needs.{needs}
 use mathlib.Core.Path.{_≡_}
 use Prim.Native.Nat.{_-_, _≤_}
 use lib.ListN.{length}
-use Rattle.test_kit.proofs.script.numbers_in.Statement.{statement}
-use Rattle.test_kit.proofs.script.numbers_in.Tie as tie
+use Rattle.test_script.proofs.numbers_in.Statement.{statement}
+use Rattle.test_script.proofs.numbers_in.Tie as tie
 
 abbrev Inv-loop : tie.InvT-loop
 Inv-loop text numbers₀ count₀ i₀ numbers count i = (i ≤ length text) × (count ≤ 16) × (length numbers ≡ 16)

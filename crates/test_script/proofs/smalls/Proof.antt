@@ -1,4 +1,4 @@
--- `script::smalls` meets its contract: the loop takes one number after another.
+-- `smalls` meets its contract: the loop takes one number after another.
 -- Assumes nothing.
 use borrow.Author.Needs.{needs}
 use mathlib.Core.Path.{refl}
@@ -7,8 +7,8 @@ use native.Mathlib.Omega.{arith}
 use lib.ListN.{getD, replicate}
 use Rattle.tables.proofs.ArrayLaws.{filled-list, filled-more, filled-none}
 use Rattle.tables.specs.Arrays.{Filled}
-use Rattle.test_kit.proofs.script.smalls.Statement.{statement}
-use Rattle.test_kit.proofs.script.smalls.Tie as tie
+use Rattle.test_script.proofs.smalls.Statement.{statement}
+use Rattle.test_script.proofs.smalls.Tie as tie
 
 abbrev Inv-loop : tie.InvT-loop
 Inv-loop numbers smalls₀ i₀ smalls i = Filled (λ k. getD numbers k 0 % 65536) i (replicate 16 0) smalls

@@ -1,0 +1,3 @@
+-- What a test script says.
+--     Scripts     the lines of a script: their words, and what their numbers say
+pub mod Scripts
