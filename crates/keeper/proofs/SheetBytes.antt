@@ -11,6 +11,7 @@ use lib.ListN.{length, getD, drop, length-append, length-map, List·getD-append,
 use lib.Seq.{getD-append-add}
 use Rattle.futures.proofs.Demand3.{demand-3}
 use Rattle.tables.proofs.FormatLaws.{known-process}
+use Rattle.keep_sheet.proofs.FewLaws.{kept-few}
 use Rattle.keep_sheet.proofs.KeptLaws.{any-default, checkpoints-listed, keeps-checkpoint, listed-at, messages-listed}
 use Rattle.futures.specs.Demand3.{Demand3}
 use Rattle.tables.specs.Lists.{Listed}
@@ -18,7 +19,6 @@ use Rattle.futures.specs.Futures.{CheckpointNeeded, MessageNeeded}
 use Rattle.keep_sheet.specs.Sheet.{Checkpoint, keptCheckpoints, keptMessages, sheet}
 use Rattle.keeper.proofs.AnswerLaws.{put-in-front}
 use Rattle.keeper.specs.Calls.{HoldsSheet, ListsCheckpoint, ListsMessage}
-use Rattle.sheet_writer.proofs.SheetReads.{kept-few}
 use Rattle.tables.proofs.AcceptLaws.{facts}
 use Rattle.tables.proofs.NumberLaws.{u16At-u16s}
 use Rattle.tables.proofs.ReadLaws.{messages-few, processes-few}

@@ -8,6 +8,7 @@
 pub mod sizes;
 
 use chosen_ceilings::put_line_under;
+use holder_lines::fill_lines;
 use lines::recovery_line;
 use marked_line::put_marked_line;
 use named_checkpoints::misses_named;
@@ -25,7 +26,6 @@ use rollback::put_rollback;
 use run_table::checks::check;
 use sheet_writer::count_checkpoints;
 use sheet_writer::count_messages;
-use sheet_writer::fill_lines;
 use sheet_writer::put_sheet;
 use sizes::line_size;
 use sizes::rollback_size;

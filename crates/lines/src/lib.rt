@@ -2,17 +2,14 @@
 // line is an array of 32 numbers by value; its entries at N and above are 0, and so are a ceiling's.
 pub mod ceilings;
 pub mod lowering;
-pub mod propagation;
 
 use number_writer::put_numbers;
-use process_set::bit;
 use tables::parts;
 ghost use mathlib.Core.Path.{_≡_};
-ghost use Prim.Native.Nat.{_*_, _^_, _≤_, _<_};
+ghost use Prim.Native.Nat.{_*_, _≤_};
 ghost use lib.ListN.{length, take};
 ghost use Rattle.consistency.specs.Ceilings.{ceilingOf, lineOf, recoveryLine};
 ghost use Rattle.consistency.specs.Lowering.{lineUnder};
-ghost use Rattle.lines.specs.Propagation.{propagatesFrom};
 ghost use Rattle.process_set.specs.Sets.{member};
 ghost use Rattle.tables.specs.Arrays.{arrayOf};
 ghost use Rattle.tables.specs.Checks.{tableRefusal};
@@ -30,7 +27,7 @@ pub fn line_under(table: &[u8], ceiling: [u16; 32]) -> [u16; 32]
 }
 
 // The ceiling of a set in an accepted table.
-fn ceiling_of_set(table: &[u8], set: u32) -> [u16; 32]
+pub fn ceiling_of_set(table: &[u8], set: u32) -> [u16; 32]
     requires { ⌜ tableRefusal (now table) ≡ 0 ⌝ }
     ensures { λ r. ⌜ r ≡ arrayOf (ceilingOf (decode (now (table .entry))) (member set)) ⌝ }
 {
@@ -52,21 +49,6 @@ pub fn recovery_line(table: &[u8]) -> [u16; 32]
     ensures { λ r. ⌜ r ≡ arrayOf (recoveryLine (decode (now (table .entry)))) ⌝ }
 {
     line_of_set(table, process_set::ALL)
-}
-
-// The line of process k alone in an accepted table. Where a rollback of k does not propagate, it is the
-// ceiling, and no pass is made.
-pub fn line_of_holder(table: &[u8], k: usize, propagates: bool) -> [u16; 32]
-    requires { ⌜ tableRefusal (now table) ≡ 0 ⌝ }
-    requires { ⌜ k < 32 ⌝ }
-    requires { ⌜ propagates ≡ propagatesFrom (decode (now table)) k ⌝ }
-    ensures { λ r. ⌜ r ≡ arrayOf (lineOf (decode (now (table .entry))) (member (2 ^ k))) ⌝ }
-{
-    let set = bit(k);
-    if !propagates {
-        return ceiling_of_set(table, set);
-    }
-    line_of_set(table, set)
 }
 
 // Writes a line of an accepted table, N numbers, to the front of a buffer that has room for it.

@@ -15,7 +15,11 @@ use lib.Dec.{ltb}
 use lib.ListN.{length, take, drop, getD, length-append, length-drop, length-take, take-append-drop}
 use lib.Seq.{getD-drop, take-append-seam}
 use Rattle.consistency.proofs.CeilingLaws.{set-length}
+use Rattle.consistency.proofs.HolderLaws.{holder-length, lines-length}
 use Rattle.consistency.specs.Ceilings.{recoveryLine}
+use Rattle.holder_lines.proofs.ScratchLaws.{entry-is, lines-stand}
+use Rattle.holder_lines.specs.Scratch.{HoldsLines, linesIn}
+use Rattle.keep_sheet.proofs.FewLaws.{kept-few, sheet-length}
 use Rattle.keep_sheet.specs.Sheet.{Checkpoint, keptCheckpoints, keptMessages, sheet}
 use Rattle.consistency.specs.Ceilings.{holderLine, holderLines}
 use Rattle.keeper.proofs.AnswerLaws.{answered, put-in-front, refused, too-short}
@@ -33,8 +37,6 @@ use Rattle.listing_text.specs.Listing.{EndsInShare, checkpointRow, holdR
 use Rattle.listing_text.specs.Listing.{messageRow, refusedRow, share, shareRow}
 use Rattle.listing_text.specs.Rows.{Answered, checkpointAt, checkpointRows, holdRows, lineAt, messageRows}
 use Rattle.text_writer.specs.Text.{Laid, each, overlay}
-use Rattle.sheet_writer.proofs.SheetReads.{entry-is, holder-length, kept-few, lines-length, lines-stand, sheet-length}
-use Rattle.sheet_entries.specs.Scratch.{HoldsLines, linesIn}
 use Rattle.tables.proofs.ArrayLaws.{array-front, array-length}
 use Rattle.tables.proofs.CheckLaws.{areRefusals, passed, quiet-none, stopped}
 use Rattle.tables.proofs.ListLaws.{rows-ext, tabulate-ext, tabulate-getD}

@@ -12,7 +12,7 @@ use native.Mathlib.Omega.{arith}
 use lib.ListN.{take, drop}
 use Rattle.listing_text.specs.Listing.{checkpointRow}
 use Rattle.listing_text.specs.Rows.{checkpointAt, lineAt}
-use Rattle.sheet_entries.proofs.ScratchLaws.{cell-below}
+use Rattle.holder_lines.proofs.ScratchLaws.{cell-below}
 use Rattle.tables.proofs.ListLaws.{sum-more, tabulate-getD}
 use Rattle.tables.specs.Lists.{sum, tabulate}
 use Rattle.tables.specs.Numbers.{u16At}

@@ -12,6 +12,7 @@ use native.Mathlib.Omega.{arith}
 use lib.ListN.{length, getD}
 use Rattle.consistency.proofs.LoweringLaws.{sum-zero}
 use Rattle.keep_sheet.specs.Sheet.{keptCheckpoints}
+use Rattle.keep_sheet.proofs.FewLaws.{checkpoints-within}
 use Rattle.rounding.proofs.RoundingLaws.{quotient-rounded, rounded-most, rounded-once}
 use Rattle.listing_text.specs.Listing.{share}
 use Rattle.rounding.specs.Rounding.{Rounded}
@@ -20,7 +21,6 @@ use Rattle.tables.specs.Checks.{tableRefusal}
 use Rattle.tables.specs.Format.{decode}
 use Rattle.tables.specs.Lists.{sum}
 use Rattle.tables.specs.Table.{Table, checkpointTotal, countOf}
-use Rattle.sheet_writer.proofs.FewLaws.{checkpoints-within}
 
 pub sum-positive : (table : List ℕ) → tableRefusal table ≡ 0 → 0 < checkpointTotal (decode table)
 unfolding countOf checkpointTotal

@@ -11,6 +11,7 @@ use lib.ListN.{length, getD, length-append}
 use Rattle.consistency.proofs.CeilingLaws.{set-below, set-length}
 use Rattle.consistency.specs.Ceilings.{Holders, lineOf, recoveryLine, single}
 use Rattle.tables.proofs.FormatLaws.{known-process}
+use Rattle.keep_sheet.proofs.FewLaws.{kept-few}
 use Rattle.keep_sheet.proofs.KeptLaws.{checkpoints-listed, keeps-checkpoint, listed-at, messages-listed}
 use Rattle.tables.specs.Lists.{Listed}
 use Rattle.keep_sheet.specs.Sheet.{Checkpoint, keptCheckpoints, keptMessages}
@@ -19,7 +20,6 @@ use Rattle.listing_text.proofs.ShareLaws.{share-most}
 use Rattle.text_writer.proofs.TextLaws.{decimal-few, each-rows, tens}
 use Rattle.listing_text.specs.Listing.{checkpointRow, holdRow, lineRow, listing, listingOf, listingUnless, messageRow, refusedRow, share, shareRow}
 use Rattle.text_writer.specs.Text.{each, field, row}
-use Rattle.sheet_writer.proofs.SheetReads.{kept-few}
 use Rattle.tables.proofs.AcceptLaws.{facts}
 use Rattle.tables.proofs.ListLaws.{rows-most}
 use Rattle.tables.proofs.ReadLaws.{messages-few, processes-few}

@@ -9,7 +9,7 @@ ghost use Prim.Native.Nat.{_+_, _*_, _≤_, _<_};
 ghost use lib.ListN.{length};
 ghost use Rattle.listing_text.specs.Listing.{lineRow};
 ghost use Rattle.listing_text.specs.Rows.{checkpointRows, holdRows, messageRows};
-ghost use Rattle.sheet_entries.specs.Scratch.{HoldsLines};
+ghost use Rattle.holder_lines.specs.Scratch.{HoldsLines};
 ghost use Rattle.text_writer.specs.Text.{Fits, Laid, row};
 
 // Puts a row of one number.

@@ -1,79 +1,34 @@
 -- What loops over n lines find.
---     Searching, search-..       the first checkpoint from a start on that some line has at a process
---     Lowering, lowering-..      the lowest line
---     Uncrossed, ..              the lines that a message crosses
---     .. -kept                   whether a message is kept
---     Asking, receiver-small, may-ask    what a loop over messages was given, and what it may ask of message k
---     Standing, select-..        numbers that pass a test, from one to the next
---     Tallied, tallied-..        numbers that pass a test, counted
---     Counting, Picking, ..      loops that count them, from one to the next; the kept messages
---     Totalling, totalling-..    the kept checkpoints of each process, counted
+--     least-at-most, least-first      the least of n numbers
+--     Lowering, lowering-..           the lowest line
+--     Uncrossed, ..                   the lines that a message crosses
+--     .. -kept                        whether a message is kept
+--     MessagesBeside, receiver-small, may-ask, keepsAt    what a loop over messages was given, and what it may ask of message k
+--     Totalling, totalling-..         the kept checkpoints of each process, counted
 -- Assumes nothing.
 use mathlib.Core.Bool.{Bool, true, false, and-false}
-use mathlib.Core.List.{List, [], _∷_, _++_}
+use mathlib.Core.List.{List}
 use mathlib.Core.Logic.{⊎-elim}
 use mathlib.Core.Path.{_≡_, refl, sym, ap, ap₂, _∙_, subst}
 use Prim.Native.Nat.{ℕ, zero, suc, _+_, _*_, _<_, _≤_, zero-le}
 use native.Mathlib.Nat.{eq-or-lt-of-le, le-antisymm, le-of-suc-le-suc, le-refl}
 use native.Mathlib.Omega.{arith}
-use borrow.Author.Count.{below-more}
-use borrow.Author.Tests.{eq-eqb, eqb-false, eqb-true, ne-eqb, lt-ltb, le-ltb}
+use borrow.Author.Tests.{eqb-false, eqb-true, ne-eqb, lt-ltb, le-ltb}
 use lib.Dec.{eqb, ltb}
 use lib.ListN.{length, getD, set, replicate, length-append, length-map}
 use Rattle.consistency.specs.Lines.{Line}
+use Rattle.holder_lines.specs.Scratch.{HoldsLines, linesIn}
 use Rattle.keep_sheet.specs.Sheet.{Checkpoint, crosses}
 use Rattle.tables.proofs.ArrayLaws.{Filling, array-at, filling-array, filling-more, filling-none}
 use Rattle.tables.proofs.ListLaws.{anyBelow-found, anyBelow-more, anyBelow-none, found-below, getD-tabulate, length-tabulate, none-below}
-use Rattle.tables.proofs.ListLaws.{rows-more, select-gap, select-more, select-skip, select-small}
+use Rattle.tables.proofs.ListLaws.{rows-more, select-small}
 use Rattle.tables.proofs.ReadLaws.{message-there}
 use Rattle.tables.specs.Format.{checkpointAt, countAt, messageAt, processAt}
-use Rattle.tables.specs.Lists.{anyBelow, rows, select, tabulate}
+use Rattle.tables.specs.Lists.{First, anyBelow, rows, tabulate}
 use Rattle.tables.specs.Numbers.{u16At}
 use Rattle.tables.specs.Parts.{Messages}
 use Rattle.tables.specs.Table.{Message, mostProcesses}
-use Rattle.sheet_entries.specs.Kept.{First, checkpointsAt, checkpointsOf, crossesLine, isKept, keptOf, leastBelow, lowestAt, lowestLine, shows}
-use Rattle.sheet_entries.specs.Scratch.{HoldsLines, MessageBeside, linesIn}
-
--- ---- the first checkpoint from a start on, below a limit, that some line has at process i
-pub record Searching (n : ℕ) (line : ℕ → Line) (i from limit least k : ℕ) : Type 0 where
-  pub within : k ≤ n
-  pub from-on : from ≤ least
-  pub below : least ≤ limit
-  pub least-yet : (j : ℕ) → j < k → from ≤ line j i → least ≤ line j i
-  pub found : least < limit → shows n line i least ≡ true
-
-module _ {n : ℕ} {line : ℕ → Line} {i from limit : ℕ} where
-  pub search-begins : from ≤ limit → Searching n line i from limit limit 0
-  search-begins l =
-      record { within = zero-le; from-on = l; below = le-refl limit; least-yet = λ j b. absurd (omega arith); found = λ b. absurd (omega arith) }
-
-  module _ {least k : ℕ} (s : Searching n line i from limit least k) where
-    -- the number v that line k has there
-    module _ (l : k < n) {v : ℕ} (read : v ≡ line k i) where
-      pub search-passes : (from ≤ v → least ≤ v) → Searching n line i from limit least (k + 1)
-      search-passes later =
-          let yet = below-more (λ j. from ≤ line j i → least ≤ line j i) k (s .least-yet) (rw read at later) in
-          record { within = omega arith; from-on = s .from-on; below = s .below; least-yet = yet; found = s .found }
-
-      pub search-finds : from ≤ v → v < least → Searching n line i from limit v (k + 1)
-      unfolding shows
-      search-finds b c = record {
-        within = omega arith;
-        from-on = b;
-        below = omega (arith, s .below);
-        least-yet = below-more (λ j. from ≤ line j i → v ≤ line j i) k (λ j d f. omega (arith, s .least-yet j d f)) (λ _. omega arith);
-        found = λ _. anyBelow-found (λ j. eqb (line j i) v) n k l (eq-eqb (line k i) v (sym read));
-      }
-
-    pub search-ends : n ≤ k → First (shows n line i) from limit least
-    unfolding shows
-    search-ends l = record {
-      from-on = s .from-on;
-      within = s .below;
-      none-before = λ c b b′.
-          anyBelow-none _ n (λ j d. ne-eqb (line j i) c (λ same. omega (arith, s .least-yet j (omega (arith, s .within)) (omega arith))));
-      passes = s .found;
-    }
+use Rattle.sheet_entries.specs.Kept.{MessageBeside, checkpointsAt, checkpointsOf, crossesLine, isKept, keptOf, leastBelow, lowestAt, lowestLine, shows}
 
 -- ---- the least of n numbers
 module _ (f : ℕ → ℕ) where
@@ -197,98 +152,35 @@ module _ {n lowest k : ℕ} {scratch sends receipts : List ℕ} (beside : Messag
     delivered-kept read-i read-j read-y e = rw (← read-x, ne-eqb x 0 some) (rw (read-i, read-j, read-y) at e)
 
 -- ---- what a loop over m messages was given, and the lowest line that it found
-pub record Asking (n m : ℕ) (scratch sends receipts lowest : List ℕ) : Type 0 where
+pub record MessagesBeside (n m : ℕ) (scratch sends receipts lowest : List ℕ) : Type 0 where
   pub holds : HoldsLines n scratch
   pub known : Messages n m sends receipts
   pub lowest-is : lowest ≡ lowestLine n (linesIn scratch n)
 
 -- message k, by the receiver that was read
-module _ {n m : ℕ} {scratch sends receipts lowest : List ℕ} (asking : Asking n m scratch sends receipts lowest) {k : ℕ} (l : k < m)
+module _ {n m : ℕ} {scratch sends receipts lowest : List ℕ} (beside : MessagesBeside n m scratch sends receipts lowest) {k : ℕ} (l : k < m)
     {receiver : ℕ} (read : receiver ≡ u16At receipts (4 * k)) where
   pub receiver-small : receiver < mostProcesses
   unfolding processAt
-  receiver-small = omega (arith, asking .known .receivers-known k l, asking .holds .few)
+  receiver-small = omega (arith, beside .known .receivers-known k l, beside .holds .few)
 
   pub may-ask : MessageBeside n (getD lowest receiver 0) k scratch sends receipts
   unfolding lowestLine processAt
   may-ask =
       let numbers = tabulate n (lowestAt n (linesIn scratch n)) in
       let size = length-tabulate n (lowestAt n (linesIn scratch n)) in
-      let there = message-there (asking .known) l in
+      let there = message-there (beside .known) l in
       record {
-        holds = asking .holds;
+        holds = beside .holds;
         there = there;
         lowest-is =
-            ap₂ (λ (xs : List ℕ) (i : ℕ). getD xs i 0) (asking .lowest-is) read ∙ array-at numbers (omega (arith, size, asking .holds .few)) _
+            ap₂ (λ (xs : List ℕ) (i : ℕ). getD xs i 0) (beside .lowest-is) read ∙ array-at numbers (omega (arith, size, beside .holds .few)) _
             ∙ getD-tabulate n (lowestAt n (linesIn scratch n)) _ 0 (there .receiver-known);
       }
 
--- ---- numbers below a limit that pass a test, from one to the next
--- The loop stands at the limit or at a number that passes.
-pub record Standing (test : ℕ → Bool) (limit c : ℕ) : Type 0 where
-  pub within : c ≤ limit
-  pub passes : c < limit → test c ≡ true
-
-module _ {test : ℕ → Bool} {limit c : ℕ} where
-  pub stands : {from : ℕ} → First test from limit c → Standing test limit c
-  stands f = record { within = f .within; passes = f .passes }
-
-  pub select-first : First test 0 limit c → select test c ≡ []
-  unfolding select
-  select-first f = select-gap test 0 c (f .from-on) (f .none-before)
-
-  pub select-next : Standing test limit c → c < limit → {next : ℕ} → First test (c + 1) limit next → select test next ≡ select test c ++ (c ∷ [])
-  select-next s l {next} f = select-gap test (c + 1) next (f .from-on) (f .none-before) ∙ select-more test c (s .passes l)
-
--- ---- numbers below a limit that pass a test, counted as far as k
-pub record Tallied (test : ℕ → Bool) (limit kept k : ℕ) : Type 0 where
-  pub within : k ≤ limit
-  pub number : kept ≡ length (select test k)
-
-module _ {test : ℕ → Bool} {limit kept k : ℕ} (h : Tallied test limit kept k) where
-  pub tallied-small : kept ≤ k
-  tallied-small = omega (arith, h .number, select-small test k)
-
-  -- with k
-  tallied-more : {next : ℕ} → next ≤ limit → select test next ≡ select test k ++ (k ∷ []) → Tallied test limit (kept + 1) next
-  tallied-more b e = record { within = b; number = omega (arith, h .number, ap length e, length-append (select test k) (k ∷ [])) }
-
-  pub tallied-all : limit ≤ k → kept ≡ length (select test limit)
-  tallied-all l = subst (λ (j : ℕ). kept ≡ length (select test j)) (le-antisymm (h .within) l) (h .number)
-
--- ---- a loop that counts them from one to the next
-pub record Counting (test : ℕ → Bool) (limit kept c : ℕ) : Type 0 where
-  pub standing : Standing test limit c
-  pub tallied : Tallied test limit kept c
-
-module _ {test : ℕ → Bool} {limit c : ℕ} where
-  pub counting-first : First test 0 limit c → Counting test limit 0 c
-  counting-first f = record { standing = stands f; tallied = record { within = f .within; number = sym (ap length (select-first f)) } }
-
-  pub counting-next : {kept next : ℕ} → Counting test limit kept c → c < limit → First test (c + 1) limit next → Counting test limit (kept + 1) next
-  counting-next h l f = record { standing = stands f; tallied = tallied-more (h .tallied) (f .within) (select-next (h .standing) l f) }
-
--- ---- a loop that counts the kept messages
-pub record Picking (n m : ℕ) (scratch sends receipts lowest : List ℕ) (kept k : ℕ) : Type 0 where
-  pub asking : Asking n m scratch sends receipts lowest
-  pub tallied : Tallied (λ j. isKept n (linesIn scratch n) (messageAt sends receipts j)) m kept k
-
-module _ {n m : ℕ} {scratch sends receipts lowest : List ℕ} where
-  pub picking-none : Asking n m scratch sends receipts lowest → Picking n m scratch sends receipts lowest 0 0
-  unfolding select
-  picking-none asking = record { asking = asking; tallied = record { within = zero-le; number = refl } }
-
-  -- what was found of message k
-  module _ {kept k : ℕ} (h : Picking n m scratch sends receipts lowest kept k) (l : k < m)
-      {r : Bool} (is : r ≡ isKept n (linesIn scratch n) (messageAt sends receipts k)) where
-    pub picking-skip : r ≡ false → Picking n m scratch sends receipts lowest kept (k + 1)
-    picking-skip e = record {
-      asking = h .asking;
-      tallied = record { within = omega arith; number = h .tallied .number ∙ ap length (sym (select-skip _ k (sym is ∙ e))) };
-    }
-
-    pub picking-more : r ≡ true → Picking n m scratch sends receipts lowest (kept + 1) (k + 1)
-    picking-more e = record { asking = h .asking; tallied = tallied-more (h .tallied) (omega arith) (select-more _ k (sym is ∙ e)) }
+-- what it tests of message k
+abbrev pub keepsAt : ℕ → List ℕ → List ℕ → List ℕ → ℕ → Bool
+keepsAt n scratch sends receipts k = isKept n (linesIn scratch n) (messageAt sends receipts k)
 
 -- ---- a loop that counts the kept checkpoints, process by process
 -- the kept checkpoints of process i

@@ -1,27 +1,22 @@
 -- Of the code: what n lines say is kept, the line of holder k being `line k`. The laws join these to the keep sheet
 -- of a table. Assumes nothing.
-use mathlib.Core.Bool.{Bool, cond, true, false, _||_}
+use mathlib.Core.Bool.{Bool, _||_}
 use mathlib.Core.List.{List, map}
 use mathlib.Core.Path.{_≡_}
-use Prim.Native.Nat.{ℕ, zero, suc, min, _≤_, _<_}
+use Prim.Native.Nat.{ℕ, zero, suc, min}
 use lib.Dec.{eqb}
 use Rattle.consistency.specs.Lines.{Line}
+use Rattle.holder_lines.specs.Scratch.{HoldsLines, linesIn}
 use Rattle.keep_sheet.specs.Sheet.{Checkpoint, crosses}
 use Rattle.tables.specs.Arrays.{arrayOf}
-use Rattle.tables.specs.Format.{countAt, messageAt}
+use Rattle.tables.specs.Format.{countAt, messageAt, processAt}
 use Rattle.tables.specs.Lists.{anyBelow, rows, select, tabulate}
+use Rattle.tables.specs.Parts.{MessageThere}
 use Rattle.tables.specs.Table.{Message}
 
 -- Some line has checkpoint c at process i.
 unfoldable pub shows : ℕ → (ℕ → Line) → ℕ → ℕ → Bool
 shows n line i c = anyBelow n (λ k. eqb (line k i) c)
-
--- A number is the first from a start on, below a limit, that passes a test; it is the limit where there is none.
-pub record First (test : ℕ → Bool) (from limit first : ℕ) : Type 0 where
-  pub from-on : from ≤ first
-  pub within : first ≤ limit
-  pub none-before : (c : ℕ) → from ≤ c → c < first → test c ≡ false
-  pub passes : first < limit → test first ≡ true
 
 -- The checkpoints of process i below a count that some line has, by number, rising.
 unfoldable pub keptOf : ℕ → (ℕ → Line) → ℕ → ℕ → List ℕ
@@ -34,14 +29,6 @@ checkpointsAt i checkpoints = map (λ c. record { process = i; number = c }) che
 -- The kept checkpoints of n processes, from a part of their counts.
 unfoldable pub checkpointsOf : ℕ → (ℕ → Line) → List ℕ → List Checkpoint
 checkpointsOf n line counts = rows (λ i. checkpointsAt i (keptOf n line i (countAt counts i))) n
-
--- One array of the sheet: the numbers of the kept checkpoints, or else their processes. First of one process, then of
--- all.
-unfoldable pub columnAt : Bool → ℕ → List ℕ → List ℕ
-columnAt checkpoints i kept = map (λ c. cond checkpoints c i) kept
-
-unfoldable pub columnOf : Bool → ℕ → (ℕ → Line) → List ℕ → List ℕ
-columnOf checkpoints n line counts = rows (λ i. columnAt checkpoints i (keptOf n line i (countAt counts i))) n
 
 -- The least of n numbers of 16 bits; 65,535 where n is 0.
 unfoldable pub leastBelow : ℕ → (ℕ → ℕ) → ℕ
@@ -67,3 +54,9 @@ isKept n line m = eqb (m .received) 0 || crossesLine n line m
 -- The positions of the kept messages among the m messages of a part of sends and a part of receipts, rising.
 unfoldable pub positionsOf : ℕ → (ℕ → Line) → List ℕ → List ℕ → ℕ → List ℕ
 positionsOf n line sends receipts m = select (λ k. isKept n line (messageAt sends receipts k)) m
+
+-- Message k of a part of sends and a part of receipts, and the lowest line's number at its receiver.
+pub record MessageBeside (n lowest k : ℕ) (scratch sends receipts : List ℕ) : Type 0 where
+  pub holds : HoldsLines n scratch
+  pub there : MessageThere n k sends receipts
+  pub lowest-is : lowest ≡ lowestAt n (linesIn scratch n) (processAt receipts k)

@@ -1,11 +1,12 @@
 // The kept checkpoints: those below a process's count that some line has there.
-use crate::scratch::number_in_line;
+use holder_lines::scratch::number_in_line;
 use tables::numbers::u16_at;
 ghost use mathlib.Core.Path.{_≡_};
 ghost use Prim.Native.Nat.{_<_, _≤_};
 ghost use lib.ListN.{length};
-ghost use Rattle.sheet_entries.specs.Kept.{First, checkpointsOf, keptOf, shows};
-ghost use Rattle.sheet_entries.specs.Scratch.{HoldsLines, linesIn};
+ghost use Rattle.holder_lines.specs.Scratch.{HoldsLines, linesIn};
+ghost use Rattle.sheet_entries.specs.Kept.{checkpointsOf, keptOf, shows};
+ghost use Rattle.tables.specs.Lists.{First};
 ghost use Rattle.tables.specs.Parts.{Counts};
 
 // The first checkpoint from a start on, below a count, that some line has at process i; the count where

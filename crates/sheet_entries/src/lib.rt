@@ -2,4 +2,3 @@
 // checkpoints that some line has, and the messages that are undelivered or cross some line.
 pub mod checkpoints;
 pub mod messages;
-pub mod scratch;

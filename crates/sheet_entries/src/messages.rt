@@ -1,12 +1,12 @@
 // The kept messages: undelivered, or crossing some line.
 use crate::checkpoints::next_kept;
-use crate::scratch::number_in_line;
+use holder_lines::scratch::number_in_line;
 use tables::numbers::u16_at;
 ghost use mathlib.Core.Path.{_≡_};
 ghost use Prim.Native.Nat.{_<_};
 ghost use lib.ListN.{length};
-ghost use Rattle.sheet_entries.specs.Kept.{crossesLine, isKept, lowestLine, positionsOf};
-ghost use Rattle.sheet_entries.specs.Scratch.{HoldsLines, MessageBeside, linesIn};
+ghost use Rattle.holder_lines.specs.Scratch.{HoldsLines, linesIn};
+ghost use Rattle.sheet_entries.specs.Kept.{MessageBeside, crossesLine, isKept, lowestLine, positionsOf};
 ghost use Rattle.tables.specs.Format.{messageAt};
 ghost use Rattle.tables.specs.Parts.{Messages};
 

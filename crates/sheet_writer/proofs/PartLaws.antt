@@ -4,41 +4,43 @@
 --     can-..                           each part can be put
 --     sheet-put, same-size             what the last writer leaves is the sheet
 -- Assumes nothing.
-use mathlib.Core.Bool.{Bool, true, false, cond}
-use mathlib.Core.List.{List, [], _∷_, _++_, map}
+use mathlib.Core.List.{List, [], _∷_, _++_, map, map-map}
 use mathlib.Core.Path.{_≡_, refl, sym, ap, _∙_}
 use Prim.Native.Nat.{ℕ, _+_, _*_, _≤_}
 use native.Mathlib.Omega.{arith}
 use denote.Ref.{RefT, now}
 use lib.ListN.{length, length-append}
-use Rattle.keep_sheet.specs.Sheet.{keptCheckpoints, sheet}
+use Rattle.holder_lines.specs.Scratch.{linesIn}
+use Rattle.keep_sheet.proofs.FewLaws.{sheet-length}
+use Rattle.keep_sheet.specs.Sheet.{Checkpoint, keptCheckpoints, sheet}
+use Rattle.tables.proofs.ListLaws.{map-rows, rows-ext}
 use Rattle.tables.proofs.NumberLaws.{length-u16s}
 use Rattle.tables.proofs.ReadLaws.{ReadMessages}
-use Rattle.tables.specs.Format.{countsPart, decode}
+use Rattle.tables.specs.Format.{countAt, countsPart, decode}
 use Rattle.tables.specs.Numbers.{putAt, u16s}
 use Rattle.tables.specs.Table.{Table, processCount}
-use Rattle.sheet_entries.specs.Kept.{columnOf, positionsOf}
-use Rattle.sheet_entries.specs.Scratch.{linesIn}
+use Rattle.sheet_entries.proofs.FoundLaws.{checkpoints-found, positions-found}
+use Rattle.sheet_entries.specs.Kept.{checkpointsAt, checkpointsOf, keptOf, positionsOf}
 use Rattle.sheet_writer.proofs.PutLaws.{put-length, put-room, put-then, put-written}
-use Rattle.sheet_writer.proofs.SheetReads.{column-found, positions-found, sheet-length}
-use Rattle.sheet_writer.specs.SheetParts.{CanPut, CanPutSheet, numbersOf}
+use Rattle.sheet_writer.specs.SheetParts.{CanPut, CanPutSheet, columnAt, columnOf, numberIn, numbersOf}
 use Rattle.sheet_writer.specs.Writing.{Put}
 use Rattle.sheet_writer.specs.Writers.{standing, written}
 use Rattle.sheet_writer.specs.declared.writer.SheetWriter.{SheetWriter}
+use Rattle.sheet_writer.specs.declared.writing.Column.{Column}
+use Rattle.sheet_writer.specs.declared.writing.Column.the-variants.{Number, Process}
 use Rattle.sheet_writer.specs.declared.writing.Part.{Part}
 use Rattle.sheet_writer.specs.declared.writing.Part.the-variants.{Checkpoints, Positions, Processes, Sizes}
 
 -- ---- one part
--- the part with the numbers of the kept checkpoints, or else the one with their processes
-abbrev arrayPart : Bool → Part
-arrayPart true = Checkpoints
-arrayPart false = Processes
+-- the part with an array of the kept checkpoints
+abbrev columnPart : Column → Part
+columnPart Process = Processes
+columnPart Number = Checkpoints
 
-array-numbers : (checkpoints : Bool) (t : Table)
-    → map (λ k. cond checkpoints (k .number) (k .process)) (keptCheckpoints t) ≡ numbersOf (arrayPart checkpoints) t
+column-numbers : (column : Column) (t : Table) → map (λ k. numberIn column (k .process) (k .number)) (keptCheckpoints t) ≡ numbersOf (columnPart column) t
 unfolding numbersOf
-array-numbers true t = refl
-array-numbers false t = refl
+column-numbers Process t = refl
+column-numbers Number t = refl
 
 module _ {part : Part} {bytes s : List ℕ} {at : ℕ} {before : List ℕ} (ready : CanPut part bytes s at before) where
   abbrev numbers : List ℕ
@@ -56,16 +58,19 @@ module _ {part : Part} {bytes s : List ℕ} {at : ℕ} {before : List ℕ} (read
     sizes-put p = rw sizes-are at p
 
   module _ {n : ℕ} (n-is : n ≡ processCount (decode bytes)) where
-    module _ {counts : List ℕ} (counts-are : counts ≡ countsPart bytes) (checkpoints : Bool) (e : part ≡ arrayPart checkpoints) where
-      column-is : columnOf checkpoints n (linesIn s n) counts ≡ numbers
+    module _ {counts : List ℕ} (counts-are : counts ≡ countsPart bytes) (column : Column) (e : part ≡ columnPart column) where
+      column-is : columnOf column n (linesIn s n) counts ≡ numbers
+      unfolding columnOf columnAt checkpointsOf checkpointsAt
       column-is =
-          column-found (ready .given) n-is counts-are checkpoints ∙ array-numbers checkpoints (decode bytes)
+          let number : Checkpoint → ℕ = λ k. numberIn column (k .process) (k .number) in
+          rows-ext _ _ n (λ i _. sym (map-map number (λ c. record { process = i; number = c }) (keptOf n (linesIn s n) i (countAt counts i))))
+          ∙ sym (map-rows number _ n) ∙ ap (map number) (checkpoints-found (ready .given) n-is counts-are) ∙ column-numbers column (decode bytes)
           ∙ sym (ap (λ (x : Part). numbersOf x (decode bytes)) e)
 
-      pub column-room : at + 2 * length (columnOf checkpoints n (linesIn s n) counts) ≤ length before
+      pub column-room : at + 2 * length (columnOf column n (linesIn s n) counts) ≤ length before
       column-room = rw column-is (ready .room)
 
-      pub column-put : {after : List ℕ} {next : ℕ} → Put before after at (columnOf checkpoints n (linesIn s n) counts) next
+      pub column-put : {after : List ℕ} {next : ℕ} → Put before after at (columnOf column n (linesIn s n) counts) next
           → Put before after at numbers next
       column-put p = rw column-is at p
 

@@ -1,13 +1,13 @@
 -- Numbers put into a buffer, one after another.
 --     put-written, put-length           what a writer has put; the buffer's length
 --     put-room, put-then                more after what was put
---     Putting, putting-..               a loop that puts one after another
---     Laying, laying-..                 the loop over the kept checkpoints of a process
---     Chaining, chaining-..                 the loop over the processes
+--     PuttingNumbers, putting-..        a loop that puts one after another
+--     LayingColumn, laying-..           the loop over the kept checkpoints of a process
+--     Chaining, chaining-..             the loop over the processes
 --     Placing, placing-..               the loop over the messages
 --     put-low                           numbers put by their low 16 bits
 -- Assumes nothing.
-use mathlib.Core.Bool.{Bool, cond, true, false}
+use mathlib.Core.Bool.{Bool, true, false}
 use mathlib.Core.List.{List, [], _∷_, _++_, map}
 use mathlib.Core.Path.{_≡_, refl, sym, ap, ap₂, _∙_, subst}
 use Prim.Native.Nat.{ℕ, _+_, _*_, _/_, _%_, _≤_, _<_, zero-le}
@@ -17,13 +17,16 @@ use lib.Dec.{lit<}
 use lib.ListN.{length, length-append, length-map}
 use Rattle.tables.proofs.ListLaws.{map-append, rows-more, rows-room, select-more, select-room, select-skip}
 use Rattle.tables.proofs.NumberLaws.{length-putAt, length-u16s, putAt-more, putAt-none, u16s-append}
-use Rattle.tables.specs.Format.{countAt, messageAt}
-use Rattle.tables.specs.Lists.{rows, select}
+use Rattle.tables.proofs.SelectLaws.{AtPassing, at-first, select-first, select-next}
+use Rattle.tables.specs.Format.{countAt}
+use Rattle.tables.specs.Lists.{First, rows, select}
 use Rattle.tables.specs.Numbers.{bytesOf, bytesOfAll, putAt, u16At, u16Bytes, u16s}
 use Rattle.tables.specs.Parts.{Counts}
-use Rattle.sheet_entries.proofs.SearchLaws.{Asking, Standing, select-first, select-next, stands}
-use Rattle.sheet_entries.specs.Kept.{First, columnAt, columnOf, isKept, keptOf, positionsOf}
-use Rattle.sheet_entries.specs.Scratch.{HoldsLines, linesIn}
+use Rattle.holder_lines.specs.Scratch.{HoldsLines, linesIn}
+use Rattle.sheet_entries.proofs.SearchLaws.{MessagesBeside, keepsAt}
+use Rattle.sheet_entries.specs.Kept.{keptOf, positionsOf}
+use Rattle.sheet_writer.specs.SheetParts.{columnAt, columnOf, numberIn}
+use Rattle.sheet_writer.specs.declared.writing.Column.{Column}
 use Rattle.sheet_writer.specs.Writing.{Put}
 use Rattle.sheet_writer.specs.Writers.{written}
 use Rattle.sheet_writer.specs.declared.writer.SheetWriter.{SheetWriter}
@@ -50,20 +53,20 @@ module _ {before after : List ℕ} {at : ℕ} {xs : List ℕ} {next : ℕ} (p : 
   }
 
 -- ---- a loop that puts the numbers of f n, and has put those of f k, where f k goes up to f n
-pub record Putting (f : ℕ → List ℕ) (n : ℕ) (before : List ℕ) (at : ℕ) (after : List ℕ) (next k : ℕ) : Type 0 where
+pub record PuttingNumbers (f : ℕ → List ℕ) (n : ℕ) (before : List ℕ) (at : ℕ) (after : List ℕ) (next k : ℕ) : Type 0 where
   pub within : k ≤ n
   pub room : at + 2 * length (f n) ≤ length before
   pub short : length (f k) ≤ length (f n)
   pub put : Put before after at (f k) next
 
 module _ {f : ℕ → List ℕ} {n : ℕ} {before : List ℕ} {at : ℕ} where
-  putting-none : {k : ℕ} → k ≤ n → f k ≡ [] → at + 2 * length (f n) ≤ length before → Putting f n before at before at k
+  putting-none : {k : ℕ} → k ≤ n → f k ≡ [] → at + 2 * length (f n) ≤ length before → PuttingNumbers f n before at before at k
   unfolding bytesOfAll
   putting-none l e room =
       let nothing : Put before before at [] at = record { contents = sym (putAt-none before at); place = omega arith } in
       record { within = l; room = room; short = omega (arith, ap length e); put = rw e nothing }
 
-  module _ {after : List ℕ} {next k : ℕ} (h : Putting f n before at after next k) where
+  module _ {after : List ℕ} {next k : ℕ} (h : PuttingNumbers f n before at after next k) where
     pub putting-length : length after ≡ length before
     putting-length = put-length (h .put) (omega (arith, h .room, h .short))
 
@@ -71,11 +74,11 @@ module _ {f : ℕ → List ℕ} {n : ℕ} {before : List ℕ} {at : ℕ} where
     putting-room j l = omega (arith, h .room, h .put .place, putting-length)
 
     -- nothing to put from k to j
-    putting-skip : {j : ℕ} → j ≤ n → f j ≡ f k → Putting f n before at after next j
+    putting-skip : {j : ℕ} → j ≤ n → f j ≡ f k → PuttingNumbers f n before at after next j
     putting-skip l e = record { within = l; room = h .room; short = omega (arith, h .short, ap length e); put = rw e (h .put) }
 
     putting-more : {later ys : List ℕ} {end j : ℕ} → Put after later next ys end → j ≤ n → f j ≡ f k ++ ys
-        → length (f k) + length ys ≤ length (f n) → Putting f n before at later end j
+        → length (f k) + length ys ≤ length (f n) → PuttingNumbers f n before at later end j
     putting-more {ys = ys} q l e fits = record {
       within = l;
       room = h .room;
@@ -87,83 +90,83 @@ module _ {f : ℕ → List ℕ} {n : ℕ} {before : List ℕ} {at : ℕ} where
     putting-all l = subst (λ (j : ℕ). Put before after at (f j) next) (le-antisymm (h .within) l) (h .put)
 
 -- ---- the loop over the kept checkpoints of process i, for one array of the sheet
-pub record Laying (test : ℕ → Bool) (limit : ℕ) (checkpoints : Bool) (i : ℕ) (before : List ℕ) (at : ℕ) (after : List ℕ) (next c : ℕ)
+pub record LayingColumn (test : ℕ → Bool) (limit : ℕ) (column : Column) (i : ℕ) (before : List ℕ) (at : ℕ) (after : List ℕ) (next c : ℕ)
     : Type 0 where
-  pub standing : Standing test limit c
-  pub putting : Putting (λ d. columnAt checkpoints i (select test d)) limit before at after next c
+  pub here : AtPassing test limit c
+  pub putting : PuttingNumbers (λ d. columnAt column i (select test d)) limit before at after next c
 
-module _ {test : ℕ → Bool} {limit : ℕ} {checkpoints : Bool} {i : ℕ} {before : List ℕ} {at : ℕ} where
-  pub laying-first : {c : ℕ} → First test 0 limit c → at + 2 * length (columnAt checkpoints i (select test limit)) ≤ length before
-      → Laying test limit checkpoints i before at before at c
+module _ {test : ℕ → Bool} {limit : ℕ} {column : Column} {i : ℕ} {before : List ℕ} {at : ℕ} where
+  pub laying-first : {c : ℕ} → First test 0 limit c → at + 2 * length (columnAt column i (select test limit)) ≤ length before
+      → LayingColumn test limit column i before at before at c
   unfolding columnAt
   laying-first f room =
-      record { standing = stands f; putting = putting-none (f .within) (ap (columnAt checkpoints i) (select-first f)) room }
+      record { here = at-first f; putting = putting-none (f .within) (ap (columnAt column i) (select-first f)) room }
 
-  module _ {after : List ℕ} {next c : ℕ} (h : Laying test limit checkpoints i before at after next c) (l : c < limit) where
-    fits : length (columnAt checkpoints i (select test c)) + 1 ≤ length (columnAt checkpoints i (select test limit))
+  module _ {after : List ℕ} {next c : ℕ} (h : LayingColumn test limit column i before at after next c) (l : c < limit) where
+    fits : length (columnAt column i (select test c)) + 1 ≤ length (columnAt column i (select test limit))
     unfolding columnAt
-    fits = simp length-map (select-room test c limit l (h .standing .passes l))
+    fits = simp length-map (select-room test c limit l (h .here .passes l))
 
     pub laying-room : next + 1 < length after
     laying-room = omega (arith, putting-room (h .putting) 1 fits)
 
     -- the number v of checkpoint c was put
-    pub laying-more : {v : ℕ} {later : List ℕ} {end d : ℕ} → v ≡ cond checkpoints c i → Put after later next (v ∷ []) end
-        → First test (c + 1) limit d → Laying test limit checkpoints i before at later end d
+    pub laying-more : {v : ℕ} {later : List ℕ} {end d : ℕ} → v ≡ numberIn column i c → Put after later next (v ∷ []) end
+        → First test (c + 1) limit d → LayingColumn test limit column i before at later end d
     unfolding columnAt
-    laying-more {v} {d = d} e put f = record { standing = stands f; putting = putting-more (h .putting) put (f .within) grown fits }
+    laying-more {v} {d = d} e put f = record { here = at-first f; putting = putting-more (h .putting) put (f .within) grown fits }
       where
-        grown : columnAt checkpoints i (select test d) ≡ columnAt checkpoints i (select test c) ++ (v ∷ [])
+        grown : columnAt column i (select test d) ≡ columnAt column i (select test c) ++ (v ∷ [])
         grown =
-            ap (columnAt checkpoints i) (select-next (h .standing) l f) ∙ map-append (λ x. cond checkpoints x i) (select test c) (c ∷ [])
-            ∙ ap (λ (x : ℕ). columnAt checkpoints i (select test c) ++ (x ∷ [])) (sym e)
+            ap (columnAt column i) (select-next (h .here) l f) ∙ map-append (numberIn column i) (select test c) (c ∷ [])
+            ∙ ap (λ (x : ℕ). columnAt column i (select test c) ++ (x ∷ [])) (sym e)
 
 -- ---- the loop over the processes, for one array of the sheet
-pub record Chaining (checkpoints : Bool) (n : ℕ) (scratch counts before : List ℕ) (at : ℕ) (after : List ℕ) (next i : ℕ) : Type 0 where
+pub record Chaining (column : Column) (n : ℕ) (scratch counts before : List ℕ) (at : ℕ) (after : List ℕ) (next i : ℕ) : Type 0 where
   pub holds : HoldsLines n scratch
   pub known : Counts n counts
-  pub putting : Putting (rows (λ j. columnAt checkpoints j (keptOf n (linesIn scratch n) j (countAt counts j)))) n before at after next i
+  pub putting : PuttingNumbers (rows (λ j. columnAt column j (keptOf n (linesIn scratch n) j (countAt counts j)))) n before at after next i
 
-module _ {checkpoints : Bool} {n : ℕ} {scratch counts before : List ℕ} {at : ℕ} where
-  pub chaining-none : HoldsLines n scratch → Counts n counts → at + 2 * length (columnOf checkpoints n (linesIn scratch n) counts) ≤ length before
-      → Chaining checkpoints n scratch counts before at before at 0
+module _ {column : Column} {n : ℕ} {scratch counts before : List ℕ} {at : ℕ} where
+  pub chaining-none : HoldsLines n scratch → Counts n counts → at + 2 * length (columnOf column n (linesIn scratch n) counts) ≤ length before
+      → Chaining column n scratch counts before at before at 0
   unfolding rows columnOf
   chaining-none holds known room = record { holds = holds; known = known; putting = putting-none zero-le refl room }
 
-  module _ {after : List ℕ} {next i : ℕ} (h : Chaining checkpoints n scratch counts before at after next i) where
+  module _ {after : List ℕ} {next i : ℕ} (h : Chaining column n scratch counts before at after next i) where
     -- the numbers of process i, once its count was read
     module _ (l : i < n) {count : ℕ} (read : count ≡ u16At counts (2 * i)) where
-      pub chaining-room : next + 2 * length (columnAt checkpoints i (keptOf n (linesIn scratch n) i count)) ≤ length after
+      pub chaining-room : next + 2 * length (columnAt column i (keptOf n (linesIn scratch n) i count)) ≤ length after
       unfolding countAt
       chaining-room = rw read (putting-room (h .putting) _ (rows-room _ i n l))
 
-      pub chaining-more : {later : List ℕ} {end : ℕ} → Put after later next (columnAt checkpoints i (keptOf n (linesIn scratch n) i count)) end
-          → Chaining checkpoints n scratch counts before at later end (i + 1)
+      pub chaining-more : {later : List ℕ} {end : ℕ} → Put after later next (columnAt column i (keptOf n (linesIn scratch n) i count)) end
+          → Chaining column n scratch counts before at later end (i + 1)
       unfolding countAt
       chaining-more put =
           let putting = putting-more (h .putting) (rw read at put) (omega arith) (rows-more _ i) (rows-room _ i n l) in
           record { holds = h .holds; known = h .known; putting = putting }
 
-    pub chaining-all : n ≤ i → Put before after at (columnOf checkpoints n (linesIn scratch n) counts) next
+    pub chaining-all : n ≤ i → Put before after at (columnOf column n (linesIn scratch n) counts) next
     unfolding columnOf
     chaining-all = putting-all (h .putting)
 
 -- ---- the loop over the messages
 pub record Placing (n m : ℕ) (scratch sends receipts lowest before : List ℕ) (at : ℕ) (after : List ℕ) (next k : ℕ) : Type 0 where
-  pub asking : Asking n m scratch sends receipts lowest
-  pub putting : Putting (select (λ j. isKept n (linesIn scratch n) (messageAt sends receipts j))) m before at after next k
+  pub beside : MessagesBeside n m scratch sends receipts lowest
+  pub putting : PuttingNumbers (select (keepsAt n scratch sends receipts)) m before at after next k
 
 module _ {n m : ℕ} {scratch sends receipts lowest before : List ℕ} {at : ℕ} where
-  pub placing-none : Asking n m scratch sends receipts lowest → at + 2 * length (positionsOf n (linesIn scratch n) sends receipts m) ≤ length before
+  pub placing-none : MessagesBeside n m scratch sends receipts lowest → at + 2 * length (positionsOf n (linesIn scratch n) sends receipts m) ≤ length before
       → Placing n m scratch sends receipts lowest before at before at 0
   unfolding select positionsOf
-  placing-none asking room = record { asking = asking; putting = putting-none zero-le refl room }
+  placing-none beside room = record { beside = beside; putting = putting-none zero-le refl room }
 
   module _ {after : List ℕ} {next k : ℕ} (h : Placing n m scratch sends receipts lowest before at after next k) where
     -- what was found of message k
-    module _ (l : k < m) {r : Bool} (is : r ≡ isKept n (linesIn scratch n) (messageAt sends receipts k)) where
+    module _ (l : k < m) {r : Bool} (is : r ≡ keepsAt n scratch sends receipts k) where
       pub placing-skip : r ≡ false → Placing n m scratch sends receipts lowest before at after next (k + 1)
-      placing-skip e = record { asking = h .asking; putting = putting-skip (h .putting) (omega arith) (select-skip _ k (sym is ∙ e)) }
+      placing-skip e = record { beside = h .beside; putting = putting-skip (h .putting) (omega arith) (select-skip _ k (sym is ∙ e)) }
 
       module _ (e : r ≡ true) where
         pub placing-room : next + 1 < length after
@@ -172,7 +175,7 @@ module _ {n m : ℕ} {scratch sends receipts lowest before : List ℕ} {at : ℕ
         pub placing-more : {later : List ℕ} {end : ℕ} → Put after later next (k ∷ []) end
             → Placing n m scratch sends receipts lowest before at later end (k + 1)
         placing-more put = record {
-          asking = h .asking;
+          beside = h .beside;
           putting = putting-more (h .putting) put (omega arith) (select-more _ k (sym is ∙ e)) (select-room _ k m l (sym is ∙ e));
         }
 

@@ -3,14 +3,18 @@
 use mathlib.Core.List.{List, [], _∷_, map}
 use mathlib.Core.Path.{_≡_}
 use Prim.Native.Nat.{ℕ, _+_, _*_, _≤_}
-use lib.ListN.{length, take}
-use Rattle.consistency.specs.Ceilings.{holderLines}
+use lib.ListN.{length}
+use Rattle.consistency.specs.Lines.{Line}
+use Rattle.holder_lines.specs.Scratch.{LinesOf}
 use Rattle.keep_sheet.specs.Sheet.{keptCheckpoints, keptMessages}
+use Rattle.sheet_entries.specs.Kept.{keptOf}
+use Rattle.sheet_writer.specs.declared.writing.Column.{Column}
+use Rattle.sheet_writer.specs.declared.writing.Column.the-variants.{Number, Process}
 use Rattle.sheet_writer.specs.declared.writing.Part.{Part}
 use Rattle.sheet_writer.specs.declared.writing.Part.the-variants.{Checkpoints, Positions, Processes, Sizes}
-use Rattle.tables.specs.Checks.{tableRefusal}
-use Rattle.tables.specs.Format.{decode}
-use Rattle.tables.specs.Table.{Table, processCount}
+use Rattle.tables.specs.Format.{countAt, decode}
+use Rattle.tables.specs.Lists.{rows}
+use Rattle.tables.specs.Table.{Table}
 
 -- The numbers of a part: K and Q as given; the processes and the numbers of the kept checkpoints; the positions of the
 -- kept messages.
@@ -20,17 +24,26 @@ numbersOf Processes t = map (λ k. k .process) (keptCheckpoints t)
 numbersOf Checkpoints t = map (λ k. k .number) (keptCheckpoints t)
 numbersOf Positions t = keptMessages t
 
--- An accepted table, and a scratch that begins with the lines of its single holders.
-pub record LinesOf (table scratch : List ℕ) : Type 0 where
-  pub accepted : tableRefusal table ≡ 0
-  pub lines : take (processCount (decode table) * processCount (decode table)) scratch ≡ holderLines (decode table)
+-- What one array of the sheet has of checkpoint c of process i.
+abbrev pub numberIn : Column → ℕ → ℕ → ℕ
+numberIn Process i c = i
+numberIn Number i c = c
 
--- A part of their sheet can be put: the buffer has room for it from a place on.
+-- One array, of the checkpoints of process i that have these numbers; and of all that lines say are kept of n
+-- processes, from a part of their counts.
+unfoldable pub columnAt : Column → ℕ → List ℕ → List ℕ
+columnAt column i kept = map (numberIn column i) kept
+
+unfoldable pub columnOf : Column → ℕ → (ℕ → Line) → List ℕ → List ℕ
+columnOf column n line counts = rows (λ i. columnAt column i (keptOf n line i (countAt counts i))) n
+
+-- A part of the sheet of an accepted table can be put, given a scratch with the lines of its single holders: the buffer
+-- has room for it from a place on.
 pub record CanPut (part : Part) (table scratch : List ℕ) (at : ℕ) (buffer : List ℕ) : Type 0 where
   pub given : LinesOf table scratch
   pub room : at + 2 * length (numbersOf part (decode table)) ≤ length buffer
 
--- Their sheet can be put: K and Q are known, and the buffer has room for all of it.
+-- The sheet can be put: K and Q are known, and the buffer has room for all of it.
 pub record CanPutSheet (table scratch : List ℕ) (kept logged : ℕ) (buffer : List ℕ) : Type 0 where
   pub given : LinesOf table scratch
   pub kept-is : kept ≡ length (keptCheckpoints (decode table))

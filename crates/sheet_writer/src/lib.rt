@@ -1,44 +1,19 @@
-// The keep sheet: the lines of single holders that it is read off, the sizes of its arrays, its bytes.
+// The keep sheet, from a scratch with the lines of single holders: the sizes of its arrays, its bytes.
 pub mod writer;
 pub mod writing;
 
 use crate::writer::SheetWriter;
 use crate::writing::Part;
-use lines::line_of_holder;
-use lines::propagation::propagating;
-use number_writer::store_numbers;
 use sheet_entries::checkpoints;
 use sheet_entries::messages;
 use tables::parts;
 ghost use mathlib.Core.Path.{_≡_};
-ghost use Prim.Native.Nat.{_*_, _≤_};
 ghost use lib.ListN.{length};
-ghost use Rattle.consistency.specs.Ceilings.{holderLines};
+ghost use Rattle.holder_lines.specs.Scratch.{LinesOf};
 ghost use Rattle.keep_sheet.specs.Sheet.{keptCheckpoints, keptMessages, sheet};
-ghost use Rattle.tables.specs.Checks.{tableRefusal};
 ghost use Rattle.tables.specs.Format.{decode};
 ghost use Rattle.tables.specs.Numbers.{putAt};
-ghost use Rattle.tables.specs.Table.{processCount};
-ghost use Rattle.sheet_writer.specs.SheetParts.{CanPutSheet, LinesOf};
-
-// Writes the lines of all single holders to the front of a scratch that has room for N × N numbers.
-pub fn fill_lines(table: &[u8], scratch: &mut [u16])
-    requires { ⌜ tableRefusal (now table) ≡ 0 ⌝ }
-    requires { ⌜ processCount (decode (now table)) * processCount (decode (now table)) ≤ length (now scratch) ⌝ }
-    ensures { λ _. ⌜ now (scratch .exit)
-        ≡ putAt (now (scratch .entry)) 0 (holderLines (decode (now (table .entry)))) ⌝ }
-{
-    let n = parts::process_count(table);
-    let propagates = propagating(table);
-    let mut at = 0;
-    let mut k = 0;
-    while k < n {
-        let line = line_of_holder(table, k, propagates[k]);
-        store_numbers(scratch, at, &line[..n]);
-        at += n;
-        k += 1;
-    }
-}
+ghost use Rattle.sheet_writer.specs.SheetParts.{CanPutSheet};
 
 // K, the number of checkpoints that are kept.
 pub fn count_checkpoints(table: &[u8], scratch: &[u16]) -> usize

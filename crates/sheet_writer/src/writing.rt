@@ -6,14 +6,13 @@ use sheet_entries::messages::lowest_line;
 use tables::numbers::put_u16;
 use tables::numbers::u16_at;
 use tables::parts;
-ghost use mathlib.Core.Bool.{cond};
 ghost use mathlib.Core.List.{_∷_, []};
 ghost use mathlib.Core.Path.{_≡_};
 ghost use Prim.Native.Nat.{_+_, _*_, _<_, _≤_};
 ghost use lib.ListN.{length};
-ghost use Rattle.sheet_entries.specs.Kept.{columnAt, columnOf, keptOf, positionsOf};
-ghost use Rattle.sheet_entries.specs.Scratch.{HoldsLines, linesIn};
-ghost use Rattle.sheet_writer.specs.SheetParts.{CanPut, numbersOf};
+ghost use Rattle.holder_lines.specs.Scratch.{HoldsLines, linesIn};
+ghost use Rattle.sheet_entries.specs.Kept.{keptOf, positionsOf};
+ghost use Rattle.sheet_writer.specs.SheetParts.{CanPut, columnAt, columnOf, numberIn, numbersOf};
 ghost use Rattle.sheet_writer.specs.Writing.{Put};
 ghost use Rattle.tables.specs.Format.{decode};
 ghost use Rattle.tables.specs.Parts.{Counts, Messages};
@@ -24,6 +23,12 @@ pub enum Part {
     Processes,
     Checkpoints,
     Positions,
+}
+
+// The two arrays of the kept checkpoints: their processes, and their numbers.
+pub enum Column {
+    Process,
+    Number,
 }
 
 // Puts one number at a place that has room for it.
@@ -44,21 +49,21 @@ fn put_sizes(buffer: &mut [u8], at: usize, kept: usize, logged: usize) -> usize
     put_number(buffer, next, (logged % 65536) as u16)
 }
 
-// The number of a checkpoint in one array of the sheet: its own, or else its process's.
-fn number_of(checkpoints: bool, process: u16, checkpoint: u16) -> u16
-    ensures { λ r. ⌜ r ≡ cond checkpoints checkpoint process ⌝ }
+// What one array has of a checkpoint of a process.
+fn number_of(column: Column, process: u16, checkpoint: u16) -> u16
+    ensures { λ r. ⌜ r ≡ numberIn column process checkpoint ⌝ }
 {
-    if checkpoints {
-        return checkpoint;
+    match column {
+        Column::Process => process,
+        Column::Number => checkpoint,
     }
-    process
 }
 
 // Puts one array's numbers of the kept checkpoints of process i.
 fn put_process(
     buffer: &mut [u8],
     at: usize,
-    checkpoints: bool,
+    column: Column,
     scratch: &[u16],
     n: usize,
     i: usize,
@@ -66,49 +71,40 @@ fn put_process(
 ) -> usize
     requires { ⌜ HoldsLines n (now scratch) ⌝ }
     requires { ⌜ i < n ⌝ }
-    requires { ⌜ at + 2 * length (columnAt checkpoints i (keptOf n (linesIn (now scratch) n) i count))
+    requires { ⌜ at + 2 * length (columnAt column i (keptOf n (linesIn (now scratch) n) i count))
         ≤ length (now buffer) ⌝ }
     ensures { λ r. ⌜ Put (now (buffer .entry)) (now (buffer .exit)) at
-        (columnAt checkpoints i (keptOf n (linesIn (now (scratch .entry)) n) i count)) r ⌝ }
+        (columnAt column i (keptOf n (linesIn (now (scratch .entry)) n) i count)) r ⌝ }
 {
     let mut next = at;
     let mut checkpoint = next_kept(scratch, n, i, 0, count);
     while checkpoint < count {
-        next = put_number(buffer, next, number_of(checkpoints, i as u16, checkpoint));
+        next = put_number(buffer, next, number_of(column, i as u16, checkpoint));
         checkpoint = next_kept(scratch, n, i, checkpoint + 1, count);
     }
     next
 }
 
-// Puts one array of the sheet: the numbers of the kept checkpoints of n processes, or else their
-// processes.
+// Puts one array of the kept checkpoints of n processes.
 fn put_column(
     buffer: &mut [u8],
     at: usize,
-    checkpoints: bool,
+    column: Column,
     scratch: &[u16],
     n: usize,
     counts: &[u8],
 ) -> usize
     requires { ⌜ HoldsLines n (now scratch) ⌝ }
     requires { ⌜ Counts n (now counts) ⌝ }
-    requires { ⌜ at + 2 * length (columnOf checkpoints n (linesIn (now scratch) n) (now counts))
+    requires { ⌜ at + 2 * length (columnOf column n (linesIn (now scratch) n) (now counts))
         ≤ length (now buffer) ⌝ }
     ensures { λ r. ⌜ Put (now (buffer .entry)) (now (buffer .exit)) at
-        (columnOf checkpoints n (linesIn (now (scratch .entry)) n) (now (counts .entry))) r ⌝ }
+        (columnOf column n (linesIn (now (scratch .entry)) n) (now (counts .entry))) r ⌝ }
 {
     let mut next = at;
     let mut i = 0;
     while i < n {
-        next = put_process(
-            buffer,
-            next,
-            checkpoints,
-            scratch,
-            n,
-            i,
-            u16_at(counts, 2 * i),
-        );
+        next = put_process(buffer, next, column, scratch, n, i, u16_at(counts, 2 * i));
         i += 1;
     }
     next
@@ -156,8 +152,22 @@ pub fn put_part(buffer: &mut [u8], at: usize, part: Part, table: &[u8], scratch:
     let n = parts::process_count(table);
     match part {
         Part::Sizes(kept, logged) => put_sizes(buffer, at, kept, logged),
-        Part::Processes => put_column(buffer, at, false, scratch, n, parts::counts(table)),
-        Part::Checkpoints => put_column(buffer, at, true, scratch, n, parts::counts(table)),
+        Part::Processes => put_column(
+            buffer,
+            at,
+            Column::Process,
+            scratch,
+            n,
+            parts::counts(table),
+        ),
+        Part::Checkpoints => put_column(
+            buffer,
+            at,
+            Column::Number,
+            scratch,
+            n,
+            parts::counts(table),
+        ),
         Part::Positions => put_positions(
             buffer,
             at,

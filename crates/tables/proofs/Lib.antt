@@ -2,6 +2,7 @@
 --     ArrayLaws     arrays of 32 numbers that begin with a list, and a loop that fills one
 --     ListLaws      lists given by their entries; searches in lists and among numbers
 --     SearchedLaws  a loop that looks for a number that passes a test
+--     SelectLaws    loops that search numbers, and that select those that pass a test
 --     NumberLaws    16-bit numbers in bytes
 --     FormatLaws    the parts of a table's bytes, and the entries of the decoded table
 --     CodingLaws    reading and writing undo each other
@@ -18,4 +19,5 @@ pub mod ListLaws
 pub mod NumberLaws
 pub mod ReadLaws
 pub mod SearchedLaws
+pub mod SelectLaws
 pub mod TurnLaws

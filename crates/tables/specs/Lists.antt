@@ -1,8 +1,8 @@
 -- Lists that are given by their entries, and searches in lists and among numbers. Assumes nothing.
-use mathlib.Core.Bool.{Bool, cond, false, _||_}
+use mathlib.Core.Bool.{Bool, cond, true, false, _||_}
 use mathlib.Core.List.{List, [], _∷_, _++_}
 use mathlib.Core.Path.{_≡_}
-use Prim.Native.Nat.{ℕ, zero, suc, _+_, _<_}
+use Prim.Native.Nat.{ℕ, zero, suc, _+_, _≤_, _<_}
 use lib.ListN.{length, getD}
 
 -- The list of n entries whose entry k is f k.
@@ -29,6 +29,13 @@ any test (x ∷ rest) = test x || any test rest
 unfoldable pub anyBelow : ℕ → (ℕ → Bool) → Bool
 anyBelow zero test = false
 anyBelow (suc n) test = test n || anyBelow n test
+
+-- A number is the first from a start on, below a limit, that passes a test; it is the limit where there is none.
+pub record First (test : ℕ → Bool) (from limit first : ℕ) : Type 0 where
+  pub from-on : from ≤ first
+  pub within : first ≤ limit
+  pub none-before : (c : ℕ) → from ≤ c → c < first → test c ≡ false
+  pub passes : first < limit → test first ≡ true
 
 -- An entry is listed where it stands at some position of the list.
 unfoldable pub Listed : {A : Type 0} → A → List A → Type 0

@@ -7,6 +7,9 @@ use mathlib.Core.Path.{_≡_, refl}
 use Prim.Native.Nat.{ℕ}
 use denote.Ref.{now}
 use lib.ListN.{length}
+use Rattle.holder_lines.proofs.ScratchLaws.{lines-stand}
+use Rattle.holder_lines.specs.Scratch.{LinesOf}
+use Rattle.keep_sheet.proofs.FewLaws.{kept-few, sheet-length}
 use Rattle.keep_sheet.specs.Sheet.{sheet}
 use Rattle.keeper.proofs.AnswerLaws.{answered, refused, sixteen, too-short}
 use Rattle.refusals.proofs.RefusalLaws.{QuietCall, quiet-call, scratch-long}
@@ -14,8 +17,6 @@ use Rattle.keeper.proofs.SheetBytes.{sheet-holds}
 use Rattle.keeper.proofs.SheetAnswer.{scratch-filled, scratch-kept}
 use Rattle.keeper.specs.Calls.{keepSheetAnswer}
 use Rattle.refusals.specs.CallChecks.{keepSheetChecks}
-use Rattle.sheet_writer.proofs.SheetReads.{kept-few, lines-stand, sheet-length}
-use Rattle.sheet_writer.specs.SheetParts.{LinesOf}
 use Rattle.tables.proofs.CheckLaws.{areRefusals}
 use Rattle.tables.specs.Format.{decode}
 use Rattle.keeper.proofs.keeper_keep_sheet.Statement.{statement}

@@ -2,7 +2,7 @@
 -- Assumes nothing.
 use Rattle.listing_text.proofs.ShareLaws.{rounded-share, share-most, sum-positive}
 use Rattle.listing_text.specs.Listing.{share}
-use Rattle.sheet_writer.proofs.SheetReads.{kept-few}
+use Rattle.keep_sheet.proofs.FewLaws.{kept-few}
 use Rattle.tables.specs.Format.{decode}
 use denote.Ref.{now}
 use mathlib.Core.Path.{_≡_}

@@ -2,7 +2,8 @@
 -- Assumes nothing.
 use borrow.Author.Needs.{needs}
 use Rattle.tables.proofs.ReadLaws.{counts-known}
-use Rattle.sheet_writer.proofs.SheetReads.{checkpoints-found, holds-lines}
+use Rattle.holder_lines.proofs.ScratchLaws.{holds-lines}
+use Rattle.sheet_entries.proofs.FoundLaws.{checkpoints-found}
 use Rattle.sheet_writer.proofs.count_checkpoints.Statement.{statement}
 use Rattle.sheet_writer.proofs.count_checkpoints.Tie as tie
 

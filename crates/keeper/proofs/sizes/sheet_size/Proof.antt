@@ -2,7 +2,7 @@
 -- Assumes nothing.
 use borrow.Author.Needs.{needs}
 use native.Mathlib.Omega.{arith}
-use Rattle.sheet_writer.proofs.SheetReads.{sheet-length}
+use Rattle.keep_sheet.proofs.FewLaws.{sheet-length}
 use Rattle.keeper.proofs.sizes.sheet_size.Statement.{statement}
 use Rattle.keeper.proofs.sizes.sheet_size.Tie as tie
 

@@ -6,7 +6,7 @@ use Rattle.listing_text.proofs.RowLaws.{line-in, line-part}
 use Rattle.text_writer.proofs.TextLaws.{Laying, laying-all, laying-length, laying-more, laying-none, laying-room}
 use Rattle.listing_text.specs.Listing.{holdRow}
 use Rattle.listing_text.specs.Rows.{holdRows, lineAt}
-use Rattle.sheet_entries.specs.Scratch.{HoldsLines}
+use Rattle.holder_lines.specs.Scratch.{HoldsLines}
 use borrow.Author.Needs.{needs}
 use mathlib.Core.Path.{ap, refl}
 use native.Mathlib.Omega.{arith}

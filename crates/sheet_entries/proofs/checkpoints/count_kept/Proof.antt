@@ -1,4 +1,5 @@
--- `checkpoints::count_kept` meets its contract: the loop adds up the processes' numbers.
+-- `checkpoints::count_kept` meets its contract. The loop's invariant: the total is the number of kept checkpoints of the first i processes.
+-- The measure is what is left of the processes.
 -- Assumes nothing.
 use native.Mathlib.Omega.{arith}
 use Prim.Native.Nat.{_-_}

@@ -1,14 +1,16 @@
--- `checkpoints::next_kept` meets its contract: the loop keeps the first checkpoint found.
+-- `checkpoints::next_kept` meets its contract. The loop's invariant: the least checkpoint from the start on that one of the first k
+-- lines has at the process, and the count where none has. The measure is what is left of the lines.
 -- Assumes nothing.
 use native.Mathlib.Omega.{arith}
 use Prim.Native.Nat.{_-_}
-use Rattle.sheet_entries.proofs.SearchLaws.{Searching, search-begins, search-ends, search-finds, search-passes}
-use Rattle.sheet_entries.specs.Scratch.{linesIn}
+use Rattle.holder_lines.specs.Scratch.{linesIn}
+use Rattle.sheet_entries.specs.Kept.{shows}
+use Rattle.tables.proofs.SelectLaws.{Searching, search-begins, search-ends, search-finds, search-passes}
 use Rattle.sheet_entries.proofs.checkpoints.next_kept.Statement.{statement}
 use Rattle.sheet_entries.proofs.checkpoints.next_kept.Tie as tie
 
 abbrev Inv-loop : tie.InvT-loop
-Inv-loop scratch n i from count least₀ k₀ least k = Searching n (linesIn scratch n) i from count least k
+Inv-loop scratch n i from count least₀ k₀ least k = Searching n (λ j. linesIn scratch n j i) from count least k
 
 abbrev μ-loop : tie.MeasureT-loop
 μ-loop scratch n i from count least₀ k₀ least k = n - k
@@ -19,6 +21,7 @@ turn c = c .before
 
 -- ---- the needs, in the code's course
 pub next-kept-spec : {M : Type 1} → statement M
+unfolding shows
 next-kept-spec =
     tie.close
     (tie.spec

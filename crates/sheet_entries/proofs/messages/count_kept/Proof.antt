@@ -1,16 +1,19 @@
--- `messages::count_kept` meets its contract: the loop tests one message after another.
+-- `messages::count_kept` meets its contract. The loop's invariant: `kept` of the first k messages are kept. The measure is what is left of
+-- the messages.
 -- Assumes nothing.
 use borrow.Author.Needs.{needs}
 use native.Mathlib.Omega.{arith}
 use borrow.Author.Tests.{not-true, not-false}
 use Prim.Native.Nat.{_-_}
-use Rattle.sheet_entries.proofs.SearchLaws.{Picking, may-ask, picking-more, picking-none, picking-skip, receiver-small, tallied-all, tallied-small}
+use Rattle.sheet_entries.proofs.SearchLaws.{MessagesBeside, keepsAt, may-ask, receiver-small}
 use Rattle.sheet_entries.specs.Kept.{positionsOf}
+use Rattle.tables.proofs.SelectLaws.{Tallied, tallied-all, tallied-more, tallied-none, tallied-skip, tallied-small}
 use Rattle.sheet_entries.proofs.messages.count_kept.Statement.{statement}
 use Rattle.sheet_entries.proofs.messages.count_kept.Tie as tie
 
 abbrev Inv-loop : tie.InvT-loop
-Inv-loop scratch n sends receipts m lowest kept₀ k₀ kept k = Picking n m scratch sends receipts lowest kept k
+Inv-loop scratch n sends receipts m lowest kept₀ k₀ kept k =
+    MessagesBeside n m scratch sends receipts lowest × Tallied (keepsAt n scratch sends receipts) m kept k
 
 abbrev μ-loop : tie.MeasureT-loop
 μ-loop scratch n sends receipts m lowest kept₀ k₀ kept k = m - k
@@ -33,24 +36,26 @@ count-kept-spec =
     (λ c κs. omega arith)
     (λ c.
     let given = entry c .pre in
-    picking-none record { holds = given .0; known = given .1; lowest-is = c .lowest-line .ensures })
+    (record { holds = given .0; known = given .1; lowest-is = c .lowest-line .ensures }, tallied-none))
     -- the message
     (λ c. omega arith)
     (λ c κs. omega arith)
     (λ c. search needs)
     (λ c. search needs)
-    (λ c. receiver-small (c .before .before .loop .inv .asking) (c .before .loop-test .taken) (c .u16-at .ensures))
-    (λ c κs. may-ask (c .before .before .loop .inv .asking) (c .before .loop-test .taken) (c .u16-at .ensures))
+    (λ c. receiver-small (c .before .before .loop .inv .0) (c .before .loop-test .taken) (c .u16-at .ensures))
+    (λ c κs. may-ask (c .before .before .loop .inv .0) (c .before .loop-test .taken) (c .u16-at .ensures))
     (λ c. omega arith)
     -- it is not kept
     (λ c. omega arith)
     (λ c.
     let judged = c .before in
-    picking-skip (turn judged .before .loop .inv) (turn judged .loop-test .taken) (judged .is-kept .ensures) (not-true _ (c .if1 .taken)))
+    let inv = turn judged .before .loop .inv in
+    (inv .0, tallied-skip (inv .1) (turn judged .loop-test .taken) (judged .is-kept .ensures) (not-true _ (c .if1 .taken))))
     -- it is kept
-    (λ c. omega (arith, tallied-small (turn (c .before) .before .loop .inv .tallied)))
+    (λ c. omega (arith, tallied-small (turn (c .before) .before .loop .inv .1)))
     (λ c. omega arith)
     (λ c.
     let judged = c .before in
-    picking-more (turn judged .before .loop .inv) (turn judged .loop-test .taken) (judged .is-kept .ensures) (not-false _ (c .if1 .left)))
-    (λ c. tallied-all (c .before .loop .inv .tallied) (c .loop-test .left)))
+    let inv = turn judged .before .loop .inv in
+    (inv .0, tallied-more (inv .1) (turn judged .loop-test .taken) (judged .is-kept .ensures) (not-false _ (c .if1 .left))))
+    (λ c. tallied-all (c .before .loop .inv .1) (c .loop-test .left)))

@@ -1,9 +1,10 @@
--- `messages::crosses_line` meets its contract: the loop leaves at the first line that the message crosses.
+-- `messages::crosses_line` meets its contract. The loop's invariant: the message crosses none of the first k lines; the loop leaves at
+-- one that it crosses. The measure is what is left of the lines.
 -- Assumes nothing.
 use native.Mathlib.Omega.{arith}
 use Prim.Native.Nat.{_-_}
+use Rattle.holder_lines.specs.Scratch.{linesIn}
 use Rattle.sheet_entries.proofs.SearchLaws.{Uncrossed, crossed, received-before, sent-after, uncrossed-all, uncrossed-none}
-use Rattle.sheet_entries.specs.Scratch.{linesIn}
 use Rattle.sheet_entries.proofs.messages.crosses_line.Statement.{statement}
 use Rattle.sheet_entries.proofs.messages.crosses_line.Tie as tie
 

@@ -1,4 +1,5 @@
--- `messages::lowest_line` meets its contract: the loop fills the array from the front.
+-- `messages::lowest_line` meets its contract. The loop's invariant: the first i entries are the lowest line's, and the others 0.
+-- The measure is what is left of the processes.
 -- Assumes nothing.
 use native.Mathlib.Omega.{arith}
 use Prim.Native.Nat.{_-_}

@@ -1,4 +1,5 @@
--- `writing::put_column` meets its contract: the loop goes from process to process.
+-- `writing::put_column` meets its contract. The loop's invariant: the array's numbers of the first i processes are put, and there is room
+-- for all. The measure is what is left of the processes.
 -- Assumes nothing.
 use native.Mathlib.Omega.{arith}
 use Prim.Native.Nat.{_-_}
@@ -7,10 +8,10 @@ use Rattle.sheet_writer.proofs.writing.put_column.Statement.{statement}
 use Rattle.sheet_writer.proofs.writing.put_column.Tie as tie
 
 abbrev Inv-loop : tie.InvT-loop
-Inv-loop buffer₀ at checkpoints scratch n counts next₀ i₀ buffer next i = Chaining checkpoints n scratch counts buffer₀ at buffer next i
+Inv-loop buffer₀ at column scratch n counts next₀ i₀ buffer next i = Chaining column n scratch counts buffer₀ at buffer next i
 
 abbrev μ-loop : tie.MeasureT-loop
-μ-loop buffer₀ at checkpoints scratch n counts next₀ i₀ buffer next i = n - i
+μ-loop buffer₀ at column scratch n counts next₀ i₀ buffer next i = n - i
 
 -- ---- the places: a turn of the loop, from where the count of its process was read; that, from where its numbers were put
 abbrev turn : tie.After-u16-at Inv-loop μ-loop → tie.In-loop Inv-loop μ-loop

@@ -2,11 +2,11 @@
 -- Assumes nothing.
 use borrow.Author.Needs.{needs}
 use native.Mathlib.Omega.{arith}
-use mathlib.Core.Bool.{true, false}
 use denote.Ref.{now}
+use Rattle.holder_lines.proofs.ScratchLaws.{holds-lines}
 use Rattle.tables.proofs.ReadLaws.{ReadMessages, counts-known, messages-known, messages-read}
 use Rattle.sheet_writer.proofs.PartLaws.{column-put, column-room, positions-put, positions-room, sizes-put, sizes-room}
-use Rattle.sheet_writer.proofs.SheetReads.{holds-lines}
+use Rattle.sheet_writer.specs.declared.writing.Column.the-variants.{Number, Process}
 use Rattle.sheet_writer.proofs.writing.put_part.Statement.{statement}
 use Rattle.sheet_writer.proofs.writing.put_part.Tie as tie
 
@@ -52,7 +52,7 @@ put-part-spec =
     let n = of-processes c .process-count .ensures in
     let ready = entry (of-processes c) .pre in
     let counts = counts-known _ (ready .given .accepted) n (c .counts .ensures) in
-    (holds-lines (ready .given) n, (counts, column-room ready n (c .counts .ensures) false (c .before .before .enum-told .given .1))))
+    (holds-lines (ready .given) n, (counts, column-room ready n (c .counts .ensures) Process (c .before .before .enum-told .given .1))))
     -- the checkpoints
     (λ c. search needs)
     (λ c κs. search needs)
@@ -60,7 +60,7 @@ put-part-spec =
     let n = of-checkpoints c .process-count .ensures in
     let ready = entry (of-checkpoints c) .pre in
     let counts = counts-known _ (ready .given .accepted) n (c .counts2 .ensures) in
-    (holds-lines (ready .given) n, (counts, column-room ready n (c .counts2 .ensures) true (c .before .before .enum-told2 .given .1))))
+    (holds-lines (ready .given) n, (counts, column-room ready n (c .counts2 .ensures) Number (c .before .before .enum-told2 .given .1))))
     -- the positions
     (λ c. search needs)
     (λ c κs. search needs)
@@ -83,13 +83,13 @@ put-part-spec =
     let put = c .before .before in
     let read = put .before in
     let n = of-processes read .process-count .ensures in
-    column-put (entry (of-processes read) .pre) n (read .counts .ensures) false (read .before .before .enum-told .given .1) (put .put-column .ensures))
+    column-put (entry (of-processes read) .pre) n (read .counts .ensures) Process (read .before .before .enum-told .given .1) (put .put-column .ensures))
     (λ c. search needs)
     (λ c.
     let put = c .before .before in
     let read = put .before in
     let n = of-checkpoints read .process-count .ensures in
-    column-put (entry (of-checkpoints read) .pre) n (read .counts2 .ensures) true (read .before .before .enum-told2 .given .1) (put .put-column2 .ensures))
+    column-put (entry (of-checkpoints read) .pre) n (read .counts2 .ensures) Number (read .before .before .enum-told2 .given .1) (put .put-column2 .ensures))
     (λ c. search needs)
     (λ c.
     let put = c .before .before in

@@ -1,4 +1,5 @@
--- `writing::put_positions` meets its contract: the loop tests one message after another.
+-- `writing::put_positions` meets its contract. The loop's invariant: the positions of the kept ones among the first k messages are put, and
+-- there is room for all. The measure is what is left of the messages.
 -- Assumes nothing.
 use borrow.Author.Needs.{needs}
 use native.Mathlib.Omega.{arith}
@@ -41,8 +42,8 @@ put-positions-spec =
     (λ c κs. omega arith)
     (λ c. search needs)
     (λ c. search needs)
-    (λ c. receiver-small (c .before .before .loop .inv .asking) (c .before .loop-test .taken) (c .u16-at .ensures))
-    (λ c κs. may-ask (c .before .before .loop .inv .asking) (c .before .loop-test .taken) (c .u16-at .ensures))
+    (λ c. receiver-small (c .before .before .loop .inv .beside) (c .before .loop-test .taken) (c .u16-at .ensures))
+    (λ c κs. may-ask (c .before .before .loop .inv .beside) (c .before .loop-test .taken) (c .u16-at .ensures))
     (λ c. omega arith)
     -- it is not kept
     (λ c. omega arith)

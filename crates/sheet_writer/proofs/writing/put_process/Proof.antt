@@ -1,19 +1,20 @@
--- `writing::put_process` meets its contract: the loop goes from one kept checkpoint to the next.
+-- `writing::put_process` meets its contract. The loop's invariant: it is at a kept checkpoint or at the count, the array's numbers of the
+-- kept ones before it are put, and there is room for all. The measure is what is left of the count.
 -- Assumes nothing.
 use native.Mathlib.Omega.{arith}
 use Prim.Native.Nat.{_-_}
-use Rattle.sheet_writer.proofs.PutLaws.{Laying, laying-first, laying-more, laying-room, putting-all, putting-length}
+use Rattle.holder_lines.specs.Scratch.{linesIn}
+use Rattle.sheet_writer.proofs.PutLaws.{LayingColumn, laying-first, laying-more, laying-room, putting-all, putting-length}
 use Rattle.sheet_entries.specs.Kept.{keptOf, shows}
-use Rattle.sheet_entries.specs.Scratch.{linesIn}
 use Rattle.sheet_writer.proofs.writing.put_process.Statement.{statement}
 use Rattle.sheet_writer.proofs.writing.put_process.Tie as tie
 
 abbrev Inv-loop : tie.InvT-loop
-Inv-loop buffer₀ at checkpoints scratch n i count next₀ checkpoint₀ buffer next checkpoint =
-    Laying (shows n (linesIn scratch n) i) count checkpoints i buffer₀ at buffer next checkpoint
+Inv-loop buffer₀ at column scratch n i count next₀ checkpoint₀ buffer next checkpoint =
+    LayingColumn (shows n (linesIn scratch n) i) count column i buffer₀ at buffer next checkpoint
 
 abbrev μ-loop : tie.MeasureT-loop
-μ-loop buffer₀ at checkpoints scratch n i count next₀ checkpoint₀ buffer next checkpoint = count - checkpoint
+μ-loop buffer₀ at column scratch n i count next₀ checkpoint₀ buffer next checkpoint = count - checkpoint
 
 -- ---- the places: the entry, from where the first checkpoint was found; a turn of the loop, from where its number was, and where that was put
 abbrev entry : tie.After-next-kept Inv-loop μ-loop → tie.Start Inv-loop μ-loop

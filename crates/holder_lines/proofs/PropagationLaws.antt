@@ -22,7 +22,7 @@ use Rattle.tables.proofs.FormatLaws.{message-in}
 use Rattle.consistency.proofs.LoweringLaws.{line-consistent}
 use Rattle.consistency.specs.Ceilings.{Holders, ceilingOf, lineOf}
 use Rattle.consistency.specs.Lines.{Orphan, asLine}
-use Rattle.lines.specs.Propagation.{orphaned, propagatesFrom}
+use Rattle.holder_lines.specs.Propagation.{orphaned, propagatesFrom}
 use Rattle.process_set.proofs.SetLaws.{member-one}
 use Rattle.process_set.specs.Sets.{member}
 use Rattle.tables.proofs.AcceptLaws.{facts}

@@ -2,12 +2,12 @@
 use mathlib.Core.List.{List}
 use mathlib.Core.Path.{_≡_}
 use Prim.Native.Nat.{ℕ, _+_, _*_, _≤_}
-use lib.ListN.{getD, length}
+use lib.ListN.{getD, length, take}
+use Rattle.consistency.specs.Ceilings.{holderLines}
 use Rattle.consistency.specs.Lines.{Line}
-use Rattle.tables.specs.Format.{processAt}
-use Rattle.tables.specs.Parts.{MessageThere}
-use Rattle.tables.specs.Table.{mostProcesses}
-use Rattle.sheet_entries.specs.Kept.{lowestAt}
+use Rattle.tables.specs.Checks.{tableRefusal}
+use Rattle.tables.specs.Format.{decode}
+use Rattle.tables.specs.Table.{mostProcesses, processCount}
 
 -- A scratch that begins with n lines of n numbers, n being a number of processes.
 pub record HoldsLines (n : ℕ) (scratch : List ℕ) : Type 0 where
@@ -18,8 +18,7 @@ pub record HoldsLines (n : ℕ) (scratch : List ℕ) : Type 0 where
 unfoldable pub linesIn : List ℕ → ℕ → ℕ → Line
 linesIn scratch n k i = getD scratch (n * k + i) 0
 
--- Message k of a part of sends and a part of receipts, and the lowest line's number at its receiver.
-pub record MessageBeside (n lowest k : ℕ) (scratch sends receipts : List ℕ) : Type 0 where
-  pub holds : HoldsLines n scratch
-  pub there : MessageThere n k sends receipts
-  pub lowest-is : lowest ≡ lowestAt n (linesIn scratch n) (processAt receipts k)
+-- An accepted table, and a scratch that begins with the lines of its single holders.
+pub record LinesOf (table scratch : List ℕ) : Type 0 where
+  pub accepted : tableRefusal table ≡ 0
+  pub lines : take (processCount (decode table) * processCount (decode table)) scratch ≡ holderLines (decode table)

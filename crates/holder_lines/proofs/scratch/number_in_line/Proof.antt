@@ -1,11 +1,11 @@
 -- `scratch::number_in_line` meets its contract: the place is within the n × n numbers.
 -- Assumes nothing.
 use native.Mathlib.Omega.{arith}
-use Rattle.sheet_entries.proofs.ScratchLaws.{cell-below}
-use Rattle.sheet_entries.specs.Scratch.{linesIn}
+use Rattle.holder_lines.proofs.ScratchLaws.{cell-below}
+use Rattle.holder_lines.specs.Scratch.{linesIn}
 use mathlib.Core.Path.{refl}
-use Rattle.sheet_entries.proofs.scratch.number_in_line.Statement.{statement}
-use Rattle.sheet_entries.proofs.scratch.number_in_line.Tie as tie
+use Rattle.holder_lines.proofs.scratch.number_in_line.Statement.{statement}
+use Rattle.holder_lines.proofs.scratch.number_in_line.Tie as tie
 
 -- the place is that of line k at process i
 returns : tie.Need-returns

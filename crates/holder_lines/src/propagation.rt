@@ -2,7 +2,7 @@
 use tables::numbers::u16_at;
 use tables::parts;
 ghost use mathlib.Core.Path.{_≡_};
-ghost use Rattle.lines.specs.Propagation.{propagatesFrom};
+ghost use Rattle.holder_lines.specs.Propagation.{propagatesFrom};
 ghost use Rattle.tables.specs.Checks.{tableRefusal};
 ghost use Rattle.tables.specs.Format.{decode};
 ghost use Rattle.tables.specs.Lists.{tabulate};

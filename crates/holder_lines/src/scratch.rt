@@ -1,7 +1,7 @@
 // A scratch that begins with n lines of n numbers each, one after another.
 ghost use mathlib.Core.Path.{_≡_};
 ghost use Prim.Native.Nat.{_<_};
-ghost use Rattle.sheet_entries.specs.Scratch.{HoldsLines, linesIn};
+ghost use Rattle.holder_lines.specs.Scratch.{HoldsLines, linesIn};
 
 // The number of line k at process i.
 pub fn number_in_line(scratch: &[u16], n: usize, k: usize, i: usize) -> u16

@@ -6,9 +6,9 @@ use mathlib.Core.Path.{_≡_, sym}
 use Prim.Native.Nat.{_-_}
 use lib.ListN.{length, take}
 use lib.Seq.{length-take-le}
-use Rattle.sheet_writer.proofs.SheetReads.{Lining, lining-all, lining-fits, lining-mark, lining-more, lining-none, lining-room}
-use Rattle.sheet_writer.proofs.fill_lines.Statement.{statement}
-use Rattle.sheet_writer.proofs.fill_lines.Tie as tie
+use Rattle.holder_lines.proofs.FillLaws.{Lining, lining-all, lining-fits, lining-mark, lining-more, lining-none, lining-room}
+use Rattle.holder_lines.proofs.fill_lines.Statement.{statement}
+use Rattle.holder_lines.proofs.fill_lines.Tie as tie
 
 abbrev Inv-loop : tie.InvT-loop
 Inv-loop table scratch₀ n propagates at₀ k₀ scratch at k = Lining table scratch₀ n propagates scratch at k
@@ -49,7 +49,7 @@ fill-lines-spec =
     (λ c. omega arith)
     (λ c κs.
     let lining = c .before .loop .inv in
-    (lining .accepted, (omega arith, lining-mark lining (c .loop-test .taken))))
+    (lining .given .accepted, (omega arith, lining-mark lining (c .loop-test .taken))))
     -- it is stored
     (λ c.
     let found = c .before in

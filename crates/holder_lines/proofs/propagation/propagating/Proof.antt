@@ -4,13 +4,13 @@ use borrow.Author.Needs.{needs}
 use native.Mathlib.Omega.{arith}
 use Prim.Native.Nat.{_-_, _<_}
 use denote.Ref.{now}
-use Rattle.lines.proofs.PropagationLaws.{Next, Seen, count-positive, seen-all, seen-marks, seen-none, sender-known}
-use Rattle.lines.proofs.PropagationLaws.{skips-sent-before, skips-undelivered}
+use Rattle.holder_lines.proofs.PropagationLaws.{Next, Seen, count-positive, seen-all, seen-marks, seen-none, sender-known}
+use Rattle.holder_lines.proofs.PropagationLaws.{skips-sent-before, skips-undelivered}
 use Rattle.tables.proofs.ReadLaws.{messages-read, sender-small}
 use Rattle.tables.specs.Format.{decode}
 use Rattle.tables.specs.Table.{processCount}
-use Rattle.lines.proofs.propagation.propagating.Statement.{statement}
-use Rattle.lines.proofs.propagation.propagating.Tie as tie
+use Rattle.holder_lines.proofs.propagation.propagating.Statement.{statement}
+use Rattle.holder_lines.proofs.propagation.propagating.Tie as tie
 
 abbrev Inv-loop : tie.InvT-loop
 Inv-loop table m counts sends receipts propagates₀ k₀ propagates k = Seen table m counts sends receipts propagates k

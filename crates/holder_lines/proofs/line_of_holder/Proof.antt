@@ -3,10 +3,10 @@
 use borrow.Author.Needs.{needs}
 use borrow.Author.Tests.{not-true}
 use mathlib.Core.Path.{sym, ap, _∙_}
-use Rattle.lines.proofs.PropagationLaws.{holder-ceiling}
+use Rattle.holder_lines.proofs.PropagationLaws.{holder-ceiling}
 use Rattle.tables.specs.Arrays.{arrayOf}
-use Rattle.lines.proofs.line_of_holder.Statement.{statement}
-use Rattle.lines.proofs.line_of_holder.Tie as tie
+use Rattle.holder_lines.proofs.line_of_holder.Statement.{statement}
+use Rattle.holder_lines.proofs.line_of_holder.Tie as tie
 
 -- ---- the places: the entry, from where the set was made
 abbrev entry : tie.After-bit → tie.Start
