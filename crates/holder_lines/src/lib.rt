@@ -3,7 +3,6 @@
 pub mod propagation;
 pub mod scratch;
 
-use crate::propagation::propagating;
 use lines::ceiling_of_set;
 use lines::line_of_set;
 use number_writer::store_numbers;
@@ -18,8 +17,23 @@ ghost use Rattle.process_set.specs.Sets.{member};
 ghost use Rattle.tables.specs.Arrays.{arrayOf};
 ghost use Rattle.tables.specs.Checks.{tableRefusal};
 ghost use Rattle.tables.specs.Format.{decode};
+ghost use Rattle.tables.specs.Lists.{tabulate};
 ghost use Rattle.tables.specs.Numbers.{putAt};
 ghost use Rattle.tables.specs.Table.{processCount};
+
+// Whether a rollback of each process of an accepted table to its last checkpoint propagates.
+pub fn propagating(table: &[u8]) -> [bool; 32]
+    requires { ⌜ tableRefusal (now table) ≡ 0 ⌝ }
+    ensures { λ r. ⌜ r ≡ tabulate 32 (propagatesFrom (decode (now (table .entry)))) ⌝ }
+{
+    let m = parts::message_count(table);
+    propagation::propagating(
+        parts::counts(table),
+        parts::sends(table),
+        parts::receipts(table),
+        m,
+    )
+}
 
 // The line of process k alone in an accepted table. Where a rollback of k does not propagate, it is the
 // ceiling, and no pass is made.

@@ -1,22 +1,17 @@
 // Which processes propagate a rollback to their last checkpoint.
 use tables::numbers::u16_at;
-use tables::parts;
 ghost use mathlib.Core.Path.{_≡_};
-ghost use Rattle.holder_lines.specs.Propagation.{propagatesFrom};
-ghost use Rattle.tables.specs.Checks.{tableRefusal};
-ghost use Rattle.tables.specs.Format.{decode};
+ghost use Rattle.holder_lines.specs.Propagation.{CountedMessages, propagatesAt};
 ghost use Rattle.tables.specs.Lists.{tabulate};
 
-// Whether a rollback of each process of an accepted table to its last checkpoint propagates: whether a
-// message that it sent since then was received.
-pub fn propagating(table: &[u8]) -> [bool; 32]
-    requires { ⌜ tableRefusal (now table) ≡ 0 ⌝ }
-    ensures { λ r. ⌜ r ≡ tabulate 32 (propagatesFrom (decode (now (table .entry)))) ⌝ }
+// Whether a rollback of each process to its last checkpoint propagates, from a part of counts and the m
+// messages of a part of sends and a part of receipts: whether a message that it sent since then was
+// received.
+pub fn propagating(counts: &[u8], sends: &[u8], receipts: &[u8], m: usize) -> [bool; 32]
+    requires { ⌜ CountedMessages m (now counts) (now sends) (now receipts) ⌝ }
+    ensures { λ r. ⌜ r
+        ≡ tabulate 32 (propagatesAt m (now (counts .entry)) (now (sends .entry)) (now (receipts .entry))) ⌝ }
 {
-    let m = parts::message_count(table);
-    let counts = parts::counts(table);
-    let sends = parts::sends(table);
-    let receipts = parts::receipts(table);
     let mut propagates = [false; 32];
     let mut k = 0;
     while k < m {

@@ -23,7 +23,7 @@ use Rattle.tables.proofs.SelectLaws.{select-few}
 use Rattle.tables.specs.Checks.{tableRefusal}
 use Rattle.tables.specs.Format.{decode}
 use Rattle.tables.specs.Lists.{anyBelow, select, sum, tabulate}
-use Rattle.tables.specs.Table.{Table, countOf, messageCount, messageOf, mostMessages, processCount}
+use Rattle.tables.specs.Table.{Table, checkpointTotal, countOf, messageCount, messageOf, mostMessages, processCount}
 
 module _ (t : Table) where
   pub sheet-length : length (sheet t) ≡ 4 + 4 * length (keptCheckpoints t) + 2 * length (keptMessages t)
@@ -51,8 +51,8 @@ module _ (t : Table) where
   checkpoints-few : length (keptCheckpoints t) ≤ processCount t * processCount t
   checkpoints-few = omega (arith, checkpoints-most (λ i. processCount t) kept-at-few, sum-same (processCount t) (processCount t))
 
-  pub checkpoints-within : length (keptCheckpoints t) ≤ sum (t .counts)
-  unfolding processCount countOf
+  pub checkpoints-within : length (keptCheckpoints t) ≤ checkpointTotal t
+  unfolding checkpointTotal processCount countOf
   checkpoints-within =
       omega (arith, checkpoints-most (countOf t) (λ i. select-small (keepsCheckpoint t i) (countOf t i)), ap sum (tabulate-getD (t .counts) 0))
 

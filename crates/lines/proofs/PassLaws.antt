@@ -1,8 +1,8 @@
 -- Passes over the messages, from the last to the first, as the loops of `lowering::lower` go.
 --     Under                           the invariant of the passes, relative to the ceiling
---     Passing                         the invariant of one pass, relative to its line at the start
+--     LoweringPass                    the invariant of one pass, relative to its line at the start
 --     pass-begins, pass-ends          how it begins, and how it ends where it lowered nothing
---     Next                            a pass at its next message, whose four numbers were read
+--     NextInPass                      a pass at its next message, whose four numbers were read
 --     sender-small, receiver-small    the processes of that message
 --     skips-undelivered, skips-sent-before, skips-received-after, pass-lowers    what its tests say of that message
 -- Assumes nothing.
@@ -34,7 +34,7 @@ pub record Under (m : ℕ) (sends receipts ceiling line : List ℕ) : Type 0 whe
 -- The pass stands before message k: it has gone over the messages from k on. The line under its line is as at the start.
 -- Until it lowers, its line is as at the start and no message that it went over is an orphan; once it has lowered, the sum
 -- is smaller.
-pub record Passing (m : ℕ) (sends receipts start line : List ℕ) (lowered : Bool) (k : ℕ) : Type 0 where
+pub record LoweringPass (m : ℕ) (sends receipts start line : List ℕ) (lowered : Bool) (k : ℕ) : Type 0 where
   pub given : Messages mostProcesses m sends receipts
   pub within : k ≤ m
   pub same-line : lineUnder (messagesOf m sends receipts) line ≡ lineUnder (messagesOf m sends receipts) start
@@ -42,7 +42,7 @@ pub record Passing (m : ℕ) (sends receipts start line : List ℕ) (lowered : B
   pub no-orphans : lowered ≡ false → (j : ℕ) → k ≤ j → j < m → Orphan (getD (messagesOf m sends receipts) j noMessage) (asLine line) → ⊥
   pub falls : lowered ≡ true → sum line < sum start
 
-pub pass-begins : {m : ℕ} {sends receipts ceiling line : List ℕ} → Under m sends receipts ceiling line → Passing m sends receipts line line false m
+pub pass-begins : {m : ℕ} {sends receipts ceiling line : List ℕ} → Under m sends receipts ceiling line → LoweringPass m sends receipts line line false m
 pass-begins {m} u = record {
   given = u .given;
   within = le-refl m;
@@ -56,7 +56,7 @@ messages-length : (m : ℕ) (sends receipts : List ℕ) → length (messagesOf m
 unfolding messagesOf
 messages-length m sends receipts = length-tabulate m (messageAt sends receipts)
 
-module _ {m : ℕ} {sends receipts start line : List ℕ} {lowered : Bool} {k : ℕ} (w : Passing m sends receipts start line lowered k) where
+module _ {m : ℕ} {sends receipts start line : List ℕ} {lowered : Bool} {k : ℕ} (w : LoweringPass m sends receipts start line lowered k) where
   abbrev ms : List Message
   ms = messagesOf m sends receipts
 
@@ -75,15 +75,15 @@ module _ {m : ℕ} {sends receipts start line : List ℕ} {lowered : Bool} {k : 
 
 -- ---- the next message of a pass
 -- It is message k - 1, and its four numbers were read: its sender and where it was sent, its receiver and where it was received.
-pub record Next (m : ℕ) (sends receipts start line : List ℕ) (lowered : Bool) (k j y i r : ℕ) : Type 0 where
-  pub passing : Passing m sends receipts start line lowered k
+pub record NextInPass (m : ℕ) (sends receipts start line : List ℕ) (lowered : Bool) (k j y i r : ℕ) : Type 0 where
+  pub passing : LoweringPass m sends receipts start line lowered k
   pub more : 0 < k
   pub sender : j ≡ u16At sends (4 * (k - 1))
   pub sent : y ≡ u16At sends (4 * (k - 1) + 2)
   pub receiver : i ≡ u16At receipts (4 * (k - 1))
   pub received : r ≡ u16At receipts (4 * (k - 1) + 2)
 
-module _ {m : ℕ} {sends receipts start line : List ℕ} {lowered : Bool} {k j y i r : ℕ} (x : Next m sends receipts start line lowered k j y i r) where
+module _ {m : ℕ} {sends receipts start line : List ℕ} {lowered : Bool} {k j y i r : ℕ} (x : NextInPass m sends receipts start line lowered k j y i r) where
   there : k - 1 < m
   there = omega (arith, x .more, x .passing .within)
 
@@ -106,7 +106,7 @@ module _ {m : ℕ} {sends receipts start line : List ℕ} {lowered : Bool} {k j 
 
   -- it is no orphan, and the pass goes on
   abbrev Skipped : Type 0
-  Skipped = Passing m sends receipts start line lowered (k - 1)
+  Skipped = LoweringPass m sends receipts start line lowered (k - 1)
 
   skips : (Orphan here (asLine line) → ⊥) → Skipped
   skips none = record {
@@ -135,7 +135,7 @@ module _ {m : ℕ} {sends receipts start line : List ℕ} {lowered : Bool} {k j 
   skips-received-after h = skips (λ o. omega (arith, o .received-before))
 
   -- it is an orphan, and its receiver is put back
-  pub pass-lowers : (r ≡ 0 → ⊥) → getD line j 0 ≤ y → r ≤ getD line i 0 → Passing m sends receipts start (set line i (r - 1)) true (k - 1)
+  pub pass-lowers : (r ≡ 0 → ⊥) → getD line j 0 ≤ y → r ≤ getD line i 0 → LoweringPass m sends receipts start (set line i (r - 1)) true (k - 1)
   pass-lowers d s b = record {
     given = x .passing .given;
     within = omega (arith, x .passing .within);

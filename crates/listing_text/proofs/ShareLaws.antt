@@ -11,8 +11,8 @@ use native.Mathlib.Decide.{decLt}
 use native.Mathlib.Omega.{arith}
 use lib.ListN.{length, getD}
 use Rattle.consistency.proofs.LoweringLaws.{sum-zero}
-use Rattle.keep_sheet.specs.Sheet.{keptCheckpoints}
 use Rattle.keep_sheet.proofs.FewLaws.{checkpoints-within}
+use Rattle.keep_sheet.specs.Sheet.{keptCheckpoints}
 use Rattle.rounding.proofs.RoundingLaws.{quotient-rounded, rounded-most, rounded-once}
 use Rattle.listing_text.specs.Listing.{share}
 use Rattle.rounding.specs.Rounding.{Rounded}
@@ -47,5 +47,4 @@ module _ (table : List ℕ) (accepted : tableRefusal table ≡ 0) where
   rounded-share n kept total h = rounded-once _ _ (sum-positive table accepted) n (share t) (rw (kept, total) at h) share-rounded
 
   pub share-most : share t ≤ 100
-  unfolding checkpointTotal
   share-most = rounded-most _ _ (sum-positive table accepted) _ 100 share-rounded (omega (arith, checkpoints-within t))

@@ -1,7 +1,7 @@
 -- What loops over n lines find.
 --     least-at-most, least-first      the least of n numbers
 --     Lowering, lowering-..           the lowest line
---     Uncrossed, ..                   the lines that a message crosses
+--     received-before, sent-after, crossed    whether a message crosses a line
 --     .. -kept                        whether a message is kept
 --     MessagesBeside, receiver-small, may-ask, keepsAt    what a loop over messages was given, and what it may ask of message k
 --     Totalling, totalling-..         the kept checkpoints of each process, counted
@@ -20,7 +20,7 @@ use Rattle.consistency.specs.Lines.{Line}
 use Rattle.holder_lines.specs.Scratch.{HoldsLines, linesIn}
 use Rattle.keep_sheet.specs.Sheet.{Checkpoint, crosses}
 use Rattle.tables.proofs.ArrayLaws.{Filling, array-at, filling-array, filling-more, filling-none}
-use Rattle.tables.proofs.ListLaws.{anyBelow-found, anyBelow-more, anyBelow-none, found-below, getD-tabulate, length-tabulate, none-below}
+use Rattle.tables.proofs.ListLaws.{anyBelow-none, found-below, getD-tabulate, length-tabulate, none-below}
 use Rattle.tables.proofs.ListLaws.{rows-more, select-small}
 use Rattle.tables.proofs.ReadLaws.{message-there}
 use Rattle.tables.specs.Format.{checkpointAt, countAt, messageAt, processAt}
@@ -84,45 +84,20 @@ module _ {n : ℕ} {scratch : List ℕ} where
     unfolding lowestLine
     lowering-all l = filling-array _ (h .filling) l (sym (length-tabulate n _))
 
--- ---- the lines that a message crosses
--- a message that is received at or before a line does not cross it
-uncrossed-at : (l : Line) (m : Message) → m .received ≤ l (m .receiver) → crosses l m ≡ false
-unfolding crosses
-uncrossed-at l m b = rw (le-ltb (l (m .receiver)) (m .received) b) (and-false (ltb (m .sent) (l (m .sender))))
+-- ---- whether a message crosses a line, by the numbers that the line has at its receiver and at its sender
+module _ (l : Line) (m : Message) where
+  module _ {x : ℕ} (of-receiver : x ≡ l (m .receiver)) where
+    pub received-before : m .received ≤ x → crosses l m ≡ false
+    unfolding crosses
+    received-before b = rw (le-ltb (l (m .receiver)) (m .received) (omega arith)) (and-false (ltb (m .sent) (l (m .sender))))
 
--- It crosses none of the first k.
-pub record Uncrossed (n : ℕ) (line : ℕ → Line) (m : Message) (k : ℕ) : Type 0 where
-  pub within : k ≤ n
-  pub none : anyBelow k (λ j. crosses (line j) m) ≡ false
+    pub crossed : {y : ℕ} → y ≡ l (m .sender) → m .sent < y → x < m .received → crosses l m ≡ true
+    unfolding crosses
+    crossed of-sender b b′ = rw (lt-ltb (m .sent) (l (m .sender)) (omega arith), lt-ltb (l (m .receiver)) (m .received) (omega arith))
 
-module _ {n : ℕ} {line : ℕ → Line} {m : Message} where
-  pub uncrossed-none : Uncrossed n line m 0
-  unfolding anyBelow
-  uncrossed-none = record { within = zero-le; none = refl }
-
-  module _ {k : ℕ} (h : Uncrossed n line m k) where
-    -- by the numbers that line k has at the receiver and at the sender
-    module _ (l : k < n) {x : ℕ} (of-receiver : x ≡ line k (m .receiver)) where
-      more : crosses (line k) m ≡ false → Uncrossed n line m (k + 1)
-      more e = record { within = omega arith; none = anyBelow-more _ k (h .none) e }
-
-      pub received-before : m .received ≤ x → Uncrossed n line m (k + 1)
-      received-before b = more (uncrossed-at (line k) m (omega arith))
-
-      module _ {y : ℕ} (of-sender : y ≡ line k (m .sender)) where
-        pub sent-after : y ≤ m .sent → Uncrossed n line m (k + 1)
-        unfolding crosses
-        sent-after b = more (rw (le-ltb (m .sent) (line k (m .sender)) (omega arith)))
-
-        pub crossed : m .sent < y → x < m .received → true ≡ crossesLine n line m
-        unfolding crossesLine crosses
-        crossed b b′ =
-            sym (anyBelow-found _ n k l
-            (rw (lt-ltb (m .sent) (line k (m .sender)) (omega arith), lt-ltb (line k (m .receiver)) (m .received) (omega arith))))
-
-    pub uncrossed-all : n ≤ k → false ≡ crossesLine n line m
-    unfolding crossesLine
-    uncrossed-all l = subst (λ (j : ℕ). false ≡ anyBelow j (λ j. crosses (line j) m)) (le-antisymm (h .within) l) (sym (h .none))
+  pub sent-after : {y : ℕ} → y ≡ l (m .sender) → y ≤ m .sent → crosses l m ≡ false
+  unfolding crosses
+  sent-after of-sender b = rw (le-ltb (m .sent) (l (m .sender)) (omega arith))
 
 -- ---- whether message k is kept, by the numbers that were read of its entries
 module _ {n lowest k : ℕ} {scratch sends receipts : List ℕ} (beside : MessageBeside n lowest k scratch sends receipts)
@@ -143,7 +118,7 @@ module _ {n lowest k : ℕ} {scratch sends receipts : List ℕ} (beside : Messag
     unfolding isKept crossesLine lowestAt messageAt checkpointAt
     old-kept b =
         let least = least-at-most (λ j. line j (processAt receipts k)) n in
-        let none = anyBelow-none _ n (λ j l. uncrossed-at (line j) this (omega (arith, beside .lowest-is, least j l))) in
+        let none = anyBelow-none _ n (λ j l. received-before (line j) this refl (omega (arith, beside .lowest-is, least j l))) in
         sym (rw (ne-eqb (checkpointAt receipts k) 0 (λ e. some (read-x ∙ e))) none)
 
     pub delivered-kept : {j y i : ℕ} {r : Bool} → i ≡ u16At receipts (4 * k) → j ≡ u16At sends (4 * k) → y ≡ u16At sends (4 * k + 2)

@@ -1,4 +1,5 @@
--- `fill_lines` meets its contract: the loop writes one line after another.
+-- `fill_lines` meets its contract. The loop's invariant: the first k lines stand at the front of the scratch, the rest of it is as it was,
+-- and the next line's place follows. The measure is what is left of the processes.
 -- Assumes nothing.
 use native.Mathlib.Omega.{arith}
 use borrow.Author.Needs.{needs}

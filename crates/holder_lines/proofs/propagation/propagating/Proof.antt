@@ -1,43 +1,36 @@
--- `propagation::propagating` meets its contract: the loop marks the sender of each message that a rollback of it orphans.
+-- `propagation::propagating` meets its contract. The loop's invariant: a process is marked where it sent one of the first k messages that a
+-- rollback of it orphans. The measure is what is left of the messages.
 -- Assumes nothing.
 use borrow.Author.Needs.{needs}
 use native.Mathlib.Omega.{arith}
 use Prim.Native.Nat.{_-_, _<_}
 use denote.Ref.{now}
-use Rattle.holder_lines.proofs.PropagationLaws.{Next, Seen, count-positive, seen-all, seen-marks, seen-none, sender-known}
+use Rattle.holder_lines.proofs.PropagationLaws.{NextSend, Seen, count-positive, seen-all, seen-marks, seen-none, sender-known, sender-small}
 use Rattle.holder_lines.proofs.PropagationLaws.{skips-sent-before, skips-undelivered}
-use Rattle.tables.proofs.ReadLaws.{messages-read, sender-small}
-use Rattle.tables.specs.Format.{decode}
-use Rattle.tables.specs.Table.{processCount}
 use Rattle.holder_lines.proofs.propagation.propagating.Statement.{statement}
 use Rattle.holder_lines.proofs.propagation.propagating.Tie as tie
 
 abbrev Inv-loop : tie.InvT-loop
-Inv-loop table m counts sends receipts propagates₀ k₀ propagates k = Seen table m counts sends receipts propagates k
+Inv-loop counts sends receipts m propagates₀ k₀ propagates k = Seen m counts sends receipts propagates k
 
 abbrev μ-loop : tie.MeasureT-loop
-μ-loop table m counts sends receipts propagates₀ k₀ propagates k = m - k
+μ-loop counts sends receipts m propagates₀ k₀ propagates k = m - k
 
--- ---- the places: the entry; where M was read; a turn of the loop, from where its message's send and the count of the sender were read
-abbrev entry : tie.After-message-count Inv-loop μ-loop → tie.Start Inv-loop μ-loop
-entry c = c .before .before
-
-abbrev sized : tie.After-receipts Inv-loop μ-loop → tie.After-message-count Inv-loop μ-loop
-sized c = c .before .before .before
+-- ---- the places: the entry, from where the loop begins; a turn of the loop, from where its message's send and the count of the sender were read
+abbrev entry : tie.After-shared-slice-known3 Inv-loop μ-loop → tie.Start Inv-loop μ-loop
+entry c = c .before .before .before
 
 abbrev turn : tie.After-u16-at3 Inv-loop μ-loop → tie.In-loop Inv-loop μ-loop
 turn c = c .before .before .before
 
 -- ---- what is known there: the sender; the loop is at its next message
-known : (c : tie.After-u16-at Inv-loop μ-loop)
-    → c .u16-at .result < processCount (decode (now (entry (sized (c .before .before .before)) .args .table)))
+known : (c : tie.After-u16-at Inv-loop μ-loop) → c .u16-at .result < c .before .before .loop .inv .given .processes
 known c = sender-known (c .before .before .loop .inv) (c .before .loop-test .taken) (c .u16-at .ensures)
 
 next : (c : tie.After-u16-at3 Inv-loop μ-loop)
     → (let here = turn c .before in
-    let read = here .before in
-    Next (now (entry (sized read) .args .table)) (sized read .message-count .result) (now (read .before .before .counts .result))
-    (now (read .before .sends .result)) (now (read .receipts .result)) (here .loop .propagates) (here .loop .k)
+    let args = entry (here .before) .args in
+    NextSend (args .m) (now (args .counts)) (now (args .sends)) (now (args .receipts)) (here .loop .propagates) (here .loop .k)
     (c .before .before .u16-at .result) (c .before .u16-at2 .result) (c .u16-at3 .result))
 next c = record {
   seen = turn c .before .loop .inv;
@@ -54,13 +47,7 @@ propagating-spec =
     (tie.spec
     Inv-loop
     μ-loop
-    (λ c κs. search needs)
-    (λ c κs. search needs)
-    (λ c κs. search needs)
-    (λ c κs. search needs)
-    (λ c.
-    let read = messages-read (entry (sized c) .pre) (sized c .message-count .ensures) (c .before .sends .ensures) (c .receipts .ensures) in
-    seen-none read (c .before .before .counts .ensures))
+    (λ c. seen-none (entry c .pre))
     -- the send
     (λ c. omega arith)
     (λ c. omega arith)
@@ -88,7 +75,7 @@ propagating-spec =
     -- its sender is marked
     (λ c.
     let x = next (c .before .before .before) in
-    sender-small (x .seen .read) (x .more) (x .sender))
+    sender-small (x .seen) (x .more) (x .sender))
     (λ c. omega arith)
     (λ c.
     let received = c .before in

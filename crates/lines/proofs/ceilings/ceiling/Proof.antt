@@ -1,4 +1,5 @@
--- `ceilings::ceiling` meets its contract: the loop fills the array from the front.
+-- `ceilings::ceiling` meets its contract. The loop's invariant: the first p entries are the heights, and the others 0. The measure is what
+-- is left of the processes.
 -- Assumes nothing.
 use native.Mathlib.Omega.{arith}
 use Prim.Native.Nat.{_-_}

@@ -1,19 +1,20 @@
--- `lowering::lower` meets its contract. A pass keeps the line under its own line; one that lowers brings the sum down, and one that
--- lowers nothing has found no orphan.
+-- `lowering::lower` meets its contract. The invariant of the passes: the line under the line so far is the line under the ceiling. The
+-- measure is the sum of the line, which a pass that lowers brings down. The invariant of one pass, which goes down from the last message:
+-- the same of its line at the start; and until it lowers, none of the messages from k on is an orphan. The measure is k.
 -- Assumes nothing.
 use borrow.Author.Needs.{needs}
 use borrow.Author.Tests.{not-false, not-true}
 use native.Mathlib.Omega.{arith}
 use mathlib.Core.Path.{refl, _∙_}
 use denote.Ref.{now}
-use Rattle.lines.proofs.PassLaws.{Next, Passing, Under, pass-begins, pass-ends, pass-lowers, receiver-small, sender-small}
+use Rattle.lines.proofs.PassLaws.{NextInPass, LoweringPass, Under, pass-begins, pass-ends, pass-lowers, receiver-small, sender-small}
 use Rattle.lines.proofs.PassLaws.{skips-received-after, skips-sent-before, skips-undelivered}
 use Rattle.tables.specs.Lists.{sum}
 use Rattle.lines.proofs.lowering.lower.Statement.{statement}
 use Rattle.lines.proofs.lowering.lower.Tie as tie
 
 abbrev Inv-loop : tie.InvT-loop
-Inv-loop sends receipts m line₀ lowered₀ k₀ line lowered k = Passing m sends receipts line₀ line lowered k
+Inv-loop sends receipts m line₀ lowered₀ k₀ line lowered k = LoweringPass m sends receipts line₀ line lowered k
 
 abbrev μ-loop : tie.MeasureT-loop
 μ-loop sends receipts m line₀ lowered₀ k₀ line lowered k = k
@@ -35,7 +36,7 @@ turn c = c .before .before .before .before
 next : (c : tie.After-u16-at4 Inv-loop μ-loop Inv-passes μ-passes)
     → (let here = turn c .before in
     let args = entry (here .before) .args in
-    Next (args .m) (now (args .sends)) (now (args .receipts)) (here .before .passes .line) (here .loop .line) (here .loop .lowered) (here .loop .k)
+    NextInPass (args .m) (now (args .sends)) (now (args .receipts)) (here .before .passes .line) (here .loop .line) (here .loop .lowered) (here .loop .k)
     (c .before .before .before .u16-at .result) (c .before .before .u16-at2 .result) (c .before .u16-at3 .result) (c .u16-at4 .result))
 next c = record {
   passing = turn c .before .loop .inv;

@@ -4,13 +4,16 @@
 use native.Mathlib.Omega.{arith}
 use Prim.Native.Nat.{_-_}
 use Rattle.holder_lines.specs.Scratch.{linesIn}
-use Rattle.sheet_entries.proofs.SearchLaws.{Uncrossed, crossed, received-before, sent-after, uncrossed-all, uncrossed-none}
+use Rattle.sheet_entries.proofs.SearchLaws.{crossed, received-before, sent-after}
+use Rattle.sheet_entries.specs.Kept.{crossesLine}
+use Rattle.keep_sheet.specs.Sheet.{crosses}
+use Rattle.tables.proofs.SearchedLaws.{Searched, searched-all, searched-here, searched-more, searched-none}
 use Rattle.sheet_entries.proofs.messages.crosses_line.Statement.{statement}
 use Rattle.sheet_entries.proofs.messages.crosses_line.Tie as tie
 
 abbrev Inv-loop : tie.InvT-loop
 Inv-loop scratch n sender sent receiver received k₀ k =
-    Uncrossed n (linesIn scratch n) (record { sender = sender; sent = sent; receiver = receiver; received = received }) k
+    Searched n (λ j. crosses (linesIn scratch n j) (record { sender = sender; sent = sent; receiver = receiver; received = received })) k
 
 abbrev μ-loop : tie.MeasureT-loop
 μ-loop scratch n sender sent receiver received k₀ k = n - k
@@ -24,30 +27,31 @@ received c = c .before .before
 
 -- ---- the needs, in the code's course
 pub crosses-line-spec : {M : Type 1} → statement M
+unfolding crossesLine
 crosses-line-spec =
     tie.close
     (tie.spec
     Inv-loop
     μ-loop
-    (λ c. uncrossed-none)
+    (λ c. searched-none)
     -- received at or before the line
     (λ c. omega arith)
     (λ c κs. omega arith)
     (λ c. omega arith)
     (λ c.
     let read = c .before in
-    received-before (turn read .before .loop .inv) (turn read .loop-test .taken) (read .number-in-line .ensures) (omega arith))
+    searched-more (turn read .before .loop .inv) (turn read .loop-test .taken) (received-before _ _ (read .number-in-line .ensures) (omega arith)))
     -- sent after it
     (λ c κs. omega arith)
     (λ c. omega arith)
     (λ c.
     let sent = c .before in
     let read = received sent in
-    sent-after (turn read .before .loop .inv) (turn read .loop-test .taken) (read .number-in-line .ensures) (sent .number-in-line2 .ensures) (omega arith))
+    searched-more (turn read .before .loop .inv) (turn read .loop-test .taken) (sent-after _ _ (sent .number-in-line2 .ensures) (omega arith)))
     -- the message crosses it
     (λ c.
     let sent = c .before in
     let read = received sent in
-    crossed (turn read .before .loop .inv) (turn read .loop-test .taken) (read .number-in-line .ensures) (sent .number-in-line2 .ensures) (omega arith)
-    (omega arith))
-    (λ c. uncrossed-all (c .before .loop .inv) (c .loop-test .left)))
+    searched-here (turn read .before .loop .inv) (turn read .loop-test .taken)
+    (crossed _ _ (read .number-in-line .ensures) (sent .number-in-line2 .ensures) (omega arith) (omega arith)))
+    (λ c. searched-all (c .before .loop .inv) (c .loop-test .left)))
