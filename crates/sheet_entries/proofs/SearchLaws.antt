@@ -1,6 +1,6 @@
 -- What loops over n lines find.
 --     least-at-most, least-first      the least of n numbers
---     Lowering, lowering-..           the lowest line
+--     lowest-found                    the lowest line
 --     received-before, sent-after, crossed    whether a message crosses a line
 --     .. -kept                        whether a message is kept
 --     MessagesBeside, receiver-small, may-ask, keepsAt    what a loop over messages was given, and what it may ask of message k
@@ -15,11 +15,11 @@ use native.Mathlib.Nat.{eq-or-lt-of-le, le-antisymm, le-of-suc-le-suc, le-refl}
 use native.Mathlib.Omega.{arith}
 use borrow.Author.Tests.{eqb-false, eqb-true, ne-eqb, lt-ltb, le-ltb}
 use lib.Dec.{eqb, ltb}
-use lib.ListN.{length, getD, set, replicate, length-append, length-map}
+use lib.ListN.{length, getD, length-append, length-map}
 use Rattle.consistency.specs.Lines.{Line}
 use Rattle.holder_lines.specs.Scratch.{HoldsLines, linesIn}
 use Rattle.keep_sheet.specs.Sheet.{Checkpoint, crosses}
-use Rattle.tables.proofs.ArrayLaws.{Filling, array-at, filling-array, filling-more, filling-none}
+use Rattle.tables.proofs.ArrayLaws.{array-at}
 use Rattle.tables.proofs.ListLaws.{anyBelow-none, found-below, getD-tabulate, length-tabulate, none-below}
 use Rattle.tables.proofs.ListLaws.{rows-more, select-small}
 use Rattle.tables.proofs.ReadLaws.{message-there}
@@ -61,28 +61,10 @@ module _ (f : ℕ → ℕ) where
           let there = found-below (λ k. eqb (f k) r) n (h .passes (omega (arith, bounds .1))) in
           omega (arith, least-at-most n (there .0) (there .1), eqb-true (f (there .0)) r (there .2))
 
--- ---- a loop that finds the lowest line of n in a scratch, process by process
-pub record Lowering (n : ℕ) (scratch lowest : List ℕ) (i : ℕ) : Type 0 where
-  pub holds : HoldsLines n scratch
-  pub filling : Filling (λ j. getD (tabulate n (lowestAt n (linesIn scratch n))) j 0) n i lowest
-
-module _ {n : ℕ} {scratch : List ℕ} where
-  pub lowering-none : HoldsLines n scratch → Lowering n scratch (replicate 32 0) 0
-  lowering-none holds = record { holds = holds; filling = filling-none }
-
-  module _ {lowest : List ℕ} {i : ℕ} (h : Lowering n scratch lowest i) where
-    pub lowering-more : i < n → {v : ℕ} → First (shows n (linesIn scratch n) i) 0 65535 v → Lowering n scratch (set lowest i v) (i + 1)
-    unfolding shows lowestAt
-    lowering-more l {v} first = record {
-      holds = h .holds;
-      filling =
-          filling-more (h .filling) l
-          (least-first (λ k. linesIn scratch n k i) n v first ∙ sym (getD-tabulate n (lowestAt n (linesIn scratch n)) i 0 l));
-    }
-
-    pub lowering-all : n ≤ i → lowest ≡ lowestLine n (linesIn scratch n)
-    unfolding lowestLine
-    lowering-all l = filling-array _ (h .filling) l (sym (length-tabulate n _))
+-- the lowest line's number at process i, as it was found
+pub lowest-found : {n : ℕ} (line : ℕ → Line) {i v : ℕ} → i < n → First (shows n line i) 0 65535 v → v ≡ getD (tabulate n (lowestAt n line)) i 0
+unfolding shows lowestAt
+lowest-found {n} line {i} {v} l first = least-first (λ k. line k i) n v first ∙ sym (getD-tabulate n (lowestAt n line) i 0 l)
 
 -- ---- whether a message crosses a line, by the numbers that the line has at its receiver and at its sender
 module _ (l : Line) (m : Message) where

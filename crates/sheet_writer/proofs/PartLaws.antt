@@ -1,5 +1,5 @@
 -- The parts of the keep sheet, put one after another.
---     .. -room, .. -put                room for the numbers that the code puts of a part, and that they are the part's
+--     sizes-are, column-is, positions-are    the numbers that the code puts of a part are the part's
 --     begun, sized, .. , filled        the sheet's writer, before the first part and after each
 --     can-..                           each part can be put
 --     sheet-put, same-size             what the last writer leaves is the sheet
@@ -10,7 +10,7 @@ use Prim.Native.Nat.{ℕ, _+_, _*_, _≤_}
 use native.Mathlib.Omega.{arith}
 use denote.Ref.{RefT, now}
 use lib.ListN.{length, length-append}
-use Rattle.holder_lines.specs.Scratch.{linesIn}
+use Rattle.holder_lines.specs.Scratch.{LinesOf, linesIn}
 use Rattle.keep_sheet.proofs.FewLaws.{sheet-length}
 use Rattle.keep_sheet.specs.Sheet.{Checkpoint, keptCheckpoints, sheet}
 use Rattle.tables.proofs.ListLaws.{map-rows, rows-ext}
@@ -42,49 +42,25 @@ unfolding numbersOf
 column-numbers Process t = refl
 column-numbers Number t = refl
 
-module _ {part : Part} {bytes s : List ℕ} {at : ℕ} {before : List ℕ} (ready : CanPut part bytes s at before) where
-  abbrev numbers : List ℕ
-  numbers = numbersOf part (decode bytes)
+-- the numbers that the code puts are the part's
+pub sizes-are : {part : Part} {k q : ℕ} → part ≡ Sizes k q → (t : Table) → k ∷ q ∷ [] ≡ numbersOf part t
+unfolding numbersOf
+sizes-are e t = rw e
 
-  module _ {k q : ℕ} (e : part ≡ Sizes k q) where
-    sizes-are : k ∷ q ∷ [] ≡ numbers
-    unfolding numbersOf
-    sizes-are = rw e
+module _ {part : Part} {bytes s : List ℕ} (given : LinesOf bytes s) {n : ℕ} (n-is : n ≡ processCount (decode bytes)) where
+  pub column-is : {counts : List ℕ} → counts ≡ countsPart bytes → (column : Column) → part ≡ columnPart column
+      → columnOf column n (linesIn s n) counts ≡ numbersOf part (decode bytes)
+  unfolding columnOf columnAt checkpointsOf checkpointsAt
+  column-is {counts} counts-are column e =
+      let number : Checkpoint → ℕ = λ k. numberIn column (k .process) (k .number) in
+      rows-ext _ _ n (λ i _. sym (map-map number (λ c. record { process = i; number = c }) (keptOf n (linesIn s n) i (countAt counts i))))
+      ∙ sym (map-rows number _ n) ∙ ap (map number) (checkpoints-found given n-is counts-are) ∙ column-numbers column (decode bytes)
+      ∙ sym (ap (λ (x : Part). numbersOf x (decode bytes)) e)
 
-    pub sizes-room : at + 4 ≤ length before
-    sizes-room = omega (arith, ready .room, ap length sizes-are)
-
-    pub sizes-put : {after : List ℕ} {next : ℕ} → Put before after at (k ∷ q ∷ []) next → Put before after at numbers next
-    sizes-put p = rw sizes-are at p
-
-  module _ {n : ℕ} (n-is : n ≡ processCount (decode bytes)) where
-    module _ {counts : List ℕ} (counts-are : counts ≡ countsPart bytes) (column : Column) (e : part ≡ columnPart column) where
-      column-is : columnOf column n (linesIn s n) counts ≡ numbers
-      unfolding columnOf columnAt checkpointsOf checkpointsAt
-      column-is =
-          let number : Checkpoint → ℕ = λ k. numberIn column (k .process) (k .number) in
-          rows-ext _ _ n (λ i _. sym (map-map number (λ c. record { process = i; number = c }) (keptOf n (linesIn s n) i (countAt counts i))))
-          ∙ sym (map-rows number _ n) ∙ ap (map number) (checkpoints-found (ready .given) n-is counts-are) ∙ column-numbers column (decode bytes)
-          ∙ sym (ap (λ (x : Part). numbersOf x (decode bytes)) e)
-
-      pub column-room : at + 2 * length (columnOf column n (linesIn s n) counts) ≤ length before
-      column-room = rw column-is (ready .room)
-
-      pub column-put : {after : List ℕ} {next : ℕ} → Put before after at (columnOf column n (linesIn s n) counts) next
-          → Put before after at numbers next
-      column-put p = rw column-is at p
-
-    module _ {m : ℕ} {sends receipts : List ℕ} (read : ReadMessages bytes m sends receipts) (e : part ≡ Positions) where
-      positions-are : positionsOf n (linesIn s n) sends receipts m ≡ numbers
-      unfolding numbersOf
-      positions-are = positions-found (ready .given) n-is read ∙ rw e
-
-      pub positions-room : at + 2 * length (positionsOf n (linesIn s n) sends receipts m) ≤ length before
-      positions-room = rw positions-are (ready .room)
-
-      pub positions-put : {after : List ℕ} {next : ℕ} → Put before after at (positionsOf n (linesIn s n) sends receipts m) next
-          → Put before after at numbers next
-      positions-put p = rw positions-are at p
+  pub positions-are : {m : ℕ} {sends receipts : List ℕ} → ReadMessages bytes m sends receipts → part ≡ Positions
+      → positionsOf n (linesIn s n) sends receipts m ≡ numbersOf part (decode bytes)
+  unfolding numbersOf
+  positions-are read e = positions-found given n-is read ∙ rw e
 
 -- ---- all parts
 module _ (bytes : List ℕ) (k q : ℕ) (x : RefT (List ℕ)) where

@@ -3,8 +3,8 @@
 --     put-room, put-then                more after what was put
 --     PuttingNumbers, putting-..        a loop that puts one after another
 --     LayingColumn, laying-..           the loop over the kept checkpoints of a process
---     Chaining, chaining-..             the loop over the processes
---     Placing, placing-..               the loop over the messages
+--     rows-none, row-room, row-more     a loop that puts one list after another
+--     select-none, picked-skip, picked-room, picked-more    one that puts the numbers that pass a test
 --     put-low                           numbers put by their low 16 bits
 -- Assumes nothing.
 use mathlib.Core.Bool.{Bool, true, false}
@@ -18,14 +18,9 @@ use lib.ListN.{length, length-append, length-map}
 use Rattle.tables.proofs.ListLaws.{map-append, rows-more, rows-room, select-more, select-room, select-skip}
 use Rattle.tables.proofs.NumberLaws.{length-putAt, length-u16s, putAt-more, putAt-none, u16s-append}
 use Rattle.tables.proofs.SelectLaws.{AtPassing, at-first, select-first, select-next}
-use Rattle.tables.specs.Format.{countAt}
 use Rattle.tables.specs.Lists.{First, rows, select}
-use Rattle.tables.specs.Numbers.{bytesOf, bytesOfAll, putAt, u16At, u16Bytes, u16s}
-use Rattle.tables.specs.Parts.{Counts}
-use Rattle.holder_lines.specs.Scratch.{HoldsLines, linesIn}
-use Rattle.sheet_entries.proofs.SearchLaws.{MessagesBeside, keepsAt}
-use Rattle.sheet_entries.specs.Kept.{keptOf, positionsOf}
-use Rattle.sheet_writer.specs.SheetParts.{columnAt, columnOf, numberIn}
+use Rattle.tables.specs.Numbers.{bytesOf, bytesOfAll, putAt, u16Bytes, u16s}
+use Rattle.sheet_writer.specs.SheetParts.{columnAt, numberIn}
 use Rattle.sheet_writer.specs.declared.writing.Column.{Column}
 use Rattle.sheet_writer.specs.Writing.{Put}
 use Rattle.sheet_writer.specs.Writers.{written}
@@ -121,67 +116,40 @@ module _ {test : ℕ → Bool} {limit : ℕ} {column : Column} {i : ℕ} {before
             ap (columnAt column i) (select-next (h .here) l f) ∙ map-append (numberIn column i) (select test c) (c ∷ [])
             ∙ ap (λ (x : ℕ). columnAt column i (select test c) ++ (x ∷ [])) (sym e)
 
--- ---- the loop over the processes, for one array of the sheet
-pub record Chaining (column : Column) (n : ℕ) (scratch counts before : List ℕ) (at : ℕ) (after : List ℕ) (next i : ℕ) : Type 0 where
-  pub holds : HoldsLines n scratch
-  pub known : Counts n counts
-  pub putting : PuttingNumbers (rows (λ j. columnAt column j (keptOf n (linesIn scratch n) j (countAt counts j)))) n before at after next i
+-- ---- a loop that puts one list after another
+pub rows-none : (f : ℕ → List ℕ) {n : ℕ} {before : List ℕ} {at : ℕ} → at + 2 * length (rows f n) ≤ length before
+    → PuttingNumbers (rows f) n before at before at 0
+unfolding rows
+rows-none f room = putting-none zero-le refl room
 
-module _ {column : Column} {n : ℕ} {scratch counts before : List ℕ} {at : ℕ} where
-  pub chaining-none : HoldsLines n scratch → Counts n counts → at + 2 * length (columnOf column n (linesIn scratch n) counts) ≤ length before
-      → Chaining column n scratch counts before at before at 0
-  unfolding rows columnOf
-  chaining-none holds known room = record { holds = holds; known = known; putting = putting-none zero-le refl room }
+module _ (f : ℕ → List ℕ) {n : ℕ} {before : List ℕ} {at : ℕ} {after : List ℕ} {next i : ℕ} (h : PuttingNumbers (rows f) n before at after next i)
+    (l : i < n) where
+  pub row-room : next + 2 * length (f i) ≤ length after
+  row-room = putting-room h _ (rows-room f i n l)
 
-  module _ {after : List ℕ} {next i : ℕ} (h : Chaining column n scratch counts before at after next i) where
-    -- the numbers of process i, once its count was read
-    module _ (l : i < n) {count : ℕ} (read : count ≡ u16At counts (2 * i)) where
-      pub chaining-room : next + 2 * length (columnAt column i (keptOf n (linesIn scratch n) i count)) ≤ length after
-      unfolding countAt
-      chaining-room = rw read (putting-room (h .putting) _ (rows-room _ i n l))
+  pub row-more : {later : List ℕ} {end : ℕ} → Put after later next (f i) end → PuttingNumbers (rows f) n before at later end (i + 1)
+  row-more put = putting-more h put (omega arith) (rows-more f i) (rows-room f i n l)
 
-      pub chaining-more : {later : List ℕ} {end : ℕ} → Put after later next (columnAt column i (keptOf n (linesIn scratch n) i count)) end
-          → Chaining column n scratch counts before at later end (i + 1)
-      unfolding countAt
-      chaining-more put =
-          let putting = putting-more (h .putting) (rw read at put) (omega arith) (rows-more _ i) (rows-room _ i n l) in
-          record { holds = h .holds; known = h .known; putting = putting }
+-- ---- a loop that puts the numbers that pass a test, by what was found of k
+pub select-none : (test : ℕ → Bool) {n : ℕ} {before : List ℕ} {at : ℕ} → at + 2 * length (select test n) ≤ length before
+    → PuttingNumbers (select test) n before at before at 0
+unfolding select
+select-none test room = putting-none zero-le refl room
 
-    pub chaining-all : n ≤ i → Put before after at (columnOf column n (linesIn scratch n) counts) next
-    unfolding columnOf
-    chaining-all = putting-all (h .putting)
+module _ (test : ℕ → Bool) {n : ℕ} {before : List ℕ} {at : ℕ} {after : List ℕ} {next k : ℕ}
+    (h : PuttingNumbers (select test) n before at after next k) (l : k < n) {r : Bool} (is : r ≡ test k) where
+  pub picked-skip : r ≡ false → PuttingNumbers (select test) n before at after next (k + 1)
+  picked-skip e = putting-skip h (omega arith) (select-skip test k (sym is ∙ e))
 
--- ---- the loop over the messages
-pub record Placing (n m : ℕ) (scratch sends receipts lowest before : List ℕ) (at : ℕ) (after : List ℕ) (next k : ℕ) : Type 0 where
-  pub beside : MessagesBeside n m scratch sends receipts lowest
-  pub putting : PuttingNumbers (select (keepsAt n scratch sends receipts)) m before at after next k
+  module _ (e : r ≡ true) where
+    fits-one : length (select test k) + 1 ≤ length (select test n)
+    fits-one = select-room test k n l (sym is ∙ e)
 
-module _ {n m : ℕ} {scratch sends receipts lowest before : List ℕ} {at : ℕ} where
-  pub placing-none : MessagesBeside n m scratch sends receipts lowest → at + 2 * length (positionsOf n (linesIn scratch n) sends receipts m) ≤ length before
-      → Placing n m scratch sends receipts lowest before at before at 0
-  unfolding select positionsOf
-  placing-none beside room = record { beside = beside; putting = putting-none zero-le refl room }
+    pub picked-room : next + 1 < length after
+    picked-room = omega (arith, putting-room h 1 fits-one)
 
-  module _ {after : List ℕ} {next k : ℕ} (h : Placing n m scratch sends receipts lowest before at after next k) where
-    -- what was found of message k
-    module _ (l : k < m) {r : Bool} (is : r ≡ keepsAt n scratch sends receipts k) where
-      pub placing-skip : r ≡ false → Placing n m scratch sends receipts lowest before at after next (k + 1)
-      placing-skip e = record { beside = h .beside; putting = putting-skip (h .putting) (omega arith) (select-skip _ k (sym is ∙ e)) }
-
-      module _ (e : r ≡ true) where
-        pub placing-room : next + 1 < length after
-        placing-room = omega (arith, putting-room (h .putting) 1 (select-room _ k m l (sym is ∙ e)))
-
-        pub placing-more : {later : List ℕ} {end : ℕ} → Put after later next (k ∷ []) end
-            → Placing n m scratch sends receipts lowest before at later end (k + 1)
-        placing-more put = record {
-          beside = h .beside;
-          putting = putting-more (h .putting) put (omega arith) (select-more _ k (sym is ∙ e)) (select-room _ k m l (sym is ∙ e));
-        }
-
-    pub placing-all : m ≤ k → Put before after at (positionsOf n (linesIn scratch n) sends receipts m) next
-    unfolding positionsOf
-    placing-all = putting-all (h .putting)
+    pub picked-more : {later : List ℕ} {end : ℕ} → Put after later next (k ∷ []) end → PuttingNumbers (select test) n before at later end (k + 1)
+    picked-more put = putting-more h put (omega arith) (select-more test k (sym is ∙ e)) fits-one
 
 -- ---- the two bytes of a number are those of its low 16 bits
 low-bits : (n : ℕ) → u16Bytes (n % 65536) ≡ u16Bytes n

@@ -5,7 +5,7 @@ use native.Mathlib.Omega.{arith}
 use denote.Ref.{now}
 use Rattle.holder_lines.proofs.ScratchLaws.{holds-lines}
 use Rattle.tables.proofs.ReadLaws.{ReadMessages, counts-known, messages-known, messages-read}
-use Rattle.sheet_writer.proofs.PartLaws.{column-put, column-room, positions-put, positions-room, sizes-put, sizes-room}
+use Rattle.sheet_writer.proofs.PartLaws.{column-is, positions-are, sizes-are}
 use Rattle.sheet_writer.specs.declared.writing.Column.the-variants.{Number, Process}
 use Rattle.sheet_writer.proofs.writing.put_part.Statement.{statement}
 use Rattle.sheet_writer.proofs.writing.put_part.Tie as tie
@@ -44,7 +44,7 @@ put-part-spec =
     (λ c. search needs)
     (λ c κs.
     let told = c .before .before in
-    sizes-room (entry (of-sizes told) .pre) (told .part .given .1))
+    rw (← sizes-are (told .part .given .1)) at (entry (of-sizes told) .pre .room))
     -- the processes
     (λ c. search needs)
     (λ c κs. search needs)
@@ -52,7 +52,8 @@ put-part-spec =
     let n = of-processes c .process-count .ensures in
     let ready = entry (of-processes c) .pre in
     let counts = counts-known _ (ready .given .accepted) n (c .counts .ensures) in
-    (holds-lines (ready .given) n, (counts, column-room ready n (c .counts .ensures) Process (c .before .before .enum-told .given .1))))
+    let numbers = column-is (ready .given) n (c .counts .ensures) Process (c .before .before .enum-told .given .1) in
+    (holds-lines (ready .given) n, (counts, rw numbers (ready .room))))
     -- the checkpoints
     (λ c. search needs)
     (λ c κs. search needs)
@@ -60,7 +61,8 @@ put-part-spec =
     let n = of-checkpoints c .process-count .ensures in
     let ready = entry (of-checkpoints c) .pre in
     let counts = counts-known _ (ready .given .accepted) n (c .counts2 .ensures) in
-    (holds-lines (ready .given) n, (counts, column-room ready n (c .counts2 .ensures) Number (c .before .before .enum-told2 .given .1))))
+    let numbers = column-is (ready .given) n (c .counts2 .ensures) Number (c .before .before .enum-told2 .given .1) in
+    (holds-lines (ready .given) n, (counts, rw numbers (ready .room))))
     -- the positions
     (λ c. search needs)
     (λ c κs. search needs)
@@ -70,30 +72,33 @@ put-part-spec =
     let sends = c .before .before in
     let n = of-positions sends .process-count .ensures in
     let ready = entry (of-positions sends) .pre in
-    let room = positions-room ready n (messages c) (sends .before .before .enum-told3 .given .1) in
-    (holds-lines (ready .given) n, (messages-known (messages c) (omega (arith, n)), room)))
+    let numbers = positions-are (ready .given) n (messages c) (sends .before .before .enum-told3 .given .1) in
+    (holds-lines (ready .given) n, (messages-known (messages c) (omega (arith, n)), rw numbers (ready .room))))
     -- what was put is the part
     (λ c. search needs)
     (λ c.
     let put = c .before .before in
     let told = put .before .before .before in
-    sizes-put (entry (of-sizes told) .pre) (told .part .given .1) (put .put-sizes .ensures))
+    rw (← sizes-are (told .part .given .1)) (put .put-sizes .ensures))
     (λ c. search needs)
     (λ c.
     let put = c .before .before in
     let read = put .before in
     let n = of-processes read .process-count .ensures in
-    column-put (entry (of-processes read) .pre) n (read .counts .ensures) Process (read .before .before .enum-told .given .1) (put .put-column .ensures))
+    let numbers = column-is (entry (of-processes read) .pre .given) n (read .counts .ensures) Process (read .before .before .enum-told .given .1) in
+    rw numbers at (put .put-column .ensures))
     (λ c. search needs)
     (λ c.
     let put = c .before .before in
     let read = put .before in
     let n = of-checkpoints read .process-count .ensures in
-    column-put (entry (of-checkpoints read) .pre) n (read .counts2 .ensures) Number (read .before .before .enum-told2 .given .1) (put .put-column2 .ensures))
+    let numbers = column-is (entry (of-checkpoints read) .pre .given) n (read .counts2 .ensures) Number (read .before .before .enum-told2 .given .1) in
+    rw numbers at (put .put-column2 .ensures))
     (λ c. search needs)
     (λ c.
     let put = c .before .before in
     let read = put .before in
     let sends = read .before .before in
-    positions-put (entry (of-positions sends) .pre) (of-positions sends .process-count .ensures) (messages read) (sends .before .before .enum-told3 .given .1)
-    (put .put-positions .ensures)))
+    let n = of-positions sends .process-count .ensures in
+    rw (positions-are (entry (of-positions sends) .pre .given) n (messages read) (sends .before .before .enum-told3 .given .1))
+    at (put .put-positions .ensures)))

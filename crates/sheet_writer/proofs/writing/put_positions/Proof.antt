@@ -5,13 +5,16 @@ use borrow.Author.Needs.{needs}
 use native.Mathlib.Omega.{arith}
 use borrow.Author.Tests.{not-true, not-false}
 use Prim.Native.Nat.{_-_}
-use Rattle.sheet_entries.proofs.SearchLaws.{may-ask, receiver-small}
-use Rattle.sheet_writer.proofs.PutLaws.{Placing, placing-all, placing-more, placing-none, placing-room, placing-skip, putting-length}
+use Rattle.sheet_entries.proofs.SearchLaws.{MessagesBeside, keepsAt, may-ask, receiver-small}
+use Rattle.sheet_entries.specs.Kept.{positionsOf}
+use Rattle.sheet_writer.proofs.PutLaws.{PuttingNumbers, picked-more, picked-room, picked-skip, putting-all, putting-length, select-none}
+use Rattle.tables.specs.Lists.{select}
 use Rattle.sheet_writer.proofs.writing.put_positions.Statement.{statement}
 use Rattle.sheet_writer.proofs.writing.put_positions.Tie as tie
 
 abbrev Inv-loop : tie.InvT-loop
-Inv-loop buffer₀ at scratch n sends receipts m lowest next₀ k₀ buffer next k = Placing n m scratch sends receipts lowest buffer₀ at buffer next k
+Inv-loop buffer₀ at scratch n sends receipts m lowest next₀ k₀ buffer next k =
+    MessagesBeside n m scratch sends receipts lowest × PuttingNumbers (select (keepsAt n scratch sends receipts)) m buffer₀ at buffer next k
 
 abbrev μ-loop : tie.MeasureT-loop
 μ-loop buffer₀ at scratch n sends receipts m lowest next₀ k₀ buffer next k = m - k
@@ -28,6 +31,7 @@ judged c = c .before .before
 
 -- ---- the needs, in the code's course
 pub put-positions-spec : {M : Type 1} → statement M
+unfolding positionsOf
 put-positions-spec =
     tie.close
     (tie.spec
@@ -36,30 +40,32 @@ put-positions-spec =
     (λ c κs. omega arith)
     (λ c.
     let given = entry c .pre in
-    placing-none record { holds = given .0; known = given .1 .0; lowest-is = c .lowest-line .ensures } (given .1 .1))
+    (record { holds = given .0; known = given .1 .0; lowest-is = c .lowest-line .ensures }, select-none _ (given .1 .1)))
     -- the message
     (λ c. omega arith)
     (λ c κs. omega arith)
     (λ c. search needs)
     (λ c. search needs)
-    (λ c. receiver-small (c .before .before .loop .inv .beside) (c .before .loop-test .taken) (c .u16-at .ensures))
-    (λ c κs. may-ask (c .before .before .loop .inv .beside) (c .before .loop-test .taken) (c .u16-at .ensures))
+    (λ c. receiver-small (c .before .before .loop .inv .0) (c .before .loop-test .taken) (c .u16-at .ensures))
+    (λ c κs. may-ask (c .before .before .loop .inv .0) (c .before .loop-test .taken) (c .u16-at .ensures))
     (λ c. omega arith)
     -- it is not kept
     (λ c. omega arith)
     (λ c.
     let judged = c .before in
-    placing-skip (turn judged .before .loop .inv) (turn judged .loop-test .taken) (judged .is-kept .ensures) (not-true _ (c .if1 .taken)))
+    let inv = turn judged .before .loop .inv in
+    (inv .0, picked-skip _ (inv .1) (turn judged .loop-test .taken) (judged .is-kept .ensures) (not-true _ (c .if1 .taken))))
     -- it is kept: its position is put
     (λ c. omega arith)
     (λ c κs.
     let turn = turn (judged c) in
-    placing-room (turn .before .loop .inv) (turn .loop-test .taken) (judged c .is-kept .ensures) (not-false _ (c .before .if1 .left)))
+    picked-room _ (turn .before .loop .inv .1) (turn .loop-test .taken) (judged c .is-kept .ensures) (not-false _ (c .before .if1 .left)))
     (λ c. omega arith)
     (λ c.
     let put = c .before .before in
     let here = judged (put .before) in
-    placing-more (turn here .before .loop .inv) (turn here .loop-test .taken) (here .is-kept .ensures) (not-false _ (put .before .before .if1 .left))
-    (put .put-number .ensures))
-    (λ c. putting-length (c .before .loop .inv .putting))
-    (λ c. placing-all (c .before .loop .inv) (c .loop-test .left)))
+    let inv = turn here .before .loop .inv in
+    let kept = not-false _ (put .before .before .if1 .left) in
+    (inv .0, picked-more _ (inv .1) (turn here .loop-test .taken) (here .is-kept .ensures) kept (put .put-number .ensures)))
+    (λ c. putting-length (c .before .loop .inv .1))
+    (λ c. putting-all (c .before .loop .inv .1) (c .loop-test .left)))
