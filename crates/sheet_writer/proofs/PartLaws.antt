@@ -29,32 +29,22 @@ use Rattle.sheet_writer.specs.declared.writer.SheetWriter.{SheetWriter}
 use Rattle.sheet_writer.specs.declared.writing.Column.{Column}
 use Rattle.sheet_writer.specs.declared.writing.Column.the-variants.{Number, Process}
 use Rattle.sheet_writer.specs.declared.writing.Part.{Part}
-use Rattle.sheet_writer.specs.declared.writing.Part.the-variants.{Checkpoints, Positions, Processes, Sizes}
+use Rattle.sheet_writer.specs.declared.writing.Part.the-variants.{Kept, Positions, Sizes}
 
 -- ---- one part
--- the part with an array of the kept checkpoints
-abbrev columnPart : Column → Part
-columnPart Process = Processes
-columnPart Number = Checkpoints
-
-column-numbers : (column : Column) (t : Table) → map (λ k. numberIn column (k .process) (k .number)) (keptCheckpoints t) ≡ numbersOf (columnPart column) t
-unfolding numbersOf
-column-numbers Process t = refl
-column-numbers Number t = refl
-
 -- the numbers that the code puts are the part's
 pub sizes-are : {part : Part} {k q : ℕ} → part ≡ Sizes k q → (t : Table) → k ∷ q ∷ [] ≡ numbersOf part t
 unfolding numbersOf
 sizes-are e t = rw e
 
 module _ {part : Part} {bytes s : List ℕ} (given : LinesOf bytes s) {n : ℕ} (n-is : n ≡ processCount (decode bytes)) where
-  pub column-is : {counts : List ℕ} → counts ≡ countsPart bytes → (column : Column) → part ≡ columnPart column
+  pub column-is : {counts : List ℕ} → counts ≡ countsPart bytes → {column : Column} → part ≡ Kept column
       → columnOf column n (linesIn s n) counts ≡ numbersOf part (decode bytes)
-  unfolding columnOf columnAt checkpointsOf checkpointsAt
-  column-is {counts} counts-are column e =
+  unfolding columnOf columnAt checkpointsOf checkpointsAt numbersOf
+  column-is {counts} counts-are {column} e =
       let number : Checkpoint → ℕ = λ k. numberIn column (k .process) (k .number) in
       rows-ext _ _ n (λ i _. sym (map-map number (λ c. record { process = i; number = c }) (keptOf n (linesIn s n) i (countAt counts i))))
-      ∙ sym (map-rows number _ n) ∙ ap (map number) (checkpoints-found given n-is counts-are) ∙ column-numbers column (decode bytes)
+      ∙ sym (map-rows number _ n) ∙ ap (map number) (checkpoints-found given n-is counts-are)
       ∙ sym (ap (λ (x : Part). numbersOf x (decode bytes)) e)
 
   pub positions-are : {m : ℕ} {sends receipts : List ℕ} → ReadMessages bytes m sends receipts → part ≡ Positions
@@ -74,20 +64,20 @@ module _ (bytes : List ℕ) (k q : ℕ) (x : RefT (List ℕ)) where
   sized = written begun (of (Sizes k q))
 
   abbrev pub processed : SheetWriter
-  processed = written sized (of Processes)
+  processed = written sized (of (Kept Process))
 
   abbrev pub numbered : SheetWriter
-  numbered = written processed (of Checkpoints)
+  numbered = written processed (of (Kept Number))
 
   abbrev pub filled : SheetWriter
   filled = written numbered (of Positions)
 
   -- the numbers of the last parts, and of all
   abbrev last-two : List ℕ
-  last-two = of Checkpoints ++ of Positions
+  last-two = of (Kept Number) ++ of Positions
 
   abbrev last-three : List ℕ
-  last-three = of Processes ++ last-two
+  last-three = of (Kept Process) ++ last-two
 
   abbrev all-four : List ℕ
   all-four = of (Sizes k q) ++ last-three
@@ -104,27 +94,27 @@ module _ (bytes : List ℕ) (k q : ℕ) (x : RefT (List ℕ)) where
     fits-three = put-room (put-written begun (of (Sizes k q))) last-three fits-four
 
     fits-two : processed .at + 2 * length last-two ≤ length (now (processed .buffer))
-    fits-two = put-room (put-written sized (of Processes)) last-two fits-three
+    fits-two = put-room (put-written sized (of (Kept Process))) last-two fits-three
 
     fits-one : numbered .at + 2 * length (of Positions) ≤ length (now (numbered .buffer))
-    fits-one = put-room (put-written processed (of Checkpoints)) (of Positions) fits-two
+    fits-one = put-room (put-written processed (of (Kept Number))) (of Positions) fits-two
 
     pub can-sizes : CanPut (Sizes k q) bytes s (begun .at) (now (begun .buffer))
     can-sizes = record { given = asked .given; room = omega (arith, fits-four, length-append (of (Sizes k q)) last-three) }
 
-    pub can-processes : CanPut Processes bytes s (sized .at) (now (sized .buffer))
-    can-processes = record { given = asked .given; room = omega (arith, fits-three, length-append (of Processes) last-two) }
+    pub can-processes : CanPut (Kept Process) bytes s (sized .at) (now (sized .buffer))
+    can-processes = record { given = asked .given; room = omega (arith, fits-three, length-append (of (Kept Process)) last-two) }
 
-    pub can-checkpoints : CanPut Checkpoints bytes s (processed .at) (now (processed .buffer))
-    can-checkpoints = record { given = asked .given; room = omega (arith, fits-two, length-append (of Checkpoints) (of Positions)) }
+    pub can-checkpoints : CanPut (Kept Number) bytes s (processed .at) (now (processed .buffer))
+    can-checkpoints = record { given = asked .given; room = omega (arith, fits-two, length-append (of (Kept Number)) (of Positions)) }
 
     pub can-positions : CanPut Positions bytes s (numbered .at) (now (numbered .buffer))
     can-positions = record { given = asked .given; room = fits-one }
 
     all-put : Put (now x) (now (filled .buffer)) 0 all-four (filled .at)
     all-put =
-        let last-put = put-then (put-written processed (of Checkpoints)) (put-written numbered (of Positions)) fits-two in
-        put-then (put-written begun (of (Sizes k q))) (put-then (put-written sized (of Processes)) last-put fits-three) fits-four
+        let last-put = put-then (put-written processed (of (Kept Number))) (put-written numbered (of Positions)) fits-two in
+        put-then (put-written begun (of (Sizes k q))) (put-then (put-written sized (of (Kept Process))) last-put fits-three) fits-four
 
     pub sheet-put : now (filled .buffer) ≡ putAt (now x) 0 (sheet (decode bytes))
     sheet-put = all-put .contents ∙ ap (putAt (now x) 0) parts-are

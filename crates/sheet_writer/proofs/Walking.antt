@@ -3,10 +3,11 @@
 --     life, row, machine   the sheet's writer: its lifetime, its type at that lifetime, and its machine value
 --     part-val, IsPart     a part's machine value, and that it is a part's
 --     part-typed           that it is of the enum's MIR type
+--     column-is, column-typed    the same of a column, which a part holds
 --     lent, lent-goes      the slot of a parameter that is a `&[R]`; nothing need be had of it at exit
 --     and-local            an operand that copies a whole local, which entry n of the context holds, before others
 --     freed                the first local that is left is freed: entry n of the context holds it, and the entry after it what frees it
--- `part-typed`, `lent-goes`, `and-local` and `freed` take `Given`; the rest assumes nothing.
+-- `part-typed`, `column-typed`, `lent-goes`, `and-local` and `freed` take `Given`; the rest assumes nothing.
 use mathlib.Core.Path.{_≡_, refl, subst}
 use mathlib.Core.List.{List, [], _∷_}
 use Prim.Native.Nat.{ℕ, zero}
@@ -28,8 +29,12 @@ use denote.Ref.{NamedLft, RefT}
 use denote.Exit.{yes}
 use denote.Signature.{Slot, AllWithin, plain, shrSliceOf}
 use denote.Triple.Walked.{Goes, stay-dropped, goes-dropped}
+use Rattle.sheet_writer.specs.declared.writing.Column.{Column}
+use Rattle.sheet_writer.specs.declared.writing.Column.the-variants.{Number, Process}
 use Rattle.sheet_writer.specs.declared.writing.Part.{Part}
 use Rattle.sheet_writer.proofs.writer.SheetWriter as T
+use Rattle.sheet_writer.proofs.writing.Column as C
+use Rattle.sheet_writer.proofs.writing.Column.Laws as C′
 use Rattle.sheet_writer.proofs.writing.Part as P
 use Rattle.sheet_writer.proofs.writing.Part.Laws as P′
 
@@ -51,6 +56,17 @@ part-val = EL.val P.the-type P′.the-laws
 
 abbrev pub IsPart : Part → Type 0
 IsPart part = Is P.the-row part (part-val part ∷ [])
+
+abbrev column-val : Column → Val
+column-val = EL.val C.the-type C′.the-laws
+
+pub column-is : (column : Column) → Is C.the-row column (column-val column ∷ [])
+column-is Process = EL.owes C.the-type C′.the-laws Process tt
+column-is Number = EL.owes C.the-type C′.the-laws Number tt
+
+pub column-typed : {M : Type 1} (𝓤 : URA M) (H : Heap 𝓤) (A : Atoms 𝓤) → Given 𝓤 H A → (column : Column)
+    → Holds (hasTy C′.mir (column-val column)) × WT (column-val column)
+column-typed 𝓤 H A W column = EL.lawful C.the-type C′.the-laws 𝓤 H A W tt .typed column _ (column-is column) .0
 
 pub part-typed : {M : Type 1} (𝓤 : URA M) (H : Heap 𝓤) (A : Atoms 𝓤) → Given 𝓤 H A → (part : Part) → IsPart part
     → Holds (hasTy P′.mir (part-val part)) × WT (part-val part)

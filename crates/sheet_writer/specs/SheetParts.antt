@@ -11,23 +11,22 @@ use Rattle.sheet_entries.specs.Kept.{keptOf}
 use Rattle.sheet_writer.specs.declared.writing.Column.{Column}
 use Rattle.sheet_writer.specs.declared.writing.Column.the-variants.{Number, Process}
 use Rattle.sheet_writer.specs.declared.writing.Part.{Part}
-use Rattle.sheet_writer.specs.declared.writing.Part.the-variants.{Checkpoints, Positions, Processes, Sizes}
+use Rattle.sheet_writer.specs.declared.writing.Part.the-variants.{Kept, Positions, Sizes}
 use Rattle.tables.specs.Format.{countAt, decode}
 use Rattle.tables.specs.Lists.{rows}
 use Rattle.tables.specs.Table.{Table}
-
--- The numbers of a part: K and Q as given; the processes and the numbers of the kept checkpoints; the positions of the
--- kept messages.
-unfoldable pub numbersOf : Part → Table → List ℕ
-numbersOf (Sizes kept logged) t = kept ∷ logged ∷ []
-numbersOf Processes t = map (λ k. k .process) (keptCheckpoints t)
-numbersOf Checkpoints t = map (λ k. k .number) (keptCheckpoints t)
-numbersOf Positions t = keptMessages t
 
 -- What one array of the sheet has of checkpoint c of process i.
 abbrev pub numberIn : Column → ℕ → ℕ → ℕ
 numberIn Process i c = i
 numberIn Number i c = c
+
+-- The numbers of a part: K and Q as given; the processes or the numbers of the kept checkpoints; the positions of the
+-- kept messages.
+unfoldable pub numbersOf : Part → Table → List ℕ
+numbersOf (Sizes kept logged) t = kept ∷ logged ∷ []
+numbersOf (Kept column) t = map (λ k. numberIn column (k .process) (k .number)) (keptCheckpoints t)
+numbersOf Positions t = keptMessages t
 
 -- One array, of the checkpoints of process i that have these numbers; and of all that lines say are kept of n
 -- processes, from a part of their counts.

@@ -3,6 +3,7 @@ pub mod writer;
 pub mod writing;
 
 use crate::writer::SheetWriter;
+use crate::writing::Column;
 use crate::writing::Part;
 use sheet_entries::checkpoints;
 use sheet_entries::messages;
@@ -44,7 +45,7 @@ pub fn put_sheet(table: &[u8], scratch: &[u16], kept: usize, logged: usize, answ
         at: 0,
     }
         .put(Part::Sizes(kept, logged), table, scratch)
-        .put(Part::Processes, table, scratch)
-        .put(Part::Checkpoints, table, scratch)
+        .put(Part::Kept(Column::Process), table, scratch)
+        .put(Part::Kept(Column::Number), table, scratch)
         .put(Part::Positions, table, scratch);
 }

@@ -17,18 +17,17 @@ ghost use Rattle.sheet_writer.specs.Writing.{Put};
 ghost use Rattle.tables.specs.Format.{decode};
 ghost use Rattle.tables.specs.Parts.{Counts, Messages};
 
-// The parts of a keep sheet: K and Q, the two arrays of the kept checkpoints, and the positions.
-pub enum Part {
-    Sizes(usize, usize),
-    Processes,
-    Checkpoints,
-    Positions,
-}
-
 // The two arrays of the kept checkpoints: their processes, and their numbers.
 pub enum Column {
     Process,
     Number,
+}
+
+// The parts of a keep sheet: K and Q, an array of the kept checkpoints, and the positions.
+pub enum Part {
+    Sizes(usize, usize),
+    Kept(Column),
+    Positions,
 }
 
 // Puts one number at a place that has room for it.
@@ -152,22 +151,7 @@ pub fn put_part(buffer: &mut [u8], at: usize, part: Part, table: &[u8], scratch:
     let n = parts::process_count(table);
     match part {
         Part::Sizes(kept, logged) => put_sizes(buffer, at, kept, logged),
-        Part::Processes => put_column(
-            buffer,
-            at,
-            Column::Process,
-            scratch,
-            n,
-            parts::counts(table),
-        ),
-        Part::Checkpoints => put_column(
-            buffer,
-            at,
-            Column::Number,
-            scratch,
-            n,
-            parts::counts(table),
-        ),
+        Part::Kept(column) => put_column(buffer, at, column, scratch, n, parts::counts(table)),
         Part::Positions => put_positions(
             buffer,
             at,

@@ -44,13 +44,15 @@ use denote.Exit.{yes}
 use denote.Signature.{Slot, plain}
 use Rattle.tables.specs.Format.{decode}
 use Rattle.sheet_writer.specs.declared.writer.SheetWriter.{SheetWriter}
+use Rattle.sheet_writer.specs.declared.writing.Column.{Column}
+use Rattle.sheet_writer.specs.declared.writing.Column.the-variants.{Number, Process}
 use Rattle.sheet_writer.specs.declared.writing.Part.{Part}
-use Rattle.sheet_writer.specs.declared.writing.Part.the-variants.{Checkpoints, Positions, Processes, Sizes}
+use Rattle.sheet_writer.specs.declared.writing.Part.the-variants.{Kept, Positions, Sizes}
 use Rattle.sheet_writer.specs.SheetParts.{CanPut, CanPutSheet, numbersOf}
 use Rattle.sheet_writer.specs.Writers.{written}
 use Rattle.sheet_writer.proofs.PartLaws.{begun, can-checkpoints, can-positions, can-processes, can-sizes, filled, numbered, processed, sized}
 use Rattle.sheet_writer.proofs.PartLaws.{same-size, sheet-put}
-use Rattle.sheet_writer.proofs.Walking.{IsPart, Slice, and-local, freed, lent, lent-goes, life, machine, part-typed, part-val, row}
+use Rattle.sheet_writer.proofs.Walking.{IsPart, Slice, and-local, column-is, column-typed, freed, lent, lent-goes, life, machine, part-typed, part-val, row}
 use Rattle.sheet_writer.proofs.writer.SheetWriter as T
 use Rattle.sheet_writer.proofs.writer.SheetWriter.Laws as T′
 use Rattle.sheet_writer.proofs.writing.Part as P
@@ -223,11 +225,8 @@ module _ {M : Type 1} (𝓤 : URA M) (H : Heap 𝓤) (A : Atoms 𝓤) (W : Given
     sizes-is : IsPart (Sizes k q)
     sizes-is = EL.owes P.the-type P′.the-laws (Sizes k q) ((refl, k-fits), ((refl, q-fits), tt))
 
-    processes-is : IsPart Processes
-    processes-is = EL.owes P.the-type P′.the-laws Processes tt
-
-    checkpoints-is : IsPart Checkpoints
-    checkpoints-is = EL.owes P.the-type P′.the-laws Checkpoints tt
+    kept-is : (column : Column) → IsPart (Kept column)
+    kept-is column = EL.owes P.the-type P′.the-laws (Kept column) (column-is column, tt)
 
     positions-is : IsPart Positions
     positions-is = EL.owes P.the-type P′.the-laws Positions tt
@@ -239,42 +238,47 @@ module _ {M : Type 1} (𝓤 : URA M) (H : Heap 𝓤) (A : Atoms 𝓤) (W : Given
           qed W (raw Entry ∷ []) ∵ enter ! C Λ code.function args _ $
           alloc1 ! (λ l₀. alloc1 ! (λ l₁. alloc1 ! (λ l₂. alloc1 ! (λ l₃. alloc1 ! (λ l₄. alloc1 ! (λ l₅. alloc1 ! (λ l₆.
           alloc1 ! (λ l₇. alloc1 ! (λ l₈. alloc1 ! (λ l₉. alloc1 ! (λ l₁₀. alloc1 ! (λ l₁₁. alloc1 ! (λ l₁₂. alloc1 ! (λ l₁₃.
-          alloc1 ! (λ l₁₄. alloc1 ! (λ l₁₅. alloc1 ! (λ l₁₆. alloc0 ! $ params1 ! $
-          pass1 ! (init ! 30 refl (shr-slice-lawful 𝓤 H A W (named 0) κ₀ u8 .typed table _ table-is .0)) $
-          pass1 ! (init ! 28 refl (shr-slice-lawful 𝓤 H A W (named 1) κ₁ u16 .typed scratch _ scratch-is .0)) $
-          pass1 ! (init ! 26 refl (tt, record { fits = k-fits })) $ pass1 ! (init ! 24 refl (tt, record { fits = q-fits })) $
-          pass1 ! (init ! 22 refl (tt, (tt, (record { fits = size .0 }, tt)))) $ pass0 ! $
-          -- the parts (_16 to _13) at 0 to 6, the first writer (_12) at 8, _11 at 10, _10 at 12, the writers after each part (_9 to _6) at 14 to 20,
-          -- answer (_5) at 22, logged at 24, kept at 26, scratch at 28, table at 30, the result at 32; 34: what there is on entry
-          assigns ! (addr ! (from ! (fld ! refl (hop ! (look-in ! 22 (sub ! 0 refl (whole !))) (stop !))))) (from ! (stop !)) (init ! 12 refl (tt, tt)) $
-          assigns ! (agg ! (and-local ! 12 refl (and-then ! (load ! (from ! (fld ! refl (stop !))) (look-in ! 22 (sub ! 1 refl (whole !)))) (no-more !))))
-          (from ! (stop !)) (init ! 10 refl (tt, (tt, (record { fits = size .0 }, tt)))) $
-          assigns ! (agg ! (and-local ! 10 refl (and-then ! (lit ! tt) (no-more !)))) (from ! (stop !))
-          (init ! 8 refl (tt, ((tt, (record { fits = size .0 }, tt)), (record { fits = lit< tt }, tt)))) $
-          assigns ! (agg ! (and-then ! (lit ! tt) (and-local ! 26 refl (and-local ! 24 refl (no-more !))))) (from ! (stop !))
-          (init ! 6 refl (part-typed 𝓤 H A W (Sizes k q) sizes-is)) $
+          alloc1 ! (λ l₁₄. alloc1 ! (λ l₁₅. alloc1 ! (λ l₁₆. alloc1 ! (λ l₁₇. alloc1 ! (λ l₁₈. alloc0 ! $ params1 ! $
+          pass1 ! (init ! 34 refl (shr-slice-lawful 𝓤 H A W (named 0) κ₀ u8 .typed table _ table-is .0)) $
+          pass1 ! (init ! 32 refl (shr-slice-lawful 𝓤 H A W (named 1) κ₁ u16 .typed scratch _ scratch-is .0)) $
+          pass1 ! (init ! 30 refl (tt, record { fits = k-fits })) $ pass1 ! (init ! 28 refl (tt, record { fits = q-fits })) $
+          pass1 ! (init ! 26 refl (tt, (tt, (record { fits = size .0 }, tt)))) $ pass0 ! $
+          -- the parts (_18, _17, _15, _13) at 0, 2, 6 and 10, the columns (_16, _14) at 4 and 8, the first writer (_12) at 12, _11 at 14, _10 at 16,
+          -- the writers after each part (_9 to _6) at 18 to 24, answer (_5) at 26, logged at 28, kept at 30, scratch at 32, table at 34, the result at 36;
+          -- 38: what there is on entry
+          assigns ! (addr ! (from ! (fld ! refl (hop ! (look-in ! 26 (sub ! 0 refl (whole !))) (stop !))))) (from ! (stop !)) (init ! 16 refl (tt, tt)) $
+          assigns ! (agg ! (and-local ! 16 refl (and-then ! (load ! (from ! (fld ! refl (stop !))) (look-in ! 26 (sub ! 1 refl (whole !)))) (no-more !))))
+          (from ! (stop !)) (init ! 14 refl (tt, (tt, (record { fits = size .0 }, tt)))) $
+          assigns ! (agg ! (and-local ! 14 refl (and-then ! (lit ! tt) (no-more !)))) (from ! (stop !))
+          (init ! 12 refl (tt, ((tt, (record { fits = size .0 }, tt)), (record { fits = lit< tt }, tt)))) $
+          assigns ! (agg ! (and-then ! (lit ! tt) (and-local ! 30 refl (and-local ! 28 refl (no-more !))))) (from ! (stop !))
+          (init ! 10 refl (part-typed 𝓤 H A W (Sizes k q) sizes-is)) $
           -- the tokens, the writer and what is lent come to the head: the locals stand 3 further on, and 2 where a call reads its arguments
-          move ! (34 ∷ []) $ use1 W (tokens ⊛ writer first w₀ ⊛ ‵ Lent) begins $ split3 ! $
+          move ! (38 ∷ []) $ use1 W (tokens ⊛ writer first w₀ ⊛ ‵ Lent) begins $ split3 ! $
           puts first w₀ (Sizes k q) sizes-is (can-sizes b k q answer asked) ! fm known
-          (and-local ! 10 refl (and-local ! 8 refl (and-local ! 32 refl (and-local ! 30 refl (no-more !)))))
-          (λ w₁ ok₁. land ! (from ! (stop !)) (init ! 17 refl ok₁) $
-          assigns ! (agg ! (and-then ! (lit ! tt) (no-more !))) (from ! (stop !)) (init ! 7 refl (part-typed 𝓤 H A W Processes processes-is)) $
-          puts (sized b k q answer) w₁ Processes processes-is (can-processes b k q answer asked) ! fm known
-          (and-local ! 16 refl (and-local ! 6 refl (and-local ! 32 refl (and-local ! 30 refl (no-more !)))))
-          (λ w₂ ok₂. land ! (from ! (stop !)) (init ! 19 refl ok₂) $
-          assigns ! (agg ! (and-then ! (lit ! tt) (no-more !))) (from ! (stop !)) (init ! 5 refl (part-typed 𝓤 H A W Checkpoints checkpoints-is)) $
-          puts (processed b k q answer) w₂ Checkpoints checkpoints-is (can-checkpoints b k q answer asked) ! fm known
-          (and-local ! 18 refl (and-local ! 4 refl (and-local ! 32 refl (and-local ! 30 refl (no-more !)))))
-          (λ w₃ ok₃. land ! (from ! (stop !)) (init ! 21 refl ok₃) $
+          (and-local ! 14 refl (and-local ! 12 refl (and-local ! 36 refl (and-local ! 34 refl (no-more !)))))
+          (λ w₁ ok₁. land ! (from ! (stop !)) (init ! 21 refl ok₁) $
+          assigns ! (agg ! (and-then ! (lit ! tt) (no-more !))) (from ! (stop !)) (init ! 11 refl (column-typed 𝓤 H A W Process)) $
+          assigns ! (agg ! (and-then ! (lit ! tt) (and-local ! 11 refl (no-more !)))) (from ! (stop !))
+          (init ! 9 refl (part-typed 𝓤 H A W (Kept Process) (kept-is Process))) $
+          puts (sized b k q answer) w₁ (Kept Process) (kept-is Process) (can-processes b k q answer asked) ! fm known
+          (and-local ! 20 refl (and-local ! 8 refl (and-local ! 36 refl (and-local ! 34 refl (no-more !)))))
+          (λ w₂ ok₂. land ! (from ! (stop !)) (init ! 23 refl ok₂) $
+          assigns ! (agg ! (and-then ! (lit ! tt) (no-more !))) (from ! (stop !)) (init ! 7 refl (column-typed 𝓤 H A W Number)) $
+          assigns ! (agg ! (and-then ! (lit ! tt) (and-local ! 7 refl (no-more !)))) (from ! (stop !))
+          (init ! 5 refl (part-typed 𝓤 H A W (Kept Number) (kept-is Number))) $
+          puts (processed b k q answer) w₂ (Kept Number) (kept-is Number) (can-checkpoints b k q answer asked) ! fm known
+          (and-local ! 22 refl (and-local ! 4 refl (and-local ! 36 refl (and-local ! 34 refl (no-more !)))))
+          (λ w₃ ok₃. land ! (from ! (stop !)) (init ! 25 refl ok₃) $
           assigns ! (agg ! (and-then ! (lit ! tt) (no-more !))) (from ! (stop !)) (init ! 3 refl (part-typed 𝓤 H A W Positions positions-is)) $
           puts (numbered b k q answer) w₃ Positions positions-is (can-positions b k q answer asked) ! fm known
-          (and-local ! 20 refl (and-local ! 2 refl (and-local ! 32 refl (and-local ! 30 refl (no-more !)))))
-          (λ w₄ ok₄. land ! (from ! (stop !)) (init ! 23 refl ok₄) $
-          assigns ! (of-opd ! (unit-lit !)) (from ! (stop !)) (init ! 35 refl (tt, tt)) $ returns ! (look ! 35 refl) $
-          freed ! 35 refl refl $ freed ! 33 refl refl $ freed ! 31 refl refl $ freed ! 29 refl refl $ freed ! 27 refl refl $ freed ! 25 refl refl $
-          freed ! 23 refl refl $ freed ! 21 refl refl $ freed ! 19 refl refl $ freed ! 17 refl refl $ freed ! 15 refl refl $ freed ! 13 refl refl $
-          freed ! 11 refl refl $ freed ! 9 refl refl $ freed ! 7 refl refl $ freed ! 5 refl refl $ freed ! 3 refl refl $ free0 ! $
-          by ! (exits w₄))))))))))))))))))))))
+          (and-local ! 24 refl (and-local ! 2 refl (and-local ! 36 refl (and-local ! 34 refl (no-more !)))))
+          (λ w₄ ok₄. land ! (from ! (stop !)) (init ! 27 refl ok₄) $
+          assigns ! (of-opd ! (unit-lit !)) (from ! (stop !)) (init ! 39 refl (tt, tt)) $ returns ! (look ! 39 refl) $
+          freed ! 39 refl refl $ freed ! 37 refl refl $ freed ! 35 refl refl $ freed ! 33 refl refl $ freed ! 31 refl refl $ freed ! 29 refl refl $
+          freed ! 27 refl refl $ freed ! 25 refl refl $ freed ! 23 refl refl $ freed ! 21 refl refl $ freed ! 19 refl refl $ freed ! 17 refl refl $
+          freed ! 15 refl refl $ freed ! 13 refl refl $ freed ! 11 refl refl $ freed ! 9 refl refl $ freed ! 7 refl refl $ freed ! 5 refl refl $
+          freed ! 3 refl refl $ free0 ! $ by ! (exits w₄))))))))))))))))))))))))
 
 module _ {M : Type 1} (𝓤 : URA M) (H : Heap 𝓤) (A : Atoms 𝓤) (W : Given 𝓤 H A) (mem : Memory → SProp 𝓤) (run : Routine → Fun 𝓤)
     (𝓣 : Tables 𝓤 H) (known : Triple 𝓤 (𝓣 .C #put) (Puts 𝓤 H A mem run)) where

@@ -6,7 +6,6 @@ use denote.Ref.{now}
 use Rattle.holder_lines.proofs.ScratchLaws.{holds-lines}
 use Rattle.tables.proofs.ReadLaws.{ReadMessages, counts-known, messages-known, messages-read}
 use Rattle.sheet_writer.proofs.PartLaws.{column-is, positions-are, sizes-are}
-use Rattle.sheet_writer.specs.declared.writing.Column.the-variants.{Number, Process}
 use Rattle.sheet_writer.proofs.writing.put_part.Statement.{statement}
 use Rattle.sheet_writer.proofs.writing.put_part.Tie as tie
 
@@ -17,11 +16,8 @@ entry c = c .before .before .before .before
 abbrev of-sizes : tie.After-part → tie.After-process-count
 of-sizes c = c .before .before
 
-abbrev of-processes : tie.After-counts → tie.After-process-count
-of-processes c = c .before .before .before .before
-
-abbrev of-checkpoints : tie.After-counts2 → tie.After-process-count
-of-checkpoints c = c .before .before .before .before
+abbrev of-column : tie.After-counts → tie.After-process-count
+of-column c = c .before .before .before .before .before
 
 abbrev of-positions : tie.After-sends → tie.After-process-count
 of-positions c = c .before .before .before .before
@@ -45,23 +41,14 @@ put-part-spec =
     (λ c κs.
     let told = c .before .before in
     rw (← sizes-are (told .part .given .1)) at (entry (of-sizes told) .pre .room))
-    -- the processes
+    -- an array of the kept checkpoints
     (λ c. search needs)
     (λ c κs. search needs)
     (λ c κs.
-    let n = of-processes c .process-count .ensures in
-    let ready = entry (of-processes c) .pre in
+    let n = of-column c .process-count .ensures in
+    let ready = entry (of-column c) .pre in
     let counts = counts-known _ (ready .given .accepted) n (c .counts .ensures) in
-    let numbers = column-is (ready .given) n (c .counts .ensures) Process (c .before .before .enum-told .given .1) in
-    (holds-lines (ready .given) n, (counts, rw numbers (ready .room))))
-    -- the checkpoints
-    (λ c. search needs)
-    (λ c κs. search needs)
-    (λ c κs.
-    let n = of-checkpoints c .process-count .ensures in
-    let ready = entry (of-checkpoints c) .pre in
-    let counts = counts-known _ (ready .given .accepted) n (c .counts2 .ensures) in
-    let numbers = column-is (ready .given) n (c .counts2 .ensures) Number (c .before .before .enum-told2 .given .1) in
+    let numbers = column-is (ready .given) n (c .counts .ensures) (c .before .before .before .part2 .given .1) in
     (holds-lines (ready .given) n, (counts, rw numbers (ready .room))))
     -- the positions
     (λ c. search needs)
@@ -72,7 +59,7 @@ put-part-spec =
     let sends = c .before .before in
     let n = of-positions sends .process-count .ensures in
     let ready = entry (of-positions sends) .pre in
-    let numbers = positions-are (ready .given) n (messages c) (sends .before .before .enum-told3 .given .1) in
+    let numbers = positions-are (ready .given) n (messages c) (sends .before .before .enum-told .given .1) in
     (holds-lines (ready .given) n, (messages-known (messages c) (omega (arith, n)), rw numbers (ready .room))))
     -- what was put is the part
     (λ c. search needs)
@@ -84,21 +71,14 @@ put-part-spec =
     (λ c.
     let put = c .before .before in
     let read = put .before in
-    let n = of-processes read .process-count .ensures in
-    let numbers = column-is (entry (of-processes read) .pre .given) n (read .counts .ensures) Process (read .before .before .enum-told .given .1) in
+    let n = of-column read .process-count .ensures in
+    let numbers = column-is (entry (of-column read) .pre .given) n (read .counts .ensures) (read .before .before .before .part2 .given .1) in
     rw numbers at (put .put-column .ensures))
-    (λ c. search needs)
-    (λ c.
-    let put = c .before .before in
-    let read = put .before in
-    let n = of-checkpoints read .process-count .ensures in
-    let numbers = column-is (entry (of-checkpoints read) .pre .given) n (read .counts2 .ensures) Number (read .before .before .enum-told2 .given .1) in
-    rw numbers at (put .put-column2 .ensures))
     (λ c. search needs)
     (λ c.
     let put = c .before .before in
     let read = put .before in
     let sends = read .before .before in
     let n = of-positions sends .process-count .ensures in
-    rw (positions-are (entry (of-positions sends) .pre .given) n (messages read) (sends .before .before .enum-told3 .given .1))
+    rw (positions-are (entry (of-positions sends) .pre .given) n (messages read) (sends .before .before .enum-told .given .1))
     at (put .put-positions .ensures)))
