@@ -22,11 +22,10 @@ use lib.ListN.{length, getD, length-append, length-map, List·getD-append, List�
 use lib.Seq.{getD-append-add}
 use Rattle.consistency.specs.Lines.{Line, asLine}
 use Rattle.tables.proofs.FormatLaws.{known-process}
-use Rattle.tables.specs.Lists.{Listed}
 use Rattle.keep_sheet.specs.Sheet.{Checkpoint, crosses, keepsCheckpoint, keepsMessage, keptCheckpoints, keptMessages}
 use Rattle.consistency.specs.Ceilings.{holderLine}
 use Rattle.tables.proofs.ListLaws.{and-left, and-right, any-some, anyBelow-found, found-below, one, select-rows}
-use Rattle.tables.specs.Lists.{any, anyBelow, rows, select}
+use Rattle.tables.specs.Lists.{Listed, any, anyBelow, rows, select}
 use Rattle.tables.specs.Table.{Message, Table, countOf, messageCount, messageOf, processCount}
 
 -- ---- membership

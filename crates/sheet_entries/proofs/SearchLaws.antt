@@ -20,8 +20,7 @@ use Rattle.consistency.specs.Lines.{Line}
 use Rattle.holder_lines.specs.Scratch.{HoldsLines, linesIn}
 use Rattle.keep_sheet.specs.Sheet.{Checkpoint, crosses}
 use Rattle.tables.proofs.ArrayLaws.{array-at}
-use Rattle.tables.proofs.ListLaws.{anyBelow-none, found-below, getD-tabulate, length-tabulate, none-below}
-use Rattle.tables.proofs.ListLaws.{rows-more, select-small}
+use Rattle.tables.proofs.ListLaws.{anyBelow-none, found-below, getD-tabulate, length-tabulate, none-below, rows-more, select-small}
 use Rattle.tables.proofs.ReadLaws.{message-there}
 use Rattle.tables.specs.Format.{checkpointAt, countAt, messageAt, processAt}
 use Rattle.tables.specs.Lists.{First, anyBelow, rows, tabulate}

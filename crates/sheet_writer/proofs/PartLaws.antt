@@ -5,14 +5,14 @@
 --     sheet-put, same-size             what the last writer leaves is the sheet
 -- Assumes nothing.
 use mathlib.Core.List.{List, [], _∷_, _++_, map, map-map}
-use mathlib.Core.Path.{_≡_, refl, sym, ap, _∙_}
+use mathlib.Core.Path.{_≡_, sym, ap, _∙_}
 use Prim.Native.Nat.{ℕ, _+_, _*_, _≤_}
 use native.Mathlib.Omega.{arith}
 use denote.Ref.{RefT, now}
 use lib.ListN.{length, length-append}
 use Rattle.holder_lines.specs.Scratch.{LinesOf, linesIn}
 use Rattle.keep_sheet.proofs.FewLaws.{sheet-length}
-use Rattle.keep_sheet.specs.Sheet.{Checkpoint, keptCheckpoints, sheet}
+use Rattle.keep_sheet.specs.Sheet.{Checkpoint, sheet}
 use Rattle.tables.proofs.ListLaws.{map-rows, rows-ext}
 use Rattle.tables.proofs.NumberLaws.{length-u16s}
 use Rattle.tables.proofs.ReadLaws.{ReadMessages}

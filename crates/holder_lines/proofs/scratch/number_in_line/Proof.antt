@@ -7,12 +7,8 @@ use mathlib.Core.Path.{refl}
 use Rattle.holder_lines.proofs.scratch.number_in_line.Statement.{statement}
 use Rattle.holder_lines.proofs.scratch.number_in_line.Tie as tie
 
--- the place is that of line k at process i
-returns : tie.Need-returns
-unfolding linesIn
-returns c = refl
-
 pub number-in-line-spec : {M : Type 1} → statement M
+unfolding linesIn
 number-in-line-spec =
     tie.close
     (tie.spec
@@ -20,4 +16,5 @@ number-in-line-spec =
     (λ c. omega (arith, cell-below (c .pre .1 .0) (c .pre .1 .1)))
     (λ c. omega (arith, cell-below (c .pre .1 .0) (c .pre .1 .1)))
     (λ c. omega (arith, cell-below (c .before .pre .1 .0) (c .before .pre .1 .1)))
-    returns)
+    -- the place is that of line k at process i
+    (λ c. refl))
