@@ -7,24 +7,25 @@
 --     skips-undelivered, skips-sent-before, skips-received-after, pass-lowers    what its tests say of that message
 -- Assumes nothing.
 use mathlib.Core.Bool.{Bool, true, false, false≢true, true≢false}
-use mathlib.Core.List.{List}
+use mathlib.Core.List.{List, []}
 use mathlib.Core.Path.{_≡_, refl, sym, ap, _∙_, subst}
 use Prim.Native.Nat.{ℕ, _+_, _-_, _*_, _≤_, _<_}
-use native.Mathlib.Decide.{decLt, ℕ-discrete}
+use native.Mathlib.Decide.{ℕ-discrete}
 use native.Mathlib.Nat.{le-refl}
 use native.Mathlib.Omega.{arith}
-use lib.ListN.{length, getD, set, List·getD-eq-default}
+use lib.ListN.{length, getD, set}
 use Rattle.consistency.proofs.LoweringLaws.{line-consistent, line-put-back, put-back-falls}
-use Rattle.consistency.specs.Lines.{Consistent, Orphan, asLine}
+use Rattle.consistency.specs.Lines.{Orphan, asLine}
 use Rattle.consistency.specs.Lowering.{lineUnder}
 use Rattle.lines.specs.Arrays.{messagesOf}
 use Rattle.tables.proofs.CodingLaws.{message-path}
+use Rattle.tables.proofs.FormatLaws.{message-in}
 use Rattle.tables.proofs.ListLaws.{getD-tabulate, length-tabulate}
 use Rattle.tables.specs.Format.{checkpointAt, messageAt, processAt}
 use Rattle.tables.specs.Lists.{sum}
 use Rattle.tables.specs.Numbers.{u16At}
 use Rattle.tables.specs.Parts.{Messages}
-use Rattle.tables.specs.Table.{Message, mostProcesses, noMessage}
+use Rattle.tables.specs.Table.{Message, messageCount, messageOf, mostProcesses, noMessage}
 
 -- Passes have brought a line down from a ceiling: the line under it is the same.
 pub record Under (m : ℕ) (sends receipts ceiling line : List ℕ) : Type 0 where
@@ -62,16 +63,12 @@ module _ {m : ℕ} {sends receipts start line : List ℕ} {lowered : Bool} {k : 
 
   -- a pass that has lowered nothing has found no orphan, so its line is the one under itself
   pub pass-ends : k ≤ 0 → lowered ≡ false → line ≡ lineUnder ms start
-  pass-ends z f = line-consistent ms line consistent ∙ w .same-line
-    where
-      by-place : (j : ℕ) → Dec (j < m) → Orphan (getD ms j noMessage) (asLine line) → ⊥
-      by-place j (yes l) o = w .no-orphans f j (omega arith) l o
-      by-place j (no l) o =
-          let beyond : length ms ≤ j = omega (arith, messages-length m sends receipts) in
-          omega (arith, o .delivered, ap (λ (x : Message). x .received) (List·getD-eq-default ms noMessage beyond))
-
-      consistent : Consistent ms (asLine line)
-      consistent j = by-place j (decLt j m)
+  unfolding messageOf messageCount
+  pass-ends z f =
+      line-consistent ms line (λ j o.
+      let inside = message-in (record { counts = []; messages = ms }) j (o .delivered) in
+      w .no-orphans f j (omega arith) (omega (arith, inside, messages-length m sends receipts)) o)
+      ∙ w .same-line
 
 -- ---- the next message of a pass
 -- It is message k - 1, and its four numbers were read: its sender and where it was sent, its receiver and where it was received.
