@@ -122,7 +122,8 @@ module _ {m : ℕ} {counts sends receipts : List ℕ} {found : List Bool} {k j y
         orphan = orphaned-is r received ∙ rw (le-leb (count - 1) y b, lt-ltb 0 r (omega arith))
 
 -- ---- of an accepted table, by its parts
-module _ {bytes : List ℕ} {m : ℕ} {counts sends receipts : List ℕ} (read : ReadMessages bytes m sends receipts) (counts-are : counts ≡ countsPart bytes) where
+module _ {bytes : List ℕ} {m : ℕ} {counts sends receipts : List ℕ} (read : ReadMessages bytes m sends receipts)
+    (counts-are : counts ≡ countsPart bytes) where
   pub parts-counted : CountedMessages m counts sends receipts
   parts-counted =
       record { processes = _; counted = counts-known bytes (read .accepted) refl counts-are; messages = messages-known read (le-refl _) }

@@ -8,7 +8,7 @@
 -- Assumes nothing.
 use mathlib.Core.Bool.{Bool, true, false, false≢true, true≢false}
 use mathlib.Core.List.{List, []}
-use mathlib.Core.Path.{_≡_, refl, sym, ap, _∙_, subst}
+use mathlib.Core.Path.{_≡_, refl, sym, _∙_, subst}
 use Prim.Native.Nat.{ℕ, _+_, _-_, _*_, _≤_, _<_}
 use native.Mathlib.Decide.{ℕ-discrete}
 use native.Mathlib.Nat.{le-refl}
@@ -80,7 +80,8 @@ pub record NextInPass (m : ℕ) (sends receipts start line : List ℕ) (lowered 
   pub receiver : i ≡ u16At receipts (4 * (k - 1))
   pub received : r ≡ u16At receipts (4 * (k - 1) + 2)
 
-module _ {m : ℕ} {sends receipts start line : List ℕ} {lowered : Bool} {k j y i r : ℕ} (x : NextInPass m sends receipts start line lowered k j y i r) where
+module _ {m : ℕ} {sends receipts start line : List ℕ} {lowered : Bool} {k j y i r : ℕ}
+    (x : NextInPass m sends receipts start line lowered k j y i r) where
   there : k - 1 < m
   there = omega (arith, x .more, x .passing .within)
 

@@ -10,10 +10,9 @@
 use mathlib.Core.Bool.{Bool, true, false}
 use mathlib.Core.List.{List, [], _∷_, _++_, map}
 use mathlib.Core.Path.{_≡_, refl, sym, ap, ap₂, _∙_, subst}
-use Prim.Native.Nat.{ℕ, _+_, _*_, _/_, _%_, _≤_, _<_, zero-le}
-use native.Mathlib.Nat.{le-antisymm, mul-add-div, mul-add-mod-self-left}
+use Prim.Native.Nat.{ℕ, _+_, _*_, _%_, _≤_, _<_, zero-le}
+use native.Mathlib.Nat.{le-antisymm}
 use native.Mathlib.Omega.{arith}
-use lib.Dec.{lit<}
 use lib.ListN.{length, length-append, length-map}
 use Rattle.tables.proofs.ListLaws.{map-append, rows-more, rows-room, select-more, select-room, select-skip}
 use Rattle.tables.proofs.NumberLaws.{length-putAt, length-u16s, putAt-more, putAt-none, u16s-append}
@@ -122,8 +121,8 @@ pub rows-none : (f : ℕ → List ℕ) {n : ℕ} {before : List ℕ} {at : ℕ} 
 unfolding rows
 rows-none f room = putting-none zero-le refl room
 
-module _ (f : ℕ → List ℕ) {n : ℕ} {before : List ℕ} {at : ℕ} {after : List ℕ} {next i : ℕ} (h : PuttingNumbers (rows f) n before at after next i)
-    (l : i < n) where
+module _ (f : ℕ → List ℕ) {n : ℕ} {before : List ℕ} {at : ℕ} {after : List ℕ} {next i : ℕ}
+    (h : PuttingNumbers (rows f) n before at after next i) (l : i < n) where
   pub row-room : next + 2 * length (f i) ≤ length after
   row-room = putting-room h _ (rows-room f i n l)
 
@@ -154,13 +153,7 @@ module _ (test : ℕ → Bool) {n : ℕ} {before : List ℕ} {at : ℕ} {after :
 -- ---- the two bytes of a number are those of its low 16 bits
 low-bits : (n : ℕ) → u16Bytes (n % 65536) ≡ u16Bytes n
 unfolding bytesOf
-low-bits n =
-    let r : ℕ = n % 65536 in
-    let whole : n ≡ 256 * (256 * (n / 65536)) + r = omega arith in
-    let low : n % 256 ≡ r % 256 = ap (λ (x : ℕ). x % 256) whole ∙ mul-add-mod-self-left 256 (256 * (n / 65536)) r in
-    let quotient : n / 256 ≡ 256 * (n / 65536) + r / 256 = ap (λ (x : ℕ). x / 256) whole ∙ mul-add-div (lit< tt) (256 * (n / 65536)) r in
-    let high : n / 256 % 256 ≡ r / 256 % 256 = ap (λ (x : ℕ). x % 256) quotient ∙ mul-add-mod-self-left 256 (n / 65536) (r / 256) in
-    cc
+low-bits n = ap₂ (λ (low high : ℕ). low ∷ high ∷ []) (omega arith) (omega arith)
 
 low-all : (ns : List ℕ) → u16s (map (λ n. n % 65536) ns) ≡ u16s ns
 unfolding bytesOfAll

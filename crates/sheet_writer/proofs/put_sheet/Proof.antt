@@ -52,7 +52,8 @@ use Rattle.sheet_writer.specs.SheetParts.{CanPut, CanPutSheet, numbersOf
 use Rattle.sheet_writer.specs.Writers.{written}
 use Rattle.sheet_writer.proofs.PartLaws.{begun, can-checkpoints, can-positions, can-processes, can-sizes, filled, numbered, processed, sized}
 use Rattle.sheet_writer.proofs.PartLaws.{same-size, sheet-put}
-use Rattle.sheet_writer.proofs.Walking.{IsPart, Slice, and-local, column-is, column-typed, freed, lent, lent-goes, life, machine, part-typed, part-val, row}
+use Rattle.sheet_writer.proofs.Walking.{IsPart, Slice, and-local, column-is, column-typed, freed, lent, lent-goes, life}
+use Rattle.sheet_writer.proofs.Walking.{machine, part-typed, part-val, row}
 use Rattle.sheet_writer.proofs.writer.SheetWriter as T
 use Rattle.sheet_writer.proofs.writer.SheetWriter.Laws as T′
 use Rattle.sheet_writer.proofs.writing.Part as P
