@@ -1,7 +1,9 @@
--- What a call yields where a check catches, where the buffer is too short, and where nothing refuses.
---     refused            one of them catches
---     too-short          16 alone catches
---     answered           nothing catches, and the answer was put at the front of the buffer
+-- What a call yields at each of its returns: where a check before 16 catches, where 16 alone does, and where nothing does.
+--     put-in-front       what is put at the front of a buffer
+--     refused, too-short, answered    what is yielded there
+--     Promise, Meets, Judged    a call that judges, finds the size of its answer and puts it: what it promises, of a return too; no
+--                        check before 16 catches
+--     call-refused, call-short, call-answered    what is promised holds there
 -- Assumes nothing.
 use mathlib.Core.List.{List, [], _∷_, _++_}
 use mathlib.Core.Path.{_≡_, refl, sym, _∙_, subst}
@@ -57,3 +59,35 @@ module _ (checks : List Check) (bytes : List ℕ) (room : ℕ) where
     answered enough put =
         let past-all : firstCaught (checks ++ last) ≡ 0 = past ∙ passed _ _ _ (le-ltb room (length bytes) (omega arith)) quiet-none in
         rw past-all (record { number-is = refl; buffer-is = put ∙ put-in-front _ bytes; length-is = is })
+
+-- ---- a call that judges, finds the size of its answer and puts it
+-- What it promises: its checks before 16; the bytes of its answer, and how many; what it leaves in the buffer and in the length's place.
+pub record Promise : Type 1 where
+  pub checks : List Check
+  pub bytes : List ℕ
+  pub size : ℕ
+  pub Leaves : List ℕ → ℕ → Type 0
+
+-- What is promised of a return, by the number, the buffer and the length's place, before and after.
+abbrev pub Meets : Promise → (room number : ℕ) (buffer buffer′ : List ℕ) (written written′ : ℕ) → Type 0
+Meets promise room number buffer buffer′ written written′ =
+    Yields (answer (promise .checks) (promise .bytes) room) number buffer buffer′ written written′ × (number ≡ 0 → promise .Leaves buffer′ written′)
+
+-- No check before 16 catches; the answer has its size, and at the front of a buffer leaves what is promised.
+pub record Judged (promise : Promise) : Type 0 where
+  pub quiet : Quiet (promise .checks)
+  pub sized : promise .size ≡ length (promise .bytes)
+  pub leaves : (buffer : List ℕ) {buffer′ : List ℕ} → buffer′ ≡ putAt buffer 0 (promise .bytes) → promise .Leaves buffer′ (promise .size)
+
+pub call-refused : (checks : List Check) (bytes : List ℕ) (room : ℕ) {r : ℕ} {buffer : List ℕ} {written : ℕ} {Left : Type 0}
+    → r ≡ firstCaught checks → (r ≡ 0 → ⊥) → Yields (answer checks bytes room) r buffer buffer written written × (r ≡ 0 → Left)
+call-refused checks bytes room e nonzero = (refused checks bytes room e nonzero, λ none. absurd (nonzero none))
+
+-- the size was found
+module _ {promise : Promise} (judged : Judged promise) {size room : ℕ} (found : size ≡ promise .size) where
+  pub call-short : {buffer : List ℕ} {written : ℕ} → room < size → Meets promise room 16 buffer buffer written written
+  call-short short = (too-short _ _ _ (judged .quiet) (found ∙ judged .sized) short, sixteen)
+
+  pub call-answered : {buffer buffer′ : List ℕ} {written : ℕ} → size ≤ room → buffer′ ≡ putAt buffer 0 (promise .bytes)
+      → Meets promise room 0 buffer buffer′ written size
+  call-answered {buffer} enough put = (answered _ _ _ (judged .quiet) (found ∙ judged .sized) enough put, λ _. rw found (judged .leaves buffer put))

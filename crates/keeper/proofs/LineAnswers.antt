@@ -1,8 +1,7 @@
 -- The answers of the line calls.
---     line-room          a buffer with room for a line of n numbers
 --     numbers-read       the numbers of an answer are the line's
 --     line-holds         they are the latest consistent line under a ceiling
---     line-refused, line-short, line-answered    what a line call yields where a check before 16 catches, where 16 does, and where none does
+--     linePromise, line-judged    what a line call promises, and where no check before 16 catches
 --     recovery-put       the line of all 32 bits is that under the ceiling of all processes
 --     ceilings-accepted  where no check of the call catches, the ceilings that were lent are a ceiling
 --     set-under          where 12 catches nothing, the line of a set is the line under the set's ceiling, byte for byte, and refused alike
@@ -10,7 +9,7 @@
 use mathlib.Core.Bool.{false, not}
 use mathlib.Core.List.{List, [], _∷_, append-assoc}
 use mathlib.Core.Path.{_≡_, refl, sym, ap, _∙_, subst⁻¹}
-use Prim.Native.Nat.{ℕ, _*_, _≤_, _<_}
+use Prim.Native.Nat.{ℕ, _*_, _<_}
 use native.Mathlib.Omega.{arith}
 use borrow.Author.Tests.{eq-eqb, eqb-true, not-false}
 use lib.Dec.{eqb, ltb}
@@ -21,8 +20,8 @@ use Rattle.consistency.proofs.LoweringLaws.{line-latest}
 use Rattle.consistency.specs.Ceilings.{Ceiling, aboveCounts, ceilingOf, lineOf, recoveryLine}
 use Rattle.consistency.specs.Lines.{Latest, asLine}
 use Rattle.consistency.specs.Lowering.{lineUnder}
-use Rattle.keeper.proofs.AnswerLaws.{answered, put-in-front, refused, sixteen, too-short}
-use Rattle.keeper.specs.Answers.{Yields, answer, unless}
+use Rattle.keeper.proofs.AnswerLaws.{Judged, Promise, put-in-front}
+use Rattle.keeper.specs.Answers.{answer, unless}
 use Rattle.keeper.specs.Calls.{HoldsLatest, lineAnswer, lineOfSetAnswer, lineUnderAnswer}
 use Rattle.lines.proofs.LineReads.{all-hold}
 use Rattle.process_set.specs.Sets.{allProcesses, highBit, member}
@@ -37,13 +36,6 @@ use Rattle.tables.specs.Format.{decode}
 use Rattle.tables.specs.Lists.{tabulate}
 use Rattle.tables.specs.Numbers.{putAt, u16At, u16s}
 use Rattle.tables.specs.Table.{Table, processCount}
-
--- two bytes a number
-pub line-room : (n : ℕ) {size room : ℕ} → ((line : List ℕ) → length line ≡ n → size ≡ length (u16s line)) → size ≤ room → 2 * n ≤ room
-line-room n sized enough =
-    let line : List ℕ = tabulate n (λ _. 0) in
-    let whole : length line ≡ n = length-tabulate n (λ _. 0) in
-    omega (arith, sized line whole, length-u16s line)
 
 module _ (table : List ℕ) (accepted : tableRefusal table ≡ 0) where
   abbrev t : Table
@@ -77,34 +69,22 @@ module _ (table : List ℕ) (accepted : tableRefusal table ≡ 0) where
       → buffer′ ≡ putAt buffer 0 (u16s (recoveryLine t))
   recovery-put buffer put = put ∙ ap (λ (l : List ℕ). putAt buffer 0 (u16s l)) (all-hold table accepted)
 
--- ---- what a line call yields
--- a check before 16 catches
-pub line-refused : (table : List ℕ) (checks : List Check) (ceiling : List ℕ) (room : ℕ) {r : ℕ} {buffer : List ℕ} {written : ℕ}
-    → r ≡ firstCaught checks → (r ≡ 0 → ⊥)
-    → Yields (lineAnswer checks table ceiling room) r buffer buffer written written × (r ≡ 0 → HoldsLatest table ceiling buffer)
-unfolding lineAnswer
-line-refused table checks ceiling room e nonzero = (refused checks _ room e nonzero, λ none. absurd (nonzero none))
+-- ---- what a line call promises
+abbrev pub linePromise : List Check → List ℕ → List ℕ → Promise
+linePromise checks table ceiling = record {
+  checks = checks;
+  bytes = u16s (lineUnder (decode table .messages) ceiling);
+  size = 2 * processCount (decode table);
+  Leaves = λ buffer _. HoldsLatest table ceiling buffer;
+}
 
--- none does, and the size of a line was found
-module _ {table : List ℕ} {checks : List Check} (q : QuietCall table checks) {ceiling : List ℕ} (c : Ceiling (decode table) ceiling) {size : ℕ}
-    (sized : (line : List ℕ) → length line ≡ processCount (decode table) → size ≡ length (u16s line)) where
-  abbrev bytes : List ℕ
-  bytes = u16s (lineUnder (decode table .messages) ceiling)
-
-  exact : size ≡ length bytes
-  exact = sized _ (under-length (decode table) ceiling c)
-
-  pub line-short : {room : ℕ} {buffer : List ℕ} {written : ℕ} → room < size
-      → Yields (lineAnswer checks table ceiling room) 16 buffer buffer written written × (_≡_ {A = ℕ} 16 0 → HoldsLatest table ceiling buffer)
-  unfolding lineAnswer
-  line-short short = (too-short checks bytes _ (q .quiet) exact short, sixteen)
-
-  -- the line was put at the front of the buffer
-  module _ {room : ℕ} {buffer buffer′ : List ℕ} (enough : size ≤ room) (put : buffer′ ≡ putAt buffer 0 bytes) where
-    pub line-answered : {written : ℕ}
-        → Yields (lineAnswer checks table ceiling room) 0 buffer buffer′ written size × (_≡_ {A = ℕ} 0 0 → HoldsLatest table ceiling buffer′)
-    unfolding lineAnswer
-    line-answered = (answered checks bytes room (q .quiet) exact enough put, λ _. line-holds table (q .accepted) c buffer put)
+pub line-judged : {table : List ℕ} {checks : List Check} → QuietCall table checks → {ceiling : List ℕ} → Ceiling (decode table) ceiling
+    → Judged (linePromise checks table ceiling)
+line-judged {table} q {ceiling} c = record {
+  quiet = q .quiet;
+  sized = omega (arith, length-u16s (lineUnder (decode table .messages) ceiling), under-length (decode table) ceiling c);
+  leaves = λ buffer put. line-holds table (q .accepted) c buffer put;
+}
 
 pub ceilings-accepted : {table ceilings : List ℕ} → QuietCall table (lineUnderChecks table ceilings) → Ceiling (decode table) ceilings
 unfolding lineUnderChecks tableChecks caughtBy

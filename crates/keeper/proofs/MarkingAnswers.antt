@@ -1,19 +1,18 @@
 -- The answers of the line by marking.
---     Promised               all that the call promises
+--     Marks                  all that the call promises
 --     marked-refused, marked-short, marked-answered    where a check before 16 catches, where 16 does, and where none does
 --     marked-under           where the mark buffer is long enough, the answer is that of the line under ceilings, byte for byte, and refused alike
 -- Assumes nothing.
 use mathlib.Core.List.{List, [], _∷_, append-assoc}
-use mathlib.Core.Path.{_≡_, refl, ap, _∙_}
-use Prim.Native.Nat.{ℕ, zero, suc, _≤_, _<_}
+use mathlib.Core.Path.{_≡_, refl, ap, _∙_, subst}
+use Prim.Native.Nat.{ℕ, zero, suc, _*_, _≤_, _<_}
 use borrow.Author.Tests.{le-ltb}
 use lib.Dec.{ltb}
 use lib.ListN.{length}
-use Rattle.consistency.proofs.CeilingLaws.{under-length}
 use Rattle.consistency.specs.Ceilings.{Ceiling}
 use Rattle.consistency.specs.Lowering.{lineUnder}
-use Rattle.keeper.proofs.AnswerLaws.{answered, refused, sixteen, too-short}
-use Rattle.keeper.proofs.LineAnswers.{line-answered, line-refused, line-short}
+use Rattle.keeper.proofs.AnswerLaws.{call-answered, call-refused, call-short, sixteen}
+use Rattle.keeper.proofs.LineAnswers.{line-judged}
 use Rattle.keeper.specs.Answers.{Yields, answer, unless}
 use Rattle.keeper.specs.Calls.{HoldsLatest, YieldsByMarking, lineAnswer, lineUnderAnswer, markedLineAnswer, marksAfter}
 use Rattle.marked_line.specs.Marking.{PutByMarking}
@@ -31,8 +30,8 @@ use Rattle.tables.specs.Numbers.{putAt, u16s}
 use Rattle.tables.specs.Table.{processCount}
 
 -- All that the call promises: what it yields, the mark buffer afterwards, the same by the line under ceilings, and that this is the latest one.
-abbrev pub Promised : List ℕ → List ℕ → ℕ → ℕ → List ℕ → List ℕ → List ℕ → List ℕ → ℕ → ℕ → Type 0
-Promised table ceilings room number marks marks′ buffer buffer′ written written′ =
+abbrev pub Marks : List ℕ → List ℕ → ℕ → ℕ → List ℕ → List ℕ → List ℕ → List ℕ → ℕ → ℕ → Type 0
+Marks table ceilings room number marks marks′ buffer buffer′ written written′ =
     YieldsByMarking table ceilings (length marks) room number buffer buffer′ written written′
     × ((marks′ ≡ marksAfter number table marks)
     × (Yields (markedLineAnswer table ceilings (length marks) room) number buffer buffer′ written written′
@@ -44,49 +43,39 @@ unfolding marksAfter
 unchanged zero table marks nonzero = absurd (nonzero refl)
 unchanged (suc n) table marks nonzero = refl
 
-pub marked-refused : (table ceilings : List ℕ) (room : ℕ) (marks : List ℕ) {r : ℕ} {buffer : List ℕ} {written : ℕ}
-    → r ≡ firstCaught (markedLineChecks table ceilings (length marks)) → (r ≡ 0 → ⊥)
-    → Promised table ceilings room r marks marks buffer buffer written written
-unfolding markedLineAnswer
-marked-refused table ceilings room marks e nonzero = (
-  record { roots = []; by-marking = λ none. absurd (nonzero (e ∙ none)); yields = refused _ _ room e nonzero },
-  (unchanged _ table marks nonzero, line-refused table _ ceilings room e nonzero),
-)
+module _ (table ceilings : List ℕ) (room : ℕ) (marks : List ℕ) {r : ℕ} {buffer : List ℕ} {written : ℕ} where
+  pub marked-refused : r ≡ firstCaught (markedLineChecks table ceilings (length marks)) → (r ≡ 0 → ⊥)
+      → Marks table ceilings room r marks marks buffer buffer written written
+  unfolding markedLineAnswer lineAnswer
+  marked-refused e nonzero =
+      let line = call-refused _ _ room e nonzero in
+      (record { roots = _; by-marking = λ none. absurd (nonzero (e ∙ none)); yields = line .0 }, (unchanged _ table marks nonzero, line))
 
 -- none of them catches, and the size of a line was found
 module _ {table ceilings : List ℕ} (marks : List ℕ) (q : QuietCall table (markedLineChecks table ceilings (length marks))) (c : Ceiling
     (decode table) ceilings)
-    {size : ℕ} (sized : (line : List ℕ) → length line ≡ processCount (decode table) → size ≡ length (u16s line)) where
+    {size : ℕ} (found : size ≡ 2 * processCount (decode table)) where
   agrees : SameLine (decode table) ceilings
   agrees = same-line (decode table) (facts table (q .accepted) .well-formed) ceilings c
 
-  root-count : {roots : List ℕ} → EndsWith (decode table) ceilings roots → length roots ≡ processCount (decode table)
-  root-count ends = ap length (agrees .same _ ends) ∙ under-length (decode table) ceilings c
+  ends : EndsWith (decode table) ceilings (lineUnder (decode table .messages) ceilings)
+  ends = subst (EndsWith (decode table) ceilings) (agrees .same _ (agrees .ends .1)) (agrees .ends .1)
 
   pub marked-short : {room : ℕ} {buffer : List ℕ} {written : ℕ} → room < size
-      → Promised table ceilings room 16 marks marks buffer buffer written written
-  unfolding markedLineAnswer
+      → Marks table ceilings room 16 marks marks buffer buffer written written
+  unfolding markedLineAnswer lineAnswer
   marked-short short =
-      let ends = agrees .ends in (
-        record { roots = ends .0; by-marking = λ _. ends .1; yields = too-short _ _ _ (q .quiet) (sized (ends .0) (root-count (ends .1))) short },
-        (unchanged 16 table marks sixteen, line-short q c sized short),
-      )
+      let line = call-short (line-judged q c) found short in
+      (record { roots = _; by-marking = λ _. ends; yields = line .0 }, (unchanged 16 table marks sixteen, line))
 
   pub marked-answered : {room : ℕ} {marks′ buffer buffer′ : List ℕ} {written : ℕ} → size ≤ room
       → marks′ ≡ cleared (marksSize (decode table)) marks → PutByMarking (decode table) ceilings buffer buffer′
-      → Promised table ceilings room 0 marks marks′ buffer buffer′ written size
-  unfolding markedLineAnswer marksAfter
-  marked-answered {buffer = buffer} enough clear put = (
-    record {
-      roots = put .roots;
-      by-marking = λ _. put .by-marking;
-      yields = answered _ _ _ (q .quiet) (sized (put .roots) (root-count (put .by-marking))) enough (put .put);
-    },
-    (
-      clear,
-      line-answered q c sized enough (put .put ∙ ap (λ (l : List ℕ). putAt buffer 0 (u16s l)) (agrees .same _ (put .by-marking))),
-    ),
-  )
+      → Marks table ceilings room 0 marks marks′ buffer buffer′ written size
+  unfolding markedLineAnswer lineAnswer marksAfter
+  marked-answered {buffer = buffer} enough clear put =
+      let same = ap (λ (l : List ℕ). putAt buffer 0 (u16s l)) (agrees .same _ (put .by-marking)) in
+      let line = call-answered (line-judged q c) found enough (put .put ∙ same) in
+      (record { roots = _; by-marking = λ _. ends; yields = line .0 }, (clear, line))
 
 -- 19 is the one check more, so where it catches nothing both calls answer alike, also where the table or the ceilings are refused, or the
 -- answer's buffer is too short.

@@ -8,18 +8,18 @@
 use mathlib.Core.Bool.{Bool, true, false, not, true≢false, _||_}
 use mathlib.Core.List.{List, [], _∷_}
 use mathlib.Core.Path.{_≡_, refl, sym, ap, _∙_, subst⁻¹}
-use Prim.Native.Nat.{ℕ, _≤_, _<_}
+use Prim.Native.Nat.{ℕ, _*_, _≤_, _<_}
 use native.Mathlib.Omega.{arith}
 use borrow.Author.Tests.{eq-eqb, eqb-true, not-false}
 use lib.Dec.{ltb}
 use lib.ListN.{length, take}
-use Rattle.consistency.proofs.CeilingLaws.{ceiling-quiet, under-length}
+use Rattle.consistency.proofs.CeilingLaws.{ceiling-quiet}
 use Rattle.consistency.specs.Ceilings.{Ceiling}
 use Rattle.consistency.specs.Lines.{AtOrBelow, Line, asLine}
 use Rattle.steps.proofs.StepLaws.{rising}
 use Rattle.steps.specs.Steps.{notRising}
-use Rattle.keeper.proofs.AnswerLaws.{answered, put-in-front, refused, sixteen, too-short}
-use Rattle.keeper.proofs.LineAnswers.{numbers-read}
+use Rattle.keeper.proofs.AnswerLaws.{Judged, answered, call-answered, call-short, put-in-front, refused, sixteen}
+use Rattle.keeper.proofs.LineAnswers.{line-judged, linePromise, numbers-read}
 use Rattle.keeper.specs.Answers.{Yields, answer, unless}
 use Rattle.keeper.specs.Calls.{HoldsStanding, TellsTogether, lineAnswer, lineUnderAnswer, standTogetherAnswer, standingBytes}
 use Rattle.named_checkpoints.proofs.NamedLaws.{line-found, misses-found, parallel, place-inside}
@@ -29,7 +29,6 @@ use Rattle.refusals.specs.CallChecks.{lineUnderChecks, standTogetherChecks}
 use Rattle.tables.proofs.AcceptLaws.{facts}
 use Rattle.tables.proofs.CheckLaws.{append-passed, areRefusals, caughtBy, passed, quiet-none}
 use Rattle.tables.proofs.ListLaws.{or-false-left, or-false-right}
-use Rattle.tables.proofs.NumberLaws.{length-u16s}
 use Rattle.tables.specs.Arrays.{arrayOf}
 use Rattle.tables.specs.Checks.{Check, firstCaught, tableChecks}
 use Rattle.tables.specs.Format.{decode}
@@ -41,14 +40,14 @@ use Rattle.zigzag.specs.Names.{Names, unknownNamed}
 use Rattle.zigzag.specs.Together.{StandOn, Together, misses, namedCeiling, namedLine}
 
 -- All that the call promises: what it yields, and what it tells where no check before 16 catches.
-abbrev pub Promised : List ℕ → List ℕ → List ℕ → ℕ → ℕ → List ℕ → List ℕ → ℕ → ℕ → Type 0
-Promised table processes states room number buffer buffer′ written written′ =
+abbrev pub Stands : List ℕ → List ℕ → List ℕ → ℕ → ℕ → List ℕ → List ℕ → ℕ → ℕ → Type 0
+Stands table processes states room number buffer buffer′ written written′ =
     Yields (standTogetherAnswer table processes states room) number buffer buffer′ written written′
     × (firstCaught (standTogetherChecks table processes states) ≡ 0 → TellsTogether (decode table) processes states number buffer′ written′)
 
 pub standing-refused : (table processes states : List ℕ) (room : ℕ) {r : ℕ} {buffer : List ℕ} {written : ℕ}
     → r ≡ firstCaught (standTogetherChecks table processes states) → (r ≡ 0 → ⊥)
-    → Promised table processes states room r buffer buffer written written
+    → Stands table processes states room r buffer buffer written written
 unfolding standTogetherAnswer
 standing-refused table processes states room e nonzero = (refused _ _ room e nonzero, λ none. absurd (nonzero (e ∙ none)))
 
@@ -91,7 +90,7 @@ module _ (table processes states : List ℕ) (q : QuietCall table (standTogether
 
   -- one of the names is not on the line
   pub standing-no : misses processes states line ≡ true → (room : ℕ) {buffer : List ℕ} {written : ℕ}
-      → Promised table processes states room 0 buffer buffer written 0
+      → Stands table processes states room 0 buffer buffer written 0
   unfolding standTogetherAnswer standingBytes
   standing-no e room {buffer} = (
     rw e (answered _ [] room (q .quiet) refl (omega arith) (sym (put-in-front buffer []))),
@@ -99,24 +98,23 @@ module _ (table processes states : List ℕ) (q : QuietCall table (standTogether
   )
 
   -- all of them are, and the size of a line was found
-  module _ (e : misses processes states line ≡ false) {size : ℕ} (sized : (l : List ℕ) → length l ≡ processCount t → size ≡ length (u16s l)) where
-    exact : size ≡ length (u16s line)
-    unfolding namedLine
-    exact = sized _ (under-length t (namedCeiling t processes states) ceiling)
+  module _ (e : misses processes states line ≡ false) {size : ℕ} (found : size ≡ 2 * processCount t) where
+    judged : Judged (linePromise (standTogetherChecks table processes states) table (namedCeiling t processes states))
+    judged = line-judged q ceiling
 
     pub standing-short : {room : ℕ} {buffer : List ℕ} {written : ℕ} → room < size
-        → Promised table processes states room 16 buffer buffer written written
-    unfolding standTogetherAnswer standingBytes
-    standing-short {room} short = (
-      rw e (too-short _ (u16s line) room (q .quiet) exact short),
+        → Stands table processes states room 16 buffer buffer written written
+    unfolding standTogetherAnswer standingBytes namedLine
+    standing-short short = (
+      rw e (call-short judged found short .0),
       λ _. record { no = (λ zero. sixteen (zero .0), λ z. absurd (true≢false (sym (agrees .told .1 z) ∙ e))); yes = sixteen },
     )
 
     -- the line was put at the front of the buffer
-    module _ {room : ℕ} (buffer : List ℕ) {buffer′ : List ℕ} (enough : size ≤ room) {array : List ℕ} (found : array ≡ arrayOf line)
+    module _ {room : ℕ} (buffer : List ℕ) {buffer′ : List ℕ} (enough : size ≤ room) {array : List ℕ} (in-array : array ≡ arrayOf line)
         (put-array : buffer′ ≡ putAt buffer 0 (u16s (take (processCount t) array))) where
       put : buffer′ ≡ putAt buffer 0 (u16s line)
-      put = put-array ∙ ap (λ (l : List ℕ). putAt buffer 0 (u16s l)) (line-found table (q .accepted) processes states found)
+      put = put-array ∙ ap (λ (l : List ℕ). putAt buffer 0 (u16s l)) (line-found table (q .accepted) processes states in-array)
 
       held : HoldsStanding t processes states buffer′
       unfolding HoldsStanding namedLine
@@ -126,10 +124,10 @@ module _ (table processes states : List ℕ) (q : QuietCall table (standTogether
           (numbers-read table (q .accepted) ceiling buffer put)
           (agrees .stands (λ z. true≢false (sym (agrees .told .1 z) ∙ e)), agrees .latest)
 
-      pub standing-yes : {written : ℕ} → Promised table processes states room 0 buffer buffer′ written size
+      pub standing-yes : {written : ℕ} → Stands table processes states room 0 buffer buffer′ written size
       unfolding standTogetherAnswer standingBytes namedLine
       standing-yes = (
-        rw e (answered _ (u16s line) room (q .quiet) exact enough put),
+        rw e (call-answered judged found enough put .0),
         λ _. record {
           no = (λ zero. absurd (nonzero (zero .1)), λ z. absurd (true≢false (sym (agrees .told .1 z) ∙ e)));
           yes = λ _ _. held;
@@ -137,15 +135,7 @@ module _ (table processes states : List ℕ) (q : QuietCall table (standTogether
       )
         where
           nonzero : size ≡ 0 → ⊥
-          nonzero z =
-              omega (
-                arith,
-                z,
-                exact,
-                length-u16s line,
-                under-length t (namedCeiling t processes states) ceiling,
-                facts table (q .accepted) .well-formed .some-process,
-              )
+          nonzero z = omega (arith, z, found, facts table (q .accepted) .well-formed .some-process)
 
   -- The names' ceiling passes 17 and 18; so a yes is the answer of the line under it, also where the buffer is too short.
   pub stand-under : misses processes states line ≡ false → (room : ℕ)

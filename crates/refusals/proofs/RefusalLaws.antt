@@ -21,8 +21,9 @@ use native.Mathlib.Omega.{arith}
 use borrow.Author.Tests.{le-leb, le-ltb, lt-leb, lt-ltb, ltb-false}
 use lib.Dec.{leb, ltb}
 use Rattle.marks.specs.Room.{marksSize}
-use Rattle.steps.specs.Steps.{receiptChecks}
-use Rattle.refusals.specs.CallChecks.{checkpointCallChecks, keepSheetChecks, lineUnderChecks, markedLineChecks, onTable, receiptCallChecks}
+use Rattle.steps.specs.Steps.{receiptChecks, sendChecks}
+use Rattle.refusals.specs.CallChecks.{checkpointCallChecks, keepSheetChecks, lineOfSetChecks, lineUnderChecks, markedLineChecks, onTable}
+use Rattle.refusals.specs.CallChecks.{receiptCallChecks, sendCallChecks, standTogetherChecks}
 use Rattle.tables.proofs.CheckLaws.{append-alike, append-passed, areRefusals, caught-first, caughtBy, passed, quiet-front, quiet-none, quiet-number}
 use Rattle.tables.proofs.CheckLaws.{stopped, table-refusals}
 use Rattle.tables.specs.Checks.{Check, firstCaught, tableChecks, tableRefusal}
@@ -76,13 +77,10 @@ module _ {table : List ℕ} {checks : List Check} (q : QuietCall table checks) (
   pub last-quiet : last .caught ≡ false → 0 ≡ firstCaught (checks ++ (last ∷ []))
   last-quiet e = past (passed last [] 0 e quiet-none)
 
-quiet-front-call : (table : List ℕ) (own last : List Check) {r : ℕ} → r ≡ firstCaught (onTable table own ++ last) → r ≡ 0
-    → areRefusals own ≡ true → QuietCall table (onTable table own)
-quiet-front-call table own last e none refusals = quiet-call table own refusals refl (quiet-front (onTable table own) last (sym e ∙ none))
-
-quiet-longer : {table : List ℕ} {checks : List Check} → QuietCall table checks → (last : List Check) {r : ℕ} → r ≡ firstCaught (checks ++ last)
-    → r ≡ 0 → areRefusals (checks ++ last) ≡ true → QuietCall table (checks ++ last)
-quiet-longer front last e none refusals = record { accepted = front .accepted; quiet = record { refusals = refusals; quiet = sym e ∙ none } }
+-- none of a longer list catches
+quiet-front-call : {table : List ℕ} (checks last : List Check) → areRefusals checks ≡ true → QuietCall table (checks ++ last) → QuietCall table checks
+quiet-front-call checks last refusals q =
+    record { accepted = q .accepted; quiet = record { refusals = refusals; quiet = quiet-front checks last (q .quiet .quiet) } }
 
 module _ (a b : Bool) where
   pub first-of : a ≡ true → (a || b) ≡ true
@@ -114,35 +112,59 @@ module _ {n m i : ℕ} (read : n ≡ m) where
   pub read-long : n ≤ i → ltb i m ≡ false
   read-long h = le-ltb i m (omega arith)
 
--- ---- the mark buffer of the line by marking
--- where no check of the call catches, none of the line under ceilings does, and the buffer is long enough
-module _ (table ceilings : List ℕ) (bytes : ℕ) {r : ℕ} (e : r ≡ firstCaught (markedLineChecks table ceilings bytes)) (none : r ≡ 0) where
-  pub quiet-ceilings : QuietCall table (lineUnderChecks table ceilings)
-  unfolding markedLineChecks lineUnderChecks areRefusals
-  quiet-ceilings = quiet-front-call table _ _ e none refl
+-- ---- the lists of checks, none of which catches; where one begins with another, none of that catches either
+module _ (table : List ℕ) where
+  pub quiet-table : {r : ℕ} → r ≡ tableRefusal table → r ≡ 0 → QuietCall table (tableChecks table)
+  unfolding tableRefusal tableChecks areRefusals
+  quiet-table = quiet-call table [] refl
 
-  pub quiet-marking : QuietCall table (markedLineChecks table ceilings bytes)
+  pub quiet-set : (set : ℕ) {r : ℕ} → r ≡ firstCaught (lineOfSetChecks table set) → r ≡ 0 → QuietCall table (lineOfSetChecks table set)
+  unfolding lineOfSetChecks areRefusals
+  quiet-set set = quiet-call table _ refl
+
+  pub quiet-under : (ceilings : List ℕ) {r : ℕ} → r ≡ firstCaught (lineUnderChecks table ceilings) → r ≡ 0 → QuietCall table (lineUnderChecks table ceilings)
+  unfolding lineUnderChecks areRefusals
+  quiet-under ceilings = quiet-call table _ refl
+
+  pub quiet-marking : (ceilings : List ℕ) (bytes : ℕ) {r : ℕ} → r ≡ firstCaught (markedLineChecks table ceilings bytes) → r ≡ 0
+      → QuietCall table (markedLineChecks table ceilings bytes)
   unfolding markedLineChecks lineUnderChecks tableChecks areRefusals
-  quiet-marking = quiet-longer quiet-ceilings _ e none refl
+  quiet-marking ceilings bytes = quiet-call table _ refl
 
-  pub marks-long : marksSize (decode table) ≤ bytes
-  unfolding markedLineChecks lineUnderChecks tableChecks caughtBy
-  marks-long = ltb-false bytes (marksSize (decode table)) (quiet-by quiet-marking 19)
+  pub quiet-names : (processes states : List ℕ) {r : ℕ} → r ≡ firstCaught (standTogetherChecks table processes states) → r ≡ 0
+      → QuietCall table (standTogetherChecks table processes states)
+  unfolding standTogetherChecks areRefusals
+  quiet-names processes states = quiet-call table _ refl
 
--- ---- a receipt; a checkpoint, behind it
-pub quiet-receiving : (table : List ℕ) (i : ℕ) (list : List ℕ) {r : ℕ} → r ≡ firstCaught (receiptCallChecks table i list) → r ≡ 0
-    → QuietCall table (receiptCallChecks table i list)
-unfolding receiptCallChecks receiptChecks areRefusals
-quiet-receiving table i list e none = quiet-call table _ refl e none
+  pub quiet-send : (j i : ℕ) {r : ℕ} → r ≡ firstCaught (sendCallChecks table j i) → r ≡ 0 → QuietCall table (sendCallChecks table j i)
+  unfolding sendCallChecks sendChecks areRefusals
+  quiet-send j i = quiet-call table _ refl
 
-module _ (table : List ℕ) (i : ℕ) (list : List ℕ) {r : ℕ} (e : r ≡ firstCaught (checkpointCallChecks table i list)) (none : r ≡ 0) where
-  pub quiet-receipt : QuietCall table (receiptCallChecks table i list)
-  unfolding checkpointCallChecks receiptCallChecks receiptChecks areRefusals
-  quiet-receipt = quiet-front-call table _ _ e none refl
+  pub quiet-receive : (i : ℕ) (list : List ℕ) {r : ℕ} → r ≡ firstCaught (receiptCallChecks table i list) → r ≡ 0 → QuietCall table (receiptCallChecks table i list)
+  unfolding receiptCallChecks receiptChecks areRefusals
+  quiet-receive i list = quiet-call table _ refl
 
-  pub quiet-checkpoint : QuietCall table (checkpointCallChecks table i list)
+  pub quiet-save : (i : ℕ) (list : List ℕ) {r : ℕ} → r ≡ firstCaught (checkpointCallChecks table i list) → r ≡ 0
+      → QuietCall table (checkpointCallChecks table i list)
   unfolding checkpointCallChecks receiptCallChecks receiptChecks tableChecks areRefusals
-  quiet-checkpoint = quiet-longer quiet-receipt _ e none refl
+  quiet-save i list = quiet-call table _ refl
+
+  pub quiet-sheet : (numbers : ℕ) {r : ℕ} → r ≡ firstCaught (keepSheetChecks table numbers) → r ≡ 0 → QuietCall table (keepSheetChecks table numbers)
+  unfolding keepSheetChecks areRefusals
+  quiet-sheet numbers = quiet-call table _ refl
+
+  module _ (ceilings : List ℕ) (bytes : ℕ) (q : QuietCall table (markedLineChecks table ceilings bytes)) where
+    pub quiet-ceilings : QuietCall table (lineUnderChecks table ceilings)
+    unfolding markedLineChecks lineUnderChecks tableChecks areRefusals
+    quiet-ceilings = quiet-front-call _ _ refl q
+
+    pub marks-long : marksSize (decode table) ≤ bytes
+    unfolding markedLineChecks lineUnderChecks tableChecks caughtBy
+    marks-long = ltb-false bytes (marksSize (decode table)) (quiet-by q 19)
+
+  pub quiet-receipt : (i : ℕ) (list : List ℕ) → QuietCall table (checkpointCallChecks table i list) → QuietCall table (receiptCallChecks table i list)
+  unfolding checkpointCallChecks receiptCallChecks receiptChecks tableChecks areRefusals
+  quiet-receipt i list = quiet-front-call _ _ refl
 
 -- ---- the scratch of a keep sheet
 module _ (table : List ℕ) where

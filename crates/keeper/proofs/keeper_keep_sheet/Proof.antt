@@ -3,22 +3,17 @@
 use borrow.Author.Needs.{needs}
 use native.Mathlib.Omega.{arith}
 use mathlib.Core.List.{List}
-use mathlib.Core.Path.{_≡_, refl}
 use Prim.Native.Nat.{ℕ}
 use denote.Ref.{now}
 use lib.ListN.{length}
 use Rattle.holder_lines.proofs.ScratchLaws.{lines-stand}
 use Rattle.holder_lines.specs.Scratch.{LinesOf}
-use Rattle.keep_sheet.proofs.FewLaws.{kept-few, sheet-length}
-use Rattle.keep_sheet.specs.Sheet.{sheet}
-use Rattle.keeper.proofs.AnswerLaws.{answered, refused, sixteen, too-short}
-use Rattle.refusals.proofs.RefusalLaws.{QuietCall, quiet-call, scratch-long}
-use Rattle.keeper.proofs.SheetBytes.{sheet-holds}
-use Rattle.keeper.proofs.SheetAnswer.{scratch-filled, scratch-kept}
+use Rattle.keep_sheet.proofs.FewLaws.{kept-few}
+use Rattle.keeper.proofs.AnswerLaws.{Judged, call-answered, call-refused, call-short}
+use Rattle.refusals.proofs.RefusalLaws.{QuietCall, quiet-sheet, scratch-long}
+use Rattle.keeper.proofs.SheetAnswer.{scratch-filled, scratch-kept, sheet-judged, sheetPromise}
 use Rattle.keeper.specs.Calls.{keepSheetAnswer}
 use Rattle.refusals.specs.CallChecks.{keepSheetChecks}
-use Rattle.tables.proofs.CheckLaws.{areRefusals}
-use Rattle.tables.specs.Format.{decode}
 use Rattle.keeper.proofs.keeper_keep_sheet.Statement.{statement}
 use Rattle.keeper.proofs.keeper_keep_sheet.Tie as tie
 
@@ -38,21 +33,23 @@ counted c = c .before .before
 abbrev sized : tie.After-put-sheet → tie.After-sheet-size
 sized c = c .before .before .before .before
 
--- ---- what is known there: no check before 16 catches; the scratch has the lines; the size is the answer's
+-- ---- what is known there: no check before 16 catches; the scratch has the lines; the sheet is the answer
 abbrev table : tie.Else1 → List ℕ
 table c = now (entry c .args .table)
 
 quiet : (c : tie.Else1) → QuietCall (table c) (keepSheetChecks (table c) (length (now (entry c .args .scratch))))
-unfolding keepSheetChecks areRefusals
-quiet c = quiet-call _ _ refl (c .before .sheet-refusal .ensures) (c .if1 .left)
+quiet c = quiet-sheet _ _ (c .before .sheet-refusal .ensures) (c .if1 .left)
 
 lined : (c : tie.After-fill-lines) → LinesOf (table (judged c)) (c .fill-lines .last .1 .0)
 lined c =
     let here = quiet (judged c) in
     record { accepted = here .accepted; lines = lines-stand _ _ _ (scratch-long _ _ (here .quiet)) (c .fill-lines .ensures) }
 
-size : (c : tie.After-sheet-size) → c .sheet-size .result ≡ length (sheet (decode (table (judged (filled (counted (c .before)))))))
-size c = c .sheet-size .ensures _ (counted (c .before) .count-checkpoints .ensures) (c .before .count-messages .ensures)
+sheeted : (c : tie.After-count-messages)
+    → (let here = judged (filled (counted c)) in
+    Judged
+    (sheetPromise (table here) (length (now (entry here .args .scratch))) (counted c .count-checkpoints .result) (c .count-messages .result)))
+sheeted c = sheet-judged _ (quiet (judged (filled (counted c)))) (counted c .count-checkpoints .ensures) (c .count-messages .ensures)
 
 -- ---- the needs, in the code's course
 pub keeper-keep-sheet-spec : {M : Type 1} → statement M
@@ -64,7 +61,8 @@ keeper-keep-sheet-spec =
     -- a check before 16
     (λ c.
     let found = c .before .sheet-refusal .ensures in
-    (refused _ _ _ found (c .if1 .taken), (scratch-kept _ _ found (c .if1 .taken), λ e. absurd (c .if1 .taken e))))
+    let kept = call-refused _ _ _ found (c .if1 .taken) in
+    (kept .0, (scratch-kept _ _ found (c .if1 .taken), kept .1)))
     -- asked by `fill_lines`, `count_checkpoints`, `count_messages` and `sheet_size`
     (λ c κs.
     let here = quiet (c .before) in
@@ -77,9 +75,10 @@ keeper-keep-sheet-spec =
     (λ c. search needs)
     -- 16
     (λ c.
-    let full = filled (counted (c .before .before)) in
-    let q = quiet (judged full) .quiet in
-    (too-short _ _ _ q (size (c .before)) (c .if2 .taken), (scratch-filled _ _ q _ (full .fill-lines .ensures), sixteen)))
+    let size = c .before .before in
+    let full = filled (counted size) in
+    let short = call-short (sheeted size) (c .before .sheet-size .ensures) (c .if2 .taken) in
+    (short .0, (scratch-filled _ _ (quiet (judged full) .quiet) _ (full .fill-lines .ensures), short .1)))
     -- asked by `put_sheet`
     (λ c κs.
     let long = c .before .before in
@@ -88,16 +87,14 @@ keeper-keep-sheet-spec =
       given = lined (filled k);
       kept-is = k .count-checkpoints .ensures;
       logged-is = long .before .before .count-messages .ensures;
-      room = omega (arith, long .if2 .left, size (long .before), sheet-length (decode (table (judged (filled k)))));
+      room = search needs;
     })
     (λ c. search needs)
     (λ c. search needs)
     -- the answer
     (λ c.
     let put = c .before .before in
-    let full = filled (counted (sized put .before)) in
-    let here = quiet (judged full) in
-    let sheet = put .put-sheet .ensures in (
-      answered _ _ _ (here .quiet) (size (sized put)) (put .before .before .before .if2 .left) sheet,
-      (scratch-filled _ _ (here .quiet) _ (full .fill-lines .ensures), λ _. sheet-holds _ (here .accepted) _ _ sheet),
-    )))
+    let size = sized put in
+    let full = filled (counted (size .before)) in
+    let all = call-answered (sheeted (size .before)) (size .sheet-size .ensures) (put .before .before .before .if2 .left) (put .put-sheet .ensures) in
+    (all .0, (scratch-filled _ _ (quiet (judged full) .quiet) _ (full .fill-lines .ensures), all .1))))

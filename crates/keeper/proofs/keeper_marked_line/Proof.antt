@@ -4,7 +4,7 @@ use borrow.Author.Needs.{needs}
 use denote.Ref.{now}
 use lib.ListN.{length}
 use Rattle.consistency.specs.Ceilings.{Ceiling}
-use Rattle.keeper.proofs.LineAnswers.{ceilings-accepted, line-room}
+use Rattle.keeper.proofs.LineAnswers.{ceilings-accepted}
 use Rattle.keeper.proofs.MarkingAnswers.{marked-answered, marked-refused, marked-short}
 use Rattle.refusals.proofs.RefusalLaws.{QuietCall, marks-long, quiet-ceilings, quiet-marking}
 use Rattle.refusals.specs.CallChecks.{markedLineChecks}
@@ -31,7 +31,7 @@ quiet c = quiet-marking _ _ _ (c .before .marking-refusal .ensures) (c .if1 .lef
 ceiling : (c : tie.Else1)
     → (let args = entry c .args in
     Ceiling (decode (now (args .table))) (now (args .ceilings)))
-ceiling c = ceilings-accepted (quiet-ceilings _ _ _ (c .before .marking-refusal .ensures) (c .if1 .left))
+ceiling c = ceilings-accepted (quiet-ceilings _ _ _ (quiet c))
 
 -- ---- the needs, in the code's course
 pub keeper-marked-line-spec : {M : Type 1} → statement M
@@ -54,7 +54,7 @@ keeper-marked-line-spec =
       quiet here .accepted,
       (
         ceiling here,
-        (marks-long _ _ _ (here .before .marking-refusal .ensures) (here .if1 .left), line-room _ (size .line-size .ensures) (c .before .before .if2 .left)),
+        (marks-long _ _ _ (quiet here), search needs),
       ),
     ))
     (λ c. search needs)

@@ -1,57 +1,45 @@
 -- `keeper_recovery_line` meets its contract, at each return.
 -- Assumes nothing.
 use borrow.Author.Needs.{needs}
-use mathlib.Core.List.{[]}
-use mathlib.Core.Path.{refl}
 use denote.Ref.{now}
 use Rattle.consistency.proofs.CeilingLaws.{set-ceiling}
 use Rattle.consistency.specs.Ceilings.{lineOf, recoveryLine}
-use Rattle.keeper.proofs.LineAnswers.{line-answered, line-refused, line-room, line-short, recovery-put}
-use Rattle.refusals.proofs.RefusalLaws.{QuietCall, quiet-call}
-use Rattle.keeper.specs.Calls.{recoveryLineAnswer}
+use Rattle.keeper.proofs.AnswerLaws.{call-answered, call-refused, call-short}
+use Rattle.keeper.proofs.LineAnswers.{line-judged, recovery-put}
+use Rattle.keeper.specs.Calls.{lineAnswer, recoveryLineAnswer}
 use Rattle.process_set.specs.Sets.{allProcesses}
-use Rattle.tables.proofs.CheckLaws.{areRefusals}
+use Rattle.refusals.proofs.RefusalLaws.{QuietCall, quiet-table}
 use Rattle.tables.specs.Checks.{tableChecks, tableRefusal}
 use Rattle.keeper.proofs.keeper_recovery_line.Statement.{statement}
 use Rattle.keeper.proofs.keeper_recovery_line.Tie as tie
 
--- ---- the places: the entry; where no check before 16 caught; where the size was found
+-- ---- the places: the entry, from where no check before 16 caught
 abbrev entry : tie.Else1 → tie.Start
 entry c = c .before .before .before .before
 
-abbrev judged : tie.After-line-size → tie.Else1
-judged c = c .before
-
-abbrev sized : tie.After-put-line-of-set → tie.After-line-size
-sized c = c .before .before .before
-
 -- ---- what is known there: no check before 16 catches
 quiet : (c : tie.Else1) → QuietCall (now (entry c .args .table)) (tableChecks (now (entry c .args .table)))
-unfolding tableRefusal tableChecks areRefusals
-quiet c = quiet-call _ [] refl (c .before .check .ensures) (c .if1 .left)
+quiet c = quiet-table _ (c .before .check .ensures) (c .if1 .left)
 
 -- ---- the needs, in the code's course
 pub keeper-recovery-line-spec : {M : Type 1} → statement M
-unfolding recoveryLineAnswer tableRefusal recoveryLine lineOf allProcesses
+unfolding recoveryLineAnswer lineAnswer tableRefusal recoveryLine lineOf allProcesses
 keeper-recovery-line-spec =
     tie.close
     (tie.spec
     (λ c κs. search needs)
     -- a check before 16
-    (λ c. line-refused _ _ _ _ (c .before .check .ensures) (c .if1 .taken))
+    (λ c. call-refused _ _ _ (c .before .check .ensures) (c .if1 .taken))
     -- asked by `line_size`
     (λ c κs. quiet c .accepted)
     -- 16
-    (λ c. line-short (quiet (judged (c .before))) (set-ceiling _ _) (c .before .line-size .ensures) (c .if2 .taken))
+    (λ c. call-short (line-judged (quiet (c .before .before)) (set-ceiling _ _)) (c .before .line-size .ensures) (c .if2 .taken))
     -- asked by `put_line_of_set`
-    (λ c κs.
-    let size = c .before .before in
-    (quiet (judged size) .accepted, line-room _ (size .line-size .ensures) (c .before .if2 .left)))
+    (λ c κs. (quiet (c .before .before .before) .accepted, search needs))
     (λ c. search needs)
     -- the answer
     (λ c.
     let put = c .before .before in
-    let size = sized put in
-    let here = quiet (judged size) in
-    line-answered here (set-ceiling _ _) (size .line-size .ensures) (put .before .before .if2 .left)
-    (recovery-put _ (here .accepted) _ (put .put-line-of-set .ensures))))
+    let size = put .before .before .before in
+    call-answered (line-judged (quiet (size .before)) (set-ceiling _ _)) (size .line-size .ensures) (put .before .before .if2 .left)
+    (recovery-put _ (quiet (size .before) .accepted) _ (put .put-line-of-set .ensures))))

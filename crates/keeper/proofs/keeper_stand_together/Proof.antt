@@ -2,13 +2,11 @@
 -- Assumes nothing.
 use borrow.Author.Needs.{needs}
 use mathlib.Core.Bool.{false}
-use mathlib.Core.Path.{_≡_, refl}
+use mathlib.Core.Path.{_≡_}
 use denote.Ref.{now}
 use Rattle.keeper.proofs.StandingAnswers.{names-few, names-parallel, standing-no, standing-refused, standing-short, standing-yes, told}
-use Rattle.keeper.proofs.LineAnswers.{line-room}
-use Rattle.refusals.proofs.RefusalLaws.{QuietCall, quiet-call}
+use Rattle.refusals.proofs.RefusalLaws.{QuietCall, quiet-names}
 use Rattle.refusals.specs.CallChecks.{standTogetherChecks}
-use Rattle.tables.proofs.CheckLaws.{areRefusals}
 use Rattle.tables.specs.Format.{decode}
 use Rattle.zigzag.specs.Together.{misses, namedLine}
 use Rattle.keeper.proofs.keeper_stand_together.Statement.{statement}
@@ -34,8 +32,7 @@ sized c = c .before .before .before
 quiet : (c : tie.Else1)
     → (let args = entry c .args in
     QuietCall (now (args .table)) (standTogetherChecks (now (args .table)) (now (args .processes)) (now (args .states))))
-unfolding standTogetherChecks areRefusals
-quiet c = quiet-call _ _ refl (c .before .names-refusal .ensures) (c .if1 .left)
+quiet c = quiet-names _ _ _ (c .before .names-refusal .ensures) (c .if1 .left)
 
 has-names : (c : tie.Else2)
     → (let args = entry (judged (lined c)) .args in
@@ -68,7 +65,7 @@ keeper-stand-together-spec =
     -- asked by `put_line`
     (λ c κs.
     let size = c .before .before in
-    (quiet (judged (lined (standing size))) .accepted, line-room _ (size .line-size .ensures) (c .before .if3 .left)))
+    (quiet (judged (lined (standing size))) .accepted, search needs))
     (λ c. search needs)
     -- a yes
     (λ c.

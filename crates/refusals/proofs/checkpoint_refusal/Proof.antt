@@ -2,7 +2,7 @@
 -- Assumes nothing.
 use borrow.Author.Needs.{needs}
 use denote.Ref.{now}
-use Rattle.refusals.proofs.RefusalLaws.{QuietCall, last-caught, last-quiet, le-read, lt-read, quiet-receiving}
+use Rattle.refusals.proofs.RefusalLaws.{QuietCall, last-caught, last-quiet, le-read, lt-read, quiet-receive}
 use Rattle.refusals.specs.CallChecks.{checkpointCallChecks, receiptCallChecks}
 use Rattle.tables.proofs.CheckLaws.{caught-first}
 use Rattle.refusals.proofs.checkpoint_refusal.Statement.{statement}
@@ -16,7 +16,7 @@ entry c = c .before .before .before
 quiet : (c : tie.Else1)
     → (let args = entry (c .before) .args in
     QuietCall (now (args .table)) (receiptCallChecks (now (args .table)) (args .process) (now (args .list))))
-quiet c = quiet-receiving _ _ _ (c .before .receipt-refusal .ensures) (c .if1 .left)
+quiet c = quiet-receive _ _ _ (c .before .receipt-refusal .ensures) (c .if1 .left)
 
 -- ---- the needs, in the code's course
 pub checkpoint-refusal-spec : {M : Type 1} → statement M

@@ -1,8 +1,7 @@
--- `sizes::line_size` meets its contract: two bytes a number.
+-- `sizes::line_size` meets its contract: it does not overflow.
 -- Assumes nothing.
 use borrow.Author.Needs.{needs}
 use native.Mathlib.Omega.{arith}
-use Rattle.tables.proofs.NumberLaws.{length-u16s}
 use Rattle.tables.proofs.ReadLaws.{processes-few}
 use Rattle.keeper.proofs.sizes.line_size.Statement.{statement}
 use Rattle.keeper.proofs.sizes.line_size.Tie as tie
@@ -13,4 +12,4 @@ line-size-spec =
     (tie.spec
     (λ c κs. search needs)
     (λ c. omega (arith, processes-few _ (c .before .before .pre)))
-    (λ c line is. omega (arith, length-u16s line)))
+    (λ c. search needs))

