@@ -1,12 +1,14 @@
 -- What a call yields at each of its returns: where a check before 16 catches, where 16 alone does, and where nothing does.
 --     put-in-front       what is put at the front of a buffer
 --     refused, too-short, answered    what is yielded there
+--     answer-past        checks behind others, of which none catches
 --     Promise, Meets, Judged    a call that judges, finds the size of its answer and puts it: what it promises, of a return too; no
 --                        check before 16 catches
 --     call-refused, call-short, call-answered    what is promised holds there
 -- Assumes nothing.
-use mathlib.Core.List.{List, [], _∷_, _++_}
-use mathlib.Core.Path.{_≡_, refl, sym, _∙_, subst}
+use mathlib.Core.Bool.{true}
+use mathlib.Core.List.{List, [], _∷_, _++_, append-assoc}
+use mathlib.Core.Path.{_≡_, refl, sym, ap, _∙_, subst}
 use Prim.Native.Nat.{ℕ, zero, suc, _≤_, _<_}
 use native.Mathlib.Nat.{zero-add}
 use native.Mathlib.Omega.{arith}
@@ -15,7 +17,7 @@ use lib.Dec.{ltb}
 use lib.ListN.{length, drop}
 use Rattle.keeper.specs.Answers.{Yields, answer, bufferAfter, lengthAfter, numberOf, unless}
 use Rattle.refusals.proofs.RefusalLaws.{Quiet}
-use Rattle.tables.proofs.CheckLaws.{append-passed, caught-first, passed, quiet-none, stopped}
+use Rattle.tables.proofs.CheckLaws.{append-alike, append-passed, areRefusals, caught-first, passed, quiet-none, stopped}
 use Rattle.tables.specs.Checks.{Check, firstCaught}
 use Rattle.tables.specs.Numbers.{putAt}
 
@@ -59,6 +61,14 @@ module _ (checks : List Check) (bytes : List ℕ) (room : ℕ) where
     answered enough put =
         let past-all : firstCaught (checks ++ last) ≡ 0 = past ∙ passed _ _ _ (le-ltb room (length bytes) (omega arith)) quiet-none in
         rw past-all (record { number-is = refl; buffer-is = put ∙ put-in-front _ bytes; length-is = is })
+
+-- checks behind others, of which none catches: the answer is that by the others alone
+pub answer-past : (front own : List Check) → areRefusals own ≡ true → firstCaught own ≡ 0 → (bytes : List ℕ) (room : ℕ)
+    → answer (front ++ own) bytes room ≡ answer front bytes room
+unfolding answer
+answer-past front own refusals quiet bytes room =
+    ap (λ (n : ℕ). unless n bytes)
+    (ap firstCaught (append-assoc front own _) ∙ append-alike front _ (last front bytes room) (append-passed own _ refusals quiet))
 
 -- ---- a call that judges, finds the size of its answer and puts it
 -- What it promises: its checks before 16; the bytes of its answer, and how many; what it leaves in the buffer and in the length's place.

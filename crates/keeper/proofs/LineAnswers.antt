@@ -4,34 +4,33 @@
 --     linePromise, line-judged    what a line call promises, and where no check before 16 catches
 --     recovery-put       the line of all 32 bits is that under the ceiling of all processes
 --     ceilings-accepted  where no check of the call catches, the ceilings that were lent are a ceiling
+--     under-past         where they are one, the answer is by the table's checks alone
 --     set-under          where 12 catches nothing, the line of a set is the line under the set's ceiling, byte for byte, and refused alike
 -- Assumes nothing.
 use mathlib.Core.Bool.{false, not}
-use mathlib.Core.List.{List, [], _∷_, append-assoc}
+use mathlib.Core.List.{List}
 use mathlib.Core.Path.{_≡_, refl, sym, ap, _∙_, subst⁻¹}
 use Prim.Native.Nat.{ℕ, _*_, _<_}
 use native.Mathlib.Omega.{arith}
 use borrow.Author.Tests.{eq-eqb, eqb-true, not-false}
-use lib.Dec.{eqb, ltb}
 use lib.ListN.{length, getD, drop}
 use lib.Seq.{ext-getD}
 use Rattle.consistency.proofs.CeilingLaws.{ceiling-checked, ceiling-quiet, set-ceiling, under-below, under-length}
 use Rattle.consistency.proofs.LoweringLaws.{line-latest}
-use Rattle.consistency.specs.Ceilings.{Ceiling, aboveCounts, ceilingOf, lineOf, recoveryLine}
+use Rattle.consistency.specs.Ceilings.{Ceiling, ceilingOf, lineOf, recoveryLine}
 use Rattle.consistency.specs.Lines.{Latest, asLine}
 use Rattle.consistency.specs.Lowering.{lineUnder}
-use Rattle.keeper.proofs.AnswerLaws.{Judged, Promise, put-in-front}
-use Rattle.keeper.specs.Answers.{answer, unless}
+use Rattle.keeper.proofs.AnswerLaws.{Judged, Promise, answer-past, put-in-front}
 use Rattle.keeper.specs.Calls.{HoldsLatest, lineAnswer, lineOfSetAnswer, lineUnderAnswer}
 use Rattle.lines.proofs.LineReads.{all-hold}
 use Rattle.process_set.specs.Sets.{allProcesses, highBit, member}
-use Rattle.refusals.proofs.RefusalLaws.{QuietCall, own-same, quiet-by}
+use Rattle.refusals.proofs.RefusalLaws.{QuietCall, quiet-by}
 use Rattle.refusals.specs.CallChecks.{lineOfSetChecks, lineUnderChecks}
 use Rattle.tables.proofs.AcceptLaws.{facts}
-use Rattle.tables.proofs.CheckLaws.{caughtBy, passed}
+use Rattle.tables.proofs.CheckLaws.{areRefusals, caughtBy, passed, quiet-none}
 use Rattle.tables.proofs.ListLaws.{getD-tabulate, length-tabulate}
 use Rattle.tables.proofs.NumberLaws.{length-u16s, u16At-u16s}
-use Rattle.tables.specs.Checks.{Check, firstCaught, tableChecks, tableRefusal}
+use Rattle.tables.specs.Checks.{Check, tableChecks, tableRefusal}
 use Rattle.tables.specs.Format.{decode}
 use Rattle.tables.specs.Lists.{tabulate}
 use Rattle.tables.specs.Numbers.{putAt, u16At, u16s}
@@ -90,28 +89,17 @@ pub ceilings-accepted : {table ceilings : List ℕ} → QuietCall table (lineUnd
 unfolding lineUnderChecks tableChecks caughtBy
 ceilings-accepted q = ceiling-checked _ _ (eqb-true _ _ (not-false _ (quiet-by q 17))) (quiet-by q 18)
 
--- The ceiling of a set passes 17 and 18; so where 12 catches nothing either, both calls answer alike, also where the table is refused or
--- the buffer is too short.
+-- A ceiling passes 17 and 18.
+pub under-past : (table : List ℕ) {ceiling : List ℕ} → Ceiling (decode table) ceiling → (room : ℕ)
+    → lineUnderAnswer table ceiling room ≡ lineAnswer (tableChecks table) table ceiling room
+unfolding lineUnderAnswer lineAnswer lineUnderChecks areRefusals
+under-past table {ceiling} c room =
+    answer-past (tableChecks table) _ refl
+    (passed _ _ 0 (ap not (eq-eqb _ _ (c .for-each))) (passed _ _ 0 (ceiling-quiet (decode table) ceiling c) quiet-none)) _ room
+
+-- So where 12 catches nothing either, both calls answer alike, also where the table is refused or the buffer is too short.
 pub set-under : (table : List ℕ) (set : ℕ) → highBit set (processCount (decode table)) ≡ false
     → (room : ℕ) → lineOfSetAnswer table set room ≡ lineUnderAnswer table (ceilingOf (decode table) (member set)) room
-unfolding lineOfSetAnswer lineUnderAnswer lineAnswer answer lineOfSetChecks lineUnderChecks
+unfolding lineOfSetAnswer lineAnswer lineOfSetChecks areRefusals
 set-under table set quiet room =
-    ap (λ (n : ℕ). unless n (u16s (lineUnder (t .messages) ceiling)))
-    (ap firstCaught (append-assoc (tableChecks table) _ last)
-    ∙ own-same table _ _ (passed _ last _ quiet refl ∙ sym (passed _ _ _ all-there (passed _ last _ none-above refl)))
-    ∙ ap firstCaught (sym (append-assoc (tableChecks table) _ last)))
-  where
-    t : Table
-    t = decode table
-
-    ceiling : List ℕ
-    ceiling = ceilingOf t (member set)
-
-    last : List Check
-    last = record { caught = ltb room (length (u16s (lineUnder (t .messages) ceiling))); number = 16 } ∷ []
-
-    all-there : not (eqb (length ceiling) (processCount t)) ≡ false
-    all-there = ap not (eq-eqb _ _ (set-ceiling t (member set) .for-each))
-
-    none-above : aboveCounts t ceiling ≡ false
-    none-above = ceiling-quiet t ceiling (set-ceiling t (member set))
+    answer-past (tableChecks table) _ refl (passed _ _ 0 quiet quiet-none) _ room ∙ sym (under-past table (set-ceiling (decode table) (member set)) room)

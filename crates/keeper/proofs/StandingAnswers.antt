@@ -5,32 +5,30 @@
 --     stand-under        a yes is the line under the names' ceiling, as keeper_line_under answers it, byte for byte
 --     standing-refused, standing-no, standing-short, standing-yes    what the call yields and tells at each of its returns
 -- Assumes nothing.
-use mathlib.Core.Bool.{Bool, true, false, not, true≢false, _||_}
-use mathlib.Core.List.{List, [], _∷_}
+use mathlib.Core.Bool.{Bool, true, false, true≢false, _||_}
+use mathlib.Core.List.{List, []}
 use mathlib.Core.Path.{_≡_, refl, sym, ap, _∙_, subst⁻¹}
 use Prim.Native.Nat.{ℕ, _*_, _≤_, _<_}
 use native.Mathlib.Omega.{arith}
-use borrow.Author.Tests.{eq-eqb, eqb-true, not-false}
-use lib.Dec.{ltb}
-use lib.ListN.{length, take}
-use Rattle.consistency.proofs.CeilingLaws.{ceiling-quiet}
+use borrow.Author.Tests.{eqb-true, not-false}
+use lib.ListN.{take}
 use Rattle.consistency.specs.Ceilings.{Ceiling}
 use Rattle.consistency.specs.Lines.{AtOrBelow, Line, asLine}
 use Rattle.steps.proofs.StepLaws.{rising}
 use Rattle.steps.specs.Steps.{notRising}
-use Rattle.keeper.proofs.AnswerLaws.{Judged, answered, call-answered, call-short, put-in-front, refused, sixteen}
-use Rattle.keeper.proofs.LineAnswers.{line-judged, linePromise, numbers-read}
-use Rattle.keeper.specs.Answers.{Yields, answer, unless}
+use Rattle.keeper.proofs.AnswerLaws.{Judged, answer-past, answered, call-answered, call-short, put-in-front, refused, sixteen}
+use Rattle.keeper.proofs.LineAnswers.{line-judged, linePromise, numbers-read, under-past}
+use Rattle.keeper.specs.Answers.{Yields}
 use Rattle.keeper.specs.Calls.{HoldsStanding, TellsTogether, lineAnswer, lineUnderAnswer, standTogetherAnswer, standingBytes}
 use Rattle.named_checkpoints.proofs.NamedLaws.{line-found, misses-found, parallel, place-inside}
 use Rattle.named_checkpoints.specs.Lists.{Parallel}
-use Rattle.refusals.proofs.RefusalLaws.{QuietCall, own-caught, quiet-by, quiet-call}
-use Rattle.refusals.specs.CallChecks.{lineUnderChecks, standTogetherChecks}
+use Rattle.refusals.proofs.RefusalLaws.{QuietCall, own-left, quiet-by}
+use Rattle.refusals.specs.CallChecks.{standTogetherChecks}
 use Rattle.tables.proofs.AcceptLaws.{facts}
-use Rattle.tables.proofs.CheckLaws.{append-passed, areRefusals, caughtBy, passed, quiet-none}
+use Rattle.tables.proofs.CheckLaws.{areRefusals, caughtBy}
 use Rattle.tables.proofs.ListLaws.{or-false-left, or-false-right}
 use Rattle.tables.specs.Arrays.{arrayOf}
-use Rattle.tables.specs.Checks.{Check, firstCaught, tableChecks}
+use Rattle.tables.specs.Checks.{firstCaught, tableChecks}
 use Rattle.tables.specs.Format.{decode}
 use Rattle.tables.specs.Numbers.{putAt, u16s}
 use Rattle.tables.specs.Table.{Table, mostProcesses, processCount}
@@ -140,19 +138,7 @@ module _ (table processes states : List ℕ) (q : QuietCall table (standTogether
   -- The names' ceiling passes 17 and 18; so a yes is the answer of the line under it, also where the buffer is too short.
   pub stand-under : misses processes states line ≡ false → (room : ℕ)
       → standTogetherAnswer table processes states room ≡ lineUnderAnswer table (namedCeiling t processes states) room
-  unfolding standTogetherAnswer standingBytes lineUnderAnswer lineAnswer answer lineUnderChecks areRefusals namedLine
+  unfolding standTogetherAnswer standingBytes lineAnswer standTogetherChecks areRefusals namedLine
   stand-under e room =
       rw e
-      (ap (λ (n : ℕ). unless n (u16s line))
-      (append-passed (standTogetherChecks table processes states) last (q .quiet .refusals) (q .quiet .quiet)
-      ∙ sym (append-passed (lineUnderChecks table (namedCeiling t processes states)) last (under .quiet .refusals) (under .quiet .quiet))))
-    where
-      last : List Check
-      last = record { caught = ltb room (length (u16s line)); number = 16 } ∷ []
-
-      under : QuietCall table (lineUnderChecks table (namedCeiling t processes states))
-      under =
-          quiet-call table _ refl
-          (own-caught table _ (q .accepted)
-          (passed _ _ _ (ap not (eq-eqb _ _ (ceiling .for-each))) (passed _ _ _ (ceiling-quiet t (namedCeiling t processes states) ceiling) quiet-none)))
-          refl
+      (answer-past (tableChecks table) _ refl (sym (own-left table _ (q .accepted) .same) ∙ q .quiet .quiet) _ room ∙ sym (under-past table ceiling room))

@@ -64,7 +64,7 @@ module _ (table scratch bytes : List ℕ) (long : 1024 ≤ length scratch) (room
   lines-room accepted = omega (arith, long, mul-le-mul (processes-few table accepted) (processes-few table accepted))
 
   quiet-sheet : tableRefusal table ≡ 0 → Quiet (keepSheetChecks table (length scratch))
-  quiet-sheet accepted = long-scratch table (length scratch) accepted (lines-room accepted)
+  quiet-sheet accepted = long-scratch table (length scratch) accepted (lines-room accepted) .quiet
 
   answered-by : (accepted : tableRefusal table ≡ 0) (written : ℕ)
       → Yields (keepSheetAnswer table (length scratch) (length bytes)) 0 bytes (putAt bytes 0 (sheet t)) written (length (sheet t))

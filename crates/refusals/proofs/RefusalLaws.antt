@@ -1,51 +1,59 @@
 -- The refusals of the calls on a table: the table's checks, and behind them the call's own.
---     table-caught, own-caught    the call's refusal, where the table is refused and where it is accepted
+--     Left, catches, next, none-left    check after check: those that are left; the next one catches, or does not; none is left
+--     table-caught, own-left      the table is refused; it is accepted, and the call's own checks are left
 --     table-accepted              where no check of the call catches, none of the table's does
---     own-same                    own checks that refuse alike, behind the table's
 --     Quiet                       none of a call's checks before 16 catches
 --     QuietCall, quiet-call       so it is, of a call on a table, by the refusal that was found
 --     quiet-by                    then the check of any number is quiet
---     last-caught, last-quiet     one check more behind a call's, which is quiet
---     quiet-longer, quiet-front-call    where none of a longer list catches, none of its front does
---     first-of, second-of, neither    a check of two tests
---     read-le .. read-long        a test of a number, by what was read
---     quiet-marking, quiet-ceilings, marks-long    19, by the length of the mark buffer
---     quiet-receiving, quiet-receipt, quiet-checkpoint    a receipt; 14, behind its checks
---     short-scratch, long-scratch, scratch-long    15, by the scratch's length
+--     more-left                   further checks behind a call's, of which none catches
+--     quiet-front-call            where none of a longer list catches, none of its front does
+--     quiet-table .. quiet-sheet  each call's list, none of which catches
+--     quiet-ceilings, marks-long, quiet-receipt    what a list begins with; 19, by the length of the mark buffer
+--     long-scratch, scratch-long  15, by the scratch's length
 -- Assumes nothing.
-use mathlib.Core.Bool.{Bool, true, false, _||_}
+use mathlib.Core.Bool.{true, false}
 use mathlib.Core.List.{List, [], _∷_, _++_}
 use mathlib.Core.Path.{_≡_, refl, sym, _∙_}
-use Prim.Native.Nat.{ℕ, _*_, _≤_, _<_}
-use native.Mathlib.Omega.{arith}
-use borrow.Author.Tests.{le-leb, le-ltb, lt-leb, lt-ltb, ltb-false}
-use lib.Dec.{leb, ltb}
+use Prim.Native.Nat.{ℕ, _*_, _≤_}
+use borrow.Author.Tests.{le-ltb, ltb-false}
 use Rattle.marks.specs.Room.{marksSize}
 use Rattle.steps.specs.Steps.{receiptChecks, sendChecks}
 use Rattle.refusals.specs.CallChecks.{checkpointCallChecks, keepSheetChecks, lineOfSetChecks, lineUnderChecks, markedLineChecks, onTable}
 use Rattle.refusals.specs.CallChecks.{receiptCallChecks, sendCallChecks, standTogetherChecks}
-use Rattle.tables.proofs.CheckLaws.{append-alike, append-passed, areRefusals, caught-first, caughtBy, passed, quiet-front, quiet-none, quiet-number}
+use Rattle.tables.proofs.CheckLaws.{append-passed, areRefusals, caught-first, caughtBy, passed, quiet-front, quiet-none, quiet-number}
 use Rattle.tables.proofs.CheckLaws.{stopped, table-refusals}
 use Rattle.tables.specs.Checks.{Check, firstCaught, tableChecks, tableRefusal}
 use Rattle.tables.specs.Format.{decode}
 use Rattle.tables.specs.Table.{processCount}
 
+-- ---- check after check
+-- Of all checks the first that catches is the first of those that are left.
+pub record Left (all rest : List Check) : Type 0 where
+  pub same : firstCaught all ≡ firstCaught rest
+
+module _ {all rest : List Check} {check : Check} (left : Left all (check ∷ rest)) where
+  pub catches : check .caught ≡ true → check .number ≡ firstCaught all
+  catches e = sym (left .same ∙ stopped check rest e)
+
+  pub next : check .caught ≡ false → Left all rest
+  next e = record { same = left .same ∙ passed check rest _ e refl }
+
+pub none-left : {all : List Check} → Left all [] → 0 ≡ firstCaught all
+none-left left = sym (left .same ∙ quiet-none)
+
+-- ---- behind the table's checks
 module _ (table : List ℕ) (own : List Check) where
   pub table-caught : {r : ℕ} → r ≡ tableRefusal table → (r ≡ 0 → ⊥) → r ≡ firstCaught (onTable table own)
   unfolding tableRefusal
   table-caught e nonzero = caught-first (tableChecks table) own _ e nonzero
 
-  pub own-caught : {n : ℕ} → tableRefusal table ≡ 0 → firstCaught own ≡ n → n ≡ firstCaught (onTable table own)
+  pub own-left : tableRefusal table ≡ 0 → Left (onTable table own) own
   unfolding tableRefusal
-  own-caught accepted e = sym (append-passed (tableChecks table) own (table-refusals table) accepted ∙ e)
+  own-left accepted = record { same = append-passed (tableChecks table) own (table-refusals table) accepted }
 
   table-accepted : firstCaught (onTable table own) ≡ 0 → tableRefusal table ≡ 0
   unfolding tableRefusal
   table-accepted quiet = quiet-front (tableChecks table) own quiet
-
-pub own-same : (table : List ℕ) (own own′ : List Check) → firstCaught own ≡ firstCaught own′
-    → firstCaught (onTable table own) ≡ firstCaught (onTable table own′)
-own-same table own own′ e = append-alike (tableChecks table) own own′ e
 
 -- None of these checks catches; each has the number of a refusal.
 pub record Quiet (checks : List Check) : Type 0 where
@@ -66,51 +74,13 @@ quiet-call table own refusals e none =
 pub quiet-by : {table : List ℕ} {checks : List Check} → QuietCall table checks → (n : ℕ) → caughtBy n checks ≡ false
 quiet-by {checks = checks} q = quiet-number checks (q .quiet .refusals) (q .quiet .quiet)
 
--- ---- one check more behind those of a call
-module _ {table : List ℕ} {checks : List Check} (q : QuietCall table checks) (last : Check) where
-  past : {n : ℕ} → firstCaught (last ∷ []) ≡ n → n ≡ firstCaught (checks ++ (last ∷ []))
-  past e = sym (append-passed checks (last ∷ []) (q .quiet .refusals) (q .quiet .quiet) ∙ e)
+-- further checks behind those of a call, of which none catches
+pub more-left : {table : List ℕ} {checks : List Check} → QuietCall table checks → (more : List Check) → Left (checks ++ more) more
+more-left {checks = checks} q more = record { same = append-passed checks more (q .quiet .refusals) (q .quiet .quiet) }
 
-  pub last-caught : last .caught ≡ true → last .number ≡ firstCaught (checks ++ (last ∷ []))
-  last-caught e = past (stopped last [] e)
-
-  pub last-quiet : last .caught ≡ false → 0 ≡ firstCaught (checks ++ (last ∷ []))
-  last-quiet e = past (passed last [] 0 e quiet-none)
-
--- none of a longer list catches
 quiet-front-call : {table : List ℕ} (checks last : List Check) → areRefusals checks ≡ true → QuietCall table (checks ++ last) → QuietCall table checks
 quiet-front-call checks last refusals q =
     record { accepted = q .accepted; quiet = record { refusals = refusals; quiet = quiet-front checks last (q .quiet .quiet) } }
-
-module _ (a b : Bool) where
-  pub first-of : a ≡ true → (a || b) ≡ true
-  first-of e = rw e
-
-  pub second-of : a ≡ false → b ≡ true → (a || b) ≡ true
-  second-of e e′ = rw e e′
-
-  pub neither : a ≡ false → b ≡ false → (a || b) ≡ false
-  neither e e′ = rw e e′
-
--- n is what was read of m
-module _ {n m i : ℕ} (read : n ≡ m) where
-  pub read-le : n ≤ i → leb m i ≡ true
-  read-le h = le-leb m i (omega arith)
-
-  pub read-lt : i < n → leb m i ≡ false
-  read-lt h = lt-leb m i (omega arith)
-
-  pub le-read : i ≤ n → leb i m ≡ true
-  le-read h = le-leb i m (omega arith)
-
-  pub lt-read : n < i → leb i m ≡ false
-  lt-read h = lt-leb i m (omega arith)
-
-  pub read-short : i < n → ltb i m ≡ true
-  read-short h = lt-ltb i m (omega arith)
-
-  pub read-long : n ≤ i → ltb i m ≡ false
-  read-long h = le-ltb i m (omega arith)
 
 -- ---- the lists of checks, none of which catches; where one begins with another, none of that catches either
 module _ (table : List ℕ) where
@@ -167,19 +137,14 @@ module _ (table : List ℕ) where
   quiet-receipt i list = quiet-front-call _ _ refl
 
 -- ---- the scratch of a keep sheet
-module _ (table : List ℕ) where
+module _ (table : List ℕ) (numbers : ℕ) where
   abbrev square : ℕ
   square = processCount (decode table) * processCount (decode table)
 
-  pub long-scratch : (numbers : ℕ) → tableRefusal table ≡ 0 → square ≤ numbers → Quiet (keepSheetChecks table numbers)
-  unfolding keepSheetChecks tableChecks areRefusals
-  long-scratch numbers accepted long =
-      record { refusals = refl; quiet = sym (own-caught table _ accepted (passed _ _ 0 (le-ltb numbers square long) quiet-none)) }
-
-  pub short-scratch : (numbers : ℕ) → tableRefusal table ≡ 0 → numbers < square → _≡_ {A = ℕ} 15 (firstCaught (keepSheetChecks table numbers))
+  pub long-scratch : tableRefusal table ≡ 0 → square ≤ numbers → QuietCall table (keepSheetChecks table numbers)
   unfolding keepSheetChecks
-  short-scratch numbers accepted short = own-caught table _ accepted (stopped _ _ (lt-ltb numbers square short))
+  long-scratch accepted long = quiet-sheet table numbers (none-left (next (own-left table _ accepted) (le-ltb numbers square long))) refl
 
-  pub scratch-long : (numbers : ℕ) → Quiet (keepSheetChecks table numbers) → square ≤ numbers
+  pub scratch-long : QuietCall table (keepSheetChecks table numbers) → square ≤ numbers
   unfolding keepSheetChecks tableChecks caughtBy
-  scratch-long numbers q = ltb-false numbers square (quiet-number (keepSheetChecks table numbers) (q .refusals) (q .quiet) 15)
+  scratch-long q = ltb-false numbers square (quiet-by q 15)

@@ -1,6 +1,6 @@
 -- The checks of each call on a table before 16, in checking order, from the table's bytes and the call's other
 -- arguments (docs/MANUAL.md, "Refusals"). Assumes nothing.
-use mathlib.Core.Bool.{not, _||_}
+use mathlib.Core.Bool.{Bool, not, _||_}
 use mathlib.Core.List.{List, [], _∷_, _++_}
 use Prim.Native.Nat.{ℕ, _*_}
 use lib.Dec.{eqb, leb, ltb}
@@ -11,13 +11,27 @@ use Rattle.marks.specs.Room.{marksSize}
 use Rattle.process_set.specs.Sets.{highBit}
 use Rattle.tables.specs.Checks.{Check, tableChecks}
 use Rattle.tables.specs.Format.{decode}
-use Rattle.tables.specs.Table.{countOf, messageCount, mostCheckpoints, mostMessages, processCount}
+use Rattle.tables.specs.Table.{Table, countOf, messageCount, mostCheckpoints, mostMessages, processCount}
 use Rattle.zigzag.specs.Names.{notBelowCounts, unknownNamed}
 
 -- The checks of a call on a table: the table's, and then the call's own.
 abbrev pub onTable : List ℕ → List Check → List Check
 onTable table own = tableChecks table ++ own
 
+-- ---- limits
+-- The table is full of messages: M is 4,096 already.
+abbrev pub fullOfMessages : Table → Bool
+fullOfMessages t = leb mostMessages (messageCount t)
+
+-- The process is full of checkpoints: its count is 4,096 already.
+abbrev pub fullOfCheckpoints : Table → ℕ → Bool
+fullOfCheckpoints t process = leb mostCheckpoints (countOf t process)
+
+-- A scratch of so many numbers is short of the lines of single holders, N × N numbers.
+abbrev pub shortOfLines : Table → ℕ → Bool
+shortOfLines t numbers = ltb numbers (processCount t * processCount t)
+
+-- ---- the checks of each call
 -- The line of a set: the table's; 12, that the set has a bit at N or above.
 unfoldable pub lineOfSetChecks : List ℕ → ℕ → List Check
 lineOfSetChecks table set =
@@ -47,24 +61,23 @@ standTogetherChecks table processes states =
     ∷ record { caught = notBelowCounts (decode table) processes states; number = 22 }
     ∷ [])
 
--- A send: the table's; 10 and 11; 14, that M is 4,096 already.
+-- A send: the table's; 10 and 11; 14, that the table is full of messages.
 unfoldable pub sendCallChecks : List ℕ → ℕ → ℕ → List Check
 sendCallChecks table from to =
     onTable table (sendChecks (decode table) from to
-    ++ (record { caught = leb mostMessages (messageCount (decode table)); number = 14 } ∷ []))
+    ++ (record { caught = fullOfMessages (decode table); number = 14 } ∷ []))
 
 -- A receipt: the table's; 10, 13 and 24.
 unfoldable pub receiptCallChecks : List ℕ → ℕ → List ℕ → List Check
 receiptCallChecks table process list = onTable table (receiptChecks (decode table) process list)
 
--- A checkpoint: those of a receipt; 14, that the count of the process is 4,096 already.
+-- A checkpoint: those of a receipt; 14, that the process is full of checkpoints.
 unfoldable pub checkpointCallChecks : List ℕ → ℕ → List ℕ → List Check
 checkpointCallChecks table process list =
     receiptCallChecks table process list
-    ++ (record { caught = leb mostCheckpoints (countOf (decode table) process); number = 14 } ∷ [])
+    ++ (record { caught = fullOfCheckpoints (decode table) process; number = 14 } ∷ [])
 
--- The keep sheet, by the length of the scratch: the table's; 15, that it is shorter than N × N numbers.
+-- The keep sheet, by the length of the scratch: the table's; 15, that it is short of the lines of single holders.
 unfoldable pub keepSheetChecks : List ℕ → ℕ → List Check
 keepSheetChecks table numbers =
-    onTable table
-    (record { caught = ltb numbers (processCount (decode table) * processCount (decode table)); number = 15 } ∷ [])
+    onTable table (record { caught = shortOfLines (decode table) numbers; number = 15 } ∷ [])

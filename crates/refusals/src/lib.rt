@@ -14,10 +14,46 @@ use tables::format::MOST_MESSAGES;
 use tables::lookups;
 use tables::parts;
 ghost use mathlib.Core.Path.{_≡_};
+ghost use lib.Dec.{leb};
 ghost use Rattle.refusals.specs.CallChecks.{checkpointCallChecks, keepSheetChecks, lineOfSetChecks};
 ghost use Rattle.refusals.specs.CallChecks.{lineUnderChecks, markedLineChecks, receiptCallChecks};
 ghost use Rattle.refusals.specs.CallChecks.{sendCallChecks, standTogetherChecks};
-ghost use Rattle.tables.specs.Checks.{firstCaught};
+ghost use Rattle.refusals.specs.CallChecks.{fullOfCheckpoints, fullOfMessages, shortOfLines};
+ghost use Rattle.tables.specs.Checks.{firstCaught, tableRefusal};
+ghost use Rattle.tables.specs.Format.{decode};
+ghost use Rattle.tables.specs.Table.{processCount};
+
+// Whether a table has no such process.
+fn unknown(table: &[u8], process: u16) -> bool
+    requires { ⌜ tableRefusal (now table) ≡ 0 ⌝ }
+    ensures { λ r. ⌜ r ≡ leb (processCount (decode (now (table .entry)))) process ⌝ }
+{
+    parts::process_count(table) <= (process as usize)
+}
+
+// Whether a table is full of messages.
+fn full_of_messages(table: &[u8]) -> bool
+    requires { ⌜ tableRefusal (now table) ≡ 0 ⌝ }
+    ensures { λ r. ⌜ r ≡ fullOfMessages (decode (now (table .entry))) ⌝ }
+{
+    MOST_MESSAGES <= parts::message_count(table)
+}
+
+// Whether a process is full of checkpoints.
+fn full_of_checkpoints(table: &[u8], process: u16) -> bool
+    ensures { λ r. ⌜ r ≡ fullOfCheckpoints (decode (now (table .entry))) process ⌝ }
+{
+    MOST_CHECKPOINTS <= lookups::count(table, process as usize)
+}
+
+// Whether a scratch of so many numbers is short of the lines of single holders.
+fn short_of_lines(table: &[u8], numbers: usize) -> bool
+    requires { ⌜ tableRefusal (now table) ≡ 0 ⌝ }
+    ensures { λ r. ⌜ r ≡ shortOfLines (decode (now (table .entry))) numbers ⌝ }
+{
+    let n = parts::process_count(table);
+    numbers < n * n
+}
 
 // The line of a set: the table's checks, 12.
 pub fn set_refusal(table: &[u8], set: u32) -> u32
@@ -96,17 +132,16 @@ pub fn send_refusal(table: &[u8], from: u16, to: u16) -> u32
     if refusal != 0 {
         return refusal;
     }
-    let n = parts::process_count(table);
-    if n <= (from as usize) {
+    if unknown(table, from) {
         return 10;
     }
-    if n <= (to as usize) {
+    if unknown(table, to) {
         return 10;
     }
     if from == to {
         return 11;
     }
-    if MOST_MESSAGES <= parts::message_count(table) {
+    if full_of_messages(table) {
         return 14;
     }
     0
@@ -120,7 +155,7 @@ pub fn receipt_refusal(table: &[u8], process: u16, list: &[u16]) -> u32
     if refusal != 0 {
         return refusal;
     }
-    if parts::process_count(table) <= (process as usize) {
+    if unknown(table, process) {
         return 10;
     }
     if bad_position(table, process, list) {
@@ -143,7 +178,7 @@ pub fn checkpoint_refusal(table: &[u8], process: u16, list: &[u16]) -> u32
     if refusal != 0 {
         return refusal;
     }
-    if MOST_CHECKPOINTS <= lookups::count(table, process as usize) {
+    if full_of_checkpoints(table, process) {
         return 14;
     }
     0
@@ -157,8 +192,7 @@ pub fn sheet_refusal(table: &[u8], numbers: usize) -> u32
     if refusal != 0 {
         return refusal;
     }
-    let n = parts::process_count(table);
-    if numbers < n * n {
+    if short_of_lines(table, numbers) {
         return 15;
     }
     0

@@ -43,7 +43,7 @@ quiet c = quiet-sheet _ _ (c .before .sheet-refusal .ensures) (c .if1 .left)
 lined : (c : tie.After-fill-lines) → LinesOf (table (judged c)) (c .fill-lines .last .1 .0)
 lined c =
     let here = quiet (judged c) in
-    record { accepted = here .accepted; lines = lines-stand _ _ _ (scratch-long _ _ (here .quiet)) (c .fill-lines .ensures) }
+    record { accepted = here .accepted; lines = lines-stand _ _ _ (scratch-long _ _ here) (c .fill-lines .ensures) }
 
 sheeted : (c : tie.After-count-messages)
     → (let here = judged (filled (counted c)) in
@@ -66,7 +66,7 @@ keeper-keep-sheet-spec =
     -- asked by `fill_lines`, `count_checkpoints`, `count_messages` and `sheet_size`
     (λ c κs.
     let here = quiet (c .before) in
-    (here .accepted, scratch-long _ _ (here .quiet)))
+    (here .accepted, scratch-long _ _ here))
     (λ c κs. lined (c .before .before .before))
     (λ c κs. lined (filled (c .before)))
     (λ c κs.

@@ -3,35 +3,21 @@
 use borrow.Author.Needs.{needs}
 use denote.Ref.{now}
 use lib.ListN.{length}
-use Rattle.consistency.specs.Ceilings.{Ceiling}
-use Rattle.keeper.proofs.LineAnswers.{ceilings-accepted}
-use Rattle.keeper.proofs.MarkingAnswers.{marked-answered, marked-refused, marked-short}
-use Rattle.refusals.proofs.RefusalLaws.{QuietCall, marks-long, quiet-ceilings, quiet-marking}
+use Rattle.keeper.proofs.MarkingAnswers.{marked-answered, marked-ceiling, marked-refused, marked-short}
+use Rattle.refusals.proofs.RefusalLaws.{QuietCall, marks-long, quiet-marking}
 use Rattle.refusals.specs.CallChecks.{markedLineChecks}
-use Rattle.tables.specs.Format.{decode}
 use Rattle.keeper.proofs.keeper_marked_line.Statement.{statement}
 use Rattle.keeper.proofs.keeper_marked_line.Tie as tie
 
--- ---- the places: the entry; where no check before 16 caught; where the size was found
+-- ---- the places: the entry, from where no check before 16 caught
 abbrev entry : tie.Else1 → tie.Start
 entry c = c .before .before .before .before .before .before
 
-abbrev judged : tie.After-line-size → tie.Else1
-judged c = c .before
-
-abbrev sized : tie.After-put-marked-line → tie.After-line-size
-sized c = c .before .before .before .before
-
--- ---- what is known there: no check before 16 catches, so the ceilings are a ceiling
+-- ---- what is known there: no check before 16 catches
 quiet : (c : tie.Else1)
     → (let args = entry c .args in
     QuietCall (now (args .table)) (markedLineChecks (now (args .table)) (now (args .ceilings)) (length (now (args .marks)))))
 quiet c = quiet-marking _ _ _ (c .before .marking-refusal .ensures) (c .if1 .left)
-
-ceiling : (c : tie.Else1)
-    → (let args = entry c .args in
-    Ceiling (decode (now (args .table))) (now (args .ceilings)))
-ceiling c = ceilings-accepted (quiet-ceilings _ _ _ (quiet c))
 
 -- ---- the needs, in the code's course
 pub keeper-marked-line-spec : {M : Type 1} → statement M
@@ -44,25 +30,16 @@ keeper-marked-line-spec =
     -- asked by `line_size`
     (λ c κs. quiet c .accepted)
     -- 16
-    (λ c.
-    let here = judged (c .before) in
-    marked-short _ (quiet here) (ceiling here) (c .before .line-size .ensures) (c .if2 .taken))
+    (λ c. marked-short _ (quiet (c .before .before)) (c .before .line-size .ensures) (c .if2 .taken))
     -- asked by `put_marked_line`
     (λ c κs.
-    let size = c .before .before .before in
-    let here = judged size in (
-      quiet here .accepted,
-      (
-        ceiling here,
-        (marks-long _ _ _ (quiet here), search needs),
-      ),
-    ))
+    let here = quiet (c .before .before .before .before) in
+    (here .accepted, (marked-ceiling _ here, (marks-long _ _ _ here, search needs))))
     (λ c. search needs)
     (λ c. search needs)
     -- the answer
     (λ c.
     let put = c .before .before .before .before in
-    let size = sized put in
-    let here = judged size in
-    marked-answered _ (quiet here) (ceiling here) (size .line-size .ensures) (put .before .before .before .if2 .left) (put .put-marked-line .ensures .1)
+    let size = put .before .before .before .before in
+    marked-answered _ (quiet (size .before)) (size .line-size .ensures) (put .before .before .before .if2 .left) (put .put-marked-line .ensures .1)
     (put .put-marked-line .ensures .0)))

@@ -7,9 +7,8 @@ use mathlib.Core.Path.{_≡_, sym, ap, _∙_}
 use denote.Ref.{now}
 use lib.Dec.{eqb}
 use lib.ListN.{length}
-use Rattle.refusals.proofs.RefusalLaws.{own-caught, table-caught}
+use Rattle.refusals.proofs.RefusalLaws.{catches, next, none-left, own-left, table-caught}
 use Rattle.refusals.specs.CallChecks.{lineUnderChecks}
-use Rattle.tables.proofs.CheckLaws.{passed, quiet-none, stopped}
 use Rattle.tables.specs.Checks.{tableRefusal}
 use Rattle.tables.specs.Format.{decode}
 use Rattle.tables.specs.Table.{processCount}
@@ -53,16 +52,13 @@ ceilings-refusal-spec =
     -- 17
     (λ c.
     let read = c .before in
-    own-caught _ _ (accepted (read .before))
-    (stopped _ _ (ap not (ne-eqb _ _ (λ e. c .if2 .taken (e ∙ sym (read .process-count .ensures)))))))
+    catches (own-left _ _ (accepted (read .before))) (ap not (ne-eqb _ _ (λ e. c .if2 .taken (e ∙ sym (read .process-count .ensures))))))
     (λ c κs. (accepted (judged c), for-each c))
     -- 18
     (λ c.
     let here = counted (c .before) in
-    own-caught _ _ (accepted (judged here))
-    (passed _ _ _ (past-seventeen here) (stopped _ _ (sym (c .before .above-counts .ensures) ∙ c .if3 .taken))))
+    catches (next (own-left _ _ (accepted (judged here))) (past-seventeen here)) (sym (c .before .above-counts .ensures) ∙ c .if3 .taken))
     -- none
     (λ c.
     let here = counted (c .before) in
-    own-caught _ _ (accepted (judged here))
-    (passed _ _ _ (past-seventeen here) (passed _ _ _ (sym (c .before .above-counts .ensures) ∙ c .if3 .left) quiet-none))))
+    none-left (next (next (own-left _ _ (accepted (judged here))) (past-seventeen here)) (sym (c .before .above-counts .ensures) ∙ c .if3 .left))))

@@ -1,8 +1,9 @@
 -- `checkpoint_refusal` meets its contract: the checks of a receipt, and then 14.
 -- Assumes nothing.
 use borrow.Author.Needs.{needs}
+use mathlib.Core.Path.{sym, _∙_}
 use denote.Ref.{now}
-use Rattle.refusals.proofs.RefusalLaws.{QuietCall, last-caught, last-quiet, le-read, lt-read, quiet-receive}
+use Rattle.refusals.proofs.RefusalLaws.{QuietCall, catches, more-left, next, none-left, quiet-receive}
 use Rattle.refusals.specs.CallChecks.{checkpointCallChecks, receiptCallChecks}
 use Rattle.tables.proofs.CheckLaws.{caught-first}
 use Rattle.refusals.proofs.checkpoint_refusal.Statement.{statement}
@@ -29,6 +30,6 @@ checkpoint-refusal-spec =
     (λ c. caught-first _ _ _ (c .before .receipt-refusal .ensures) (c .if1 .taken))
     (λ c κs. search needs)
     -- 14
-    (λ c. last-caught (quiet (c .before .before)) _ (le-read (c .before .count .ensures) (c .if2 .taken)))
+    (λ c. catches (more-left (quiet (c .before .before)) _) (sym (c .before .full-of-checkpoints .ensures) ∙ c .if2 .taken))
     -- none
-    (λ c. last-quiet (quiet (c .before .before)) _ (lt-read (c .before .count .ensures) (c .if2 .left))))
+    (λ c. none-left (next (more-left (quiet (c .before .before)) _) (sym (c .before .full-of-checkpoints .ensures) ∙ c .if2 .left))))

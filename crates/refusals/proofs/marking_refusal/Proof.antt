@@ -1,11 +1,13 @@
 -- `marking_refusal` meets its contract: the checks of the line under ceilings, and then 19.
 -- Assumes nothing.
 use borrow.Author.Needs.{needs}
-use mathlib.Core.Path.{refl}
+use borrow.Author.Tests.{le-ltb, lt-ltb}
+use mathlib.Core.Path.{sym, ap, _∙_}
 use denote.Ref.{now}
-use Rattle.refusals.proofs.RefusalLaws.{QuietCall, last-caught, last-quiet, quiet-call, read-long, read-short}
+use lib.Dec.{ltb}
+use Rattle.refusals.proofs.RefusalLaws.{QuietCall, catches, more-left, next, none-left, quiet-under}
 use Rattle.refusals.specs.CallChecks.{lineUnderChecks, markedLineChecks}
-use Rattle.tables.proofs.CheckLaws.{areRefusals, caught-first}
+use Rattle.tables.proofs.CheckLaws.{caught-first}
 use Rattle.refusals.proofs.marking_refusal.Statement.{statement}
 use Rattle.refusals.proofs.marking_refusal.Tie as tie
 
@@ -17,8 +19,7 @@ entry c = c .before .before .before
 quiet : (c : tie.Else1)
     → (let args = entry (c .before) .args in
     QuietCall (now (args .table)) (lineUnderChecks (now (args .table)) (now (args .ceilings))))
-unfolding lineUnderChecks areRefusals
-quiet c = quiet-call _ _ refl (c .before .ceilings-refusal .ensures) (c .if1 .left)
+quiet c = quiet-under _ _ (c .before .ceilings-refusal .ensures) (c .if1 .left)
 
 -- ---- the needs, in the code's course
 pub marking-refusal-spec : {M : Type 1} → statement M
@@ -31,6 +32,6 @@ marking-refusal-spec =
     (λ c. caught-first _ _ _ (c .before .ceilings-refusal .ensures) (c .if1 .taken))
     (λ c κs. quiet c .accepted)
     -- 19
-    (λ c. last-caught (quiet (c .before .before)) _ (read-short (c .before .marks-size .ensures) (c .if2 .taken)))
+    (λ c. catches (more-left (quiet (c .before .before)) _) (ap (ltb _) (sym (c .before .marks-size .ensures)) ∙ lt-ltb _ _ (c .if2 .taken)))
     -- none
-    (λ c. last-quiet (quiet (c .before .before)) _ (read-long (c .before .marks-size .ensures) (c .if2 .left))))
+    (λ c. none-left (next (more-left (quiet (c .before .before)) _) (ap (ltb _) (sym (c .before .marks-size .ensures)) ∙ le-ltb _ _ (c .if2 .left)))))

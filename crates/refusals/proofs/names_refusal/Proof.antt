@@ -9,9 +9,8 @@ use lib.Dec.{eqb}
 use lib.ListN.{length}
 use Rattle.steps.specs.Steps.{notRising}
 use Rattle.named_checkpoints.proofs.NamedLaws.{parallel}
-use Rattle.refusals.proofs.RefusalLaws.{first-of, neither, own-caught, second-of, table-caught}
+use Rattle.refusals.proofs.RefusalLaws.{catches, next, none-left, own-left, table-caught}
 use Rattle.refusals.specs.CallChecks.{standTogetherChecks}
-use Rattle.tables.proofs.CheckLaws.{passed, quiet-none, stopped}
 use Rattle.tables.specs.Checks.{tableRefusal}
 use Rattle.tables.specs.Format.{decode}
 use Rattle.zigzag.specs.Names.{unknownNamed}
@@ -49,7 +48,7 @@ all-known c = sym (c .before .unknown-process .ensures) ∙ c .if3 .left
 past-twenty-one : (c : tie.Else4)
     → (let args = entry (judged (parted (known c))) .args in
     (unknownNamed (decode (now (args .table))) (now (args .processes)) || notRising (now (args .processes))) ≡ false)
-past-twenty-one c = neither _ _ (all-known (known c)) (sym (c .before .not-rising .ensures) ∙ c .if4 .left)
+past-twenty-one c = rw (all-known (known c), sym (c .before .not-rising .ensures) ∙ c .if4 .left)
 
 -- ---- the needs, in the code's course
 pub names-refusal-spec : {M : Type 1} → statement M
@@ -61,20 +60,19 @@ names-refusal-spec =
     -- the table's
     (λ c. table-caught _ _ (c .before .check .ensures) (c .if1 .taken))
     -- 20
-    (λ c. own-caught _ _ (accepted (c .before)) (stopped _ _ (ap not (ne-eqb _ _ (c .if2 .taken)))))
+    (λ c. catches (own-left _ _ (accepted (c .before))) (ap not (ne-eqb _ _ (c .if2 .taken))))
     (λ c κs. accepted (judged c))
     -- 21, by a process
     (λ c.
     let here = c .before .before in
-    own-caught _ _ (accepted (judged here))
-    (passed _ _ _ (past-twenty here) (stopped _ _ (first-of _ _ (sym (c .before .unknown-process .ensures) ∙ c .if3 .taken)))))
+    catches (next (own-left _ _ (accepted (judged here))) (past-twenty here)) (rw (sym (c .before .unknown-process .ensures) ∙ c .if3 .taken)))
     (λ c κs. search needs)
     -- 21, by the order
     (λ c.
     let good = c .before .before in
     let here = parted good in
-    own-caught _ _ (accepted (judged here))
-    (passed _ _ _ (past-twenty here) (stopped _ _ (second-of _ _ (all-known good) (sym (c .before .not-rising .ensures) ∙ c .if4 .taken)))))
+    catches (next (own-left _ _ (accepted (judged here))) (past-twenty here))
+    (rw (all-known good, sym (c .before .not-rising .ensures) ∙ c .if4 .taken)))
     (λ c κs.
     let here = parted (known c) in
     (accepted (judged here), parallel _ _ _ (here .if2 .left) (all-known (known c))))
@@ -82,12 +80,12 @@ names-refusal-spec =
     (λ c.
     let good = c .before .before in
     let here = parted (known good) in
-    own-caught _ _ (accepted (judged here))
-    (passed _ _ _ (past-twenty here) (passed _ _ _ (past-twenty-one good) (stopped _ _ (sym (c .before .not-below-counts .ensures) ∙ c .if5 .taken)))))
+    catches (next (next (own-left _ _ (accepted (judged here))) (past-twenty here)) (past-twenty-one good))
+    (sym (c .before .not-below-counts .ensures) ∙ c .if5 .taken))
     -- none
     (λ c.
     let good = c .before .before in
     let here = parted (known good) in
-    own-caught _ _ (accepted (judged here))
-    (passed _ _ _ (past-twenty here)
-    (passed _ _ _ (past-twenty-one good) (passed _ _ _ (sym (c .before .not-below-counts .ensures) ∙ c .if5 .left) quiet-none)))))
+    none-left
+    (next (next (next (own-left _ _ (accepted (judged here))) (past-twenty here)) (past-twenty-one good))
+    (sym (c .before .not-below-counts .ensures) ∙ c .if5 .left))))

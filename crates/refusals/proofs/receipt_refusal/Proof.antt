@@ -6,9 +6,8 @@ use mathlib.Core.Path.{_≡_, sym, _∙_}
 use denote.Ref.{now}
 use lib.Dec.{leb}
 use Rattle.steps.specs.Steps.{badPosition, notRising, receiptChecks}
-use Rattle.refusals.proofs.RefusalLaws.{first-of, neither, own-caught, read-le, read-lt, second-of, table-caught}
+use Rattle.refusals.proofs.RefusalLaws.{catches, next, none-left, own-left, table-caught}
 use Rattle.refusals.specs.CallChecks.{receiptCallChecks}
-use Rattle.tables.proofs.CheckLaws.{passed, quiet-none, stopped}
 use Rattle.tables.specs.Checks.{tableRefusal}
 use Rattle.tables.specs.Format.{decode}
 use Rattle.tables.specs.Lists.{any}
@@ -34,14 +33,14 @@ accepted : (c : tie.Else1) → tableRefusal (now (entry c .args .table)) ≡ 0
 accepted c = sym (c .before .check .ensures) ∙ c .if1 .left
 
 past-ten : (c : tie.Else2) → leb (processCount (decode (now (entry (judged c) .args .table)))) (entry (judged c) .args .process) ≡ false
-past-ten c = read-lt (c .before .process-count .ensures) (c .if2 .left)
+past-ten c = sym (c .before .unknown .ensures) ∙ c .if2 .left
 
 past-thirteen : (c : tie.Else4)
     → (let args = entry (judged (known (waiting c))) .args in
     (any (badPosition (decode (now (args .table))) (args .process)) (now (args .list)) || notRising (now (args .list))) ≡ false)
 past-thirteen c =
     let good = waiting c in
-    neither _ _ (sym (good .before .bad-position .ensures) ∙ good .if3 .left) (sym (c .before .not-rising .ensures) ∙ c .if4 .left)
+    rw (sym (good .before .bad-position .ensures) ∙ good .if3 .left, sym (c .before .not-rising .ensures) ∙ c .if4 .left)
 
 -- ---- the needs, in the code's course
 pub receipt-refusal-spec : {M : Type 1} → statement M
@@ -54,20 +53,18 @@ receipt-refusal-spec =
     (λ c. table-caught _ _ (c .before .check .ensures) (c .if1 .taken))
     (λ c κs. search needs)
     -- 10
-    (λ c. own-caught _ _ (accepted (c .before .before)) (stopped _ _ (read-le (c .before .process-count .ensures) (c .if2 .taken))))
+    (λ c. catches (own-left _ _ (accepted (c .before .before))) (sym (c .before .unknown .ensures) ∙ c .if2 .taken))
     (λ c κs. search needs)
     -- 13, by a position
     (λ c.
     let here = c .before .before in
-    own-caught _ _ (accepted (judged here))
-    (passed _ _ _ (past-ten here) (stopped _ _ (first-of _ _ (sym (c .before .bad-position .ensures) ∙ c .if3 .taken)))))
+    catches (next (own-left _ _ (accepted (judged here))) (past-ten here)) (rw (sym (c .before .bad-position .ensures) ∙ c .if3 .taken)))
     (λ c κs. search needs)
     -- 13, by the order
     (λ c.
     let good = c .before .before in
-    own-caught _ _ (accepted (judged (known good)))
-    (passed _ _ _ (past-ten (known good))
-    (stopped _ _ (second-of _ _ (sym (good .before .bad-position .ensures) ∙ good .if3 .left) (sym (c .before .not-rising .ensures) ∙ c .if4 .taken)))))
+    catches (next (own-left _ _ (accepted (judged (known good)))) (past-ten (known good)))
+    (rw (sym (good .before .bad-position .ensures) ∙ good .if3 .left, sym (c .before .not-rising .ensures) ∙ c .if4 .taken)))
     -- 24
     (λ c κs.
     let good = waiting c in
@@ -75,12 +72,11 @@ receipt-refusal-spec =
     (λ c.
     let rising = c .before .before in
     let here = known (waiting rising) in
-    own-caught _ _ (accepted (judged here))
-    (passed _ _ _ (past-ten here) (passed _ _ _ (past-thirteen rising) (stopped _ _ (sym (c .before .passes-over .ensures) ∙ c .if5 .taken)))))
+    catches (next (next (own-left _ _ (accepted (judged here))) (past-ten here)) (past-thirteen rising))
+    (sym (c .before .passes-over .ensures) ∙ c .if5 .taken))
     -- none
     (λ c.
     let rising = c .before .before in
     let here = known (waiting rising) in
-    own-caught _ _ (accepted (judged here))
-    (passed _ _ _ (past-ten here)
-    (passed _ _ _ (past-thirteen rising) (passed _ _ _ (sym (c .before .passes-over .ensures) ∙ c .if5 .left) quiet-none)))))
+    none-left
+    (next (next (next (own-left _ _ (accepted (judged here))) (past-ten here)) (past-thirteen rising)) (sym (c .before .passes-over .ensures) ∙ c .if5 .left))))

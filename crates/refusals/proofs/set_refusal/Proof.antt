@@ -3,10 +3,9 @@
 use borrow.Author.Needs.{needs}
 use mathlib.Core.Path.{_≡_, sym, ap, _∙_}
 use denote.Ref.{now}
-use Rattle.refusals.proofs.RefusalLaws.{own-caught, table-caught}
+use Rattle.refusals.proofs.RefusalLaws.{catches, next, none-left, own-left, table-caught}
 use Rattle.refusals.specs.CallChecks.{lineOfSetChecks}
 use Rattle.process_set.specs.Sets.{highBit}
-use Rattle.tables.proofs.CheckLaws.{passed, quiet-none, stopped}
 use Rattle.tables.specs.Checks.{tableRefusal}
 use Rattle.tables.specs.Format.{decode}
 use Rattle.tables.specs.Table.{processCount}
@@ -41,6 +40,6 @@ set-refusal-spec =
     (λ c κs. search needs)
     (λ c κs. search needs)
     -- 12
-    (λ c. own-caught _ _ (accepted (judged (c .before))) (stopped _ _ (twelve (c .before) ∙ c .if2 .taken)))
+    (λ c. catches (own-left _ _ (accepted (judged (c .before)))) (twelve (c .before) ∙ c .if2 .taken))
     -- none
-    (λ c. own-caught _ _ (accepted (judged (c .before))) (passed _ _ _ (twelve (c .before) ∙ c .if2 .left) quiet-none)))
+    (λ c. none-left (next (own-left _ _ (accepted (judged (c .before)))) (twelve (c .before) ∙ c .if2 .left))))
