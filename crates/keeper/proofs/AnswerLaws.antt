@@ -81,7 +81,8 @@ pub record Promise : Type 1 where
 -- What is promised of a return, by the number, the buffer and the length's place, before and after.
 abbrev pub Meets : Promise → (room number : ℕ) (buffer buffer′ : List ℕ) (written written′ : ℕ) → Type 0
 Meets promise room number buffer buffer′ written written′ =
-    Yields (answer (promise .checks) (promise .bytes) room) number buffer buffer′ written written′ × (number ≡ 0 → promise .Leaves buffer′ written′)
+    Yields (answer (promise .checks) (promise .bytes) room) number buffer buffer′ written written′
+    × (number ≡ 0 → promise .Leaves buffer′ written′)
 
 -- No check before 16 catches; the answer has its size, and at the front of a buffer leaves what is promised.
 pub record Judged (promise : Promise) : Type 0 where
@@ -89,8 +90,8 @@ pub record Judged (promise : Promise) : Type 0 where
   pub sized : promise .size ≡ length (promise .bytes)
   pub leaves : (buffer : List ℕ) {buffer′ : List ℕ} → buffer′ ≡ putAt buffer 0 (promise .bytes) → promise .Leaves buffer′ (promise .size)
 
-pub call-refused : (checks : List Check) (bytes : List ℕ) (room : ℕ) {r : ℕ} {buffer : List ℕ} {written : ℕ} {Left : Type 0}
-    → r ≡ firstCaught checks → (r ≡ 0 → ⊥) → Yields (answer checks bytes room) r buffer buffer written written × (r ≡ 0 → Left)
+pub call-refused : (checks : List Check) (bytes : List ℕ) (room : ℕ) {r : ℕ} {buffer : List ℕ} {written : ℕ} {More : Type 0}
+    → r ≡ firstCaught checks → (r ≡ 0 → ⊥) → Yields (answer checks bytes room) r buffer buffer written written × (r ≡ 0 → More)
 call-refused checks bytes room e nonzero = (refused checks bytes room e nonzero, λ none. absurd (nonzero none))
 
 -- the size was found

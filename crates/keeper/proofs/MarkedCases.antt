@@ -33,71 +33,50 @@ use Rattle.refusals.specs.CallChecks.{standTogetherChecks}
 use Rattle.zigzag.specs.Names.{notBelowCounts, unknownNamed}
 use Rattle.zigzag.specs.Paths.{first, receivedIn, then}
 use Rattle.zigzag.specs.Together.{misses, namedCeiling, namedLine, putNamed}
-use Rattle.keeper.specs.Cases.{MarkingExample, allHold, answerOf, ceilingCases, lateReceipt, lateSend, markedCases, markingCases, nineMarks, sameAnswer}
+use Rattle.keeper.specs.Cases.{MarkingExample, allHold, answerOf, caseTable, ceilingCases, likeA, markedCases, markingCases, nineMarks, sameAnswer}
 use Rattle.keeper.specs.Cases.{ZigzagExample, channelCases, channelWith, figureOne, fullReceiver, oneInterval, standingCases}
-use Rattle.keeper.specs.Cases.{crossing, full, oneMessage, receiptCases, sameBytes, savedA, tableA, tableB, tableC, tableD, tenMarks, unsavedA}
+use Rattle.keeper.specs.Cases.{crossing, full, oneMessage, receiptCases, sameBytes, tableA, tableB, tableC, tableD, tenMarks}
+
+-- each table of cases, by what all of them compute
+all-cases : (allHold markedCases ≡ true) × (allHold ceilingCases ≡ true) × (allHold markingCases ≡ true) × (allHold receiptCases ≡ true)
+    × (allHold channelCases ≡ true) × (allHold standingCases ≡ true)
+unfolding firstCaught outside tooShort badProcessCount tooManyMessages badLength badCount unknownProcess toItself badSend badReceipt sameChannel waits
+    outOfTurn brokenBelow brokenChannel tableChecks tableRefusal processesIn messagesIn countsPart sendsPart receiptsPart countAt processAt
+    checkpointAt messageAt decode entriesOf encode numberAt bytesOf bytesOfAll tabulate any anyBelow processCount messageCount countOf messageOf
+    ceilingOf lineOf recoveryLine single isOrphan lower pass passes sum lineUnder member highBit stays putBack remaining afterRollback holderLine
+    keepsCheckpoint crosses keepsMessage select rows keptCheckpoints keptMessages sheet unless answer lineAnswer recoveryLineAnswer lineOfSetChecks
+    lineOfSetAnswer keepSheetChecks keepSheetAnswer rollbackAnswer caseTable likeA tableB tableC tableD answerOf sameBytes sameAnswer allHold
+    markedCases aboveCounts lineUnderChecks lineUnderAnswer ceilingCases nineMarks tenMarks marksSize checkpointTotal markedLineChecks
+    markedLineAnswer markingCases waitsFor badPosition notRisingAfter notRising passesOver receiptChecks receivedAt afterReceipt afterCheckpoint
+    receiptCallChecks checkpointCallChecks receiptAnswer checkpointAnswer crossing oneMessage full receiptCases channelWith fullReceiver channelCases
+    unknownNamed notBelowCounts putNamed namedCeiling namedLine misses standTogetherChecks standingBytes standTogetherAnswer figureOne oneInterval
+    standingCases
+all-cases = (refl, refl, refl, refl, refl, refl)
 
 pub marked-cases : allHold markedCases ≡ true
-unfolding firstCaught outside tooShort badProcessCount tooManyMessages badLength badCount unknownProcess toItself badSend badReceipt sameChannel waits
-    outOfTurn brokenBelow brokenChannel tableChecks tableRefusal processesIn messagesIn countsPart sendsPart receiptsPart countAt processAt
-    checkpointAt messageAt decode entriesOf encode numberAt bytesOf bytesOfAll tabulate any anyBelow processCount messageCount countOf messageOf ceilingOf
-    lineOf recoveryLine single isOrphan lower pass passes sum lineUnder member highBit stays putBack remaining afterRollback holderLine
-    keepsCheckpoint crosses keepsMessage select rows keptCheckpoints keptMessages sheet unless answer lineAnswer recoveryLineAnswer lineOfSetChecks
-    lineOfSetAnswer keepSheetChecks keepSheetAnswer rollbackAnswer tableA tableB tableC tableD lateReceipt lateSend answerOf sameBytes sameAnswer
-    allHold markedCases
-marked-cases = refl
+marked-cases = all-cases .0
 
 pub ceiling-cases : allHold ceilingCases ≡ true
-unfolding firstCaught outside tooShort badProcessCount tooManyMessages badLength badCount unknownProcess toItself badSend badReceipt sameChannel waits
-    outOfTurn brokenBelow brokenChannel tableChecks tableRefusal processesIn messagesIn countsPart sendsPart receiptsPart countAt processAt
-    checkpointAt messageAt decode numberAt bytesOf bytesOfAll tabulate any anyBelow processCount messageCount countOf messageOf isOrphan lower pass passes sum
-    lineUnder unless answer lineAnswer tableA tableB tableD lateReceipt answerOf sameBytes sameAnswer allHold aboveCounts lineUnderChecks
-    lineUnderAnswer ceilingCases
-ceiling-cases = refl
+ceiling-cases = all-cases .1
 
 pub marking-cases : allHold markingCases ≡ true
-unfolding firstCaught outside tooShort badProcessCount tooManyMessages badLength badCount unknownProcess toItself badSend badReceipt sameChannel waits
-    outOfTurn brokenBelow brokenChannel tableChecks tableRefusal processesIn messagesIn countsPart sendsPart receiptsPart countAt processAt
-    checkpointAt messageAt decode numberAt bytesOf bytesOfAll tabulate any anyBelow processCount messageCount countOf messageOf isOrphan lower pass passes sum
-    lineUnder unless answer lineAnswer tableA tableB tableD nineMarks tenMarks lateReceipt answerOf sameBytes sameAnswer allHold aboveCounts
-    lineUnderChecks marksSize checkpointTotal markedLineChecks markedLineAnswer markingCases
-marking-cases = refl
+marking-cases = all-cases .2
 
 pub receipt-cases : allHold receiptCases ≡ true
-unfolding firstCaught outside tooShort badProcessCount tooManyMessages badLength badCount unknownProcess toItself badSend badReceipt sameChannel waits
-    outOfTurn brokenBelow brokenChannel tableChecks tableRefusal processesIn messagesIn countsPart sendsPart receiptsPart countAt processAt
-    checkpointAt messageAt decode entriesOf encode numberAt bytesOf bytesOfAll tabulate any anyBelow processCount messageCount countOf messageOf ceilingOf
-    lineOf recoveryLine single isOrphan lower pass passes sum lineUnder member highBit stays putBack remaining afterRollback holderLine
-    keepsCheckpoint crosses keepsMessage select rows keptCheckpoints keptMessages sheet unless answer lineAnswer lineOfSetChecks lineOfSetAnswer
-    keepSheetChecks keepSheetAnswer rollbackAnswer aboveCounts lineUnderChecks marksSize checkpointTotal markedLineChecks markedLineAnswer waitsFor badPosition
-    notRisingAfter notRising passesOver receiptChecks receivedAt afterReceipt afterCheckpoint receiptCallChecks checkpointCallChecks receiptAnswer
-    checkpointAnswer tableA lateReceipt unsavedA savedA crossing oneMessage full answerOf sameBytes sameAnswer allHold receiptCases
-receipt-cases = refl
+receipt-cases = all-cases .3
 
 pub channel-cases : allHold channelCases ≡ true
-unfolding firstCaught outside tooShort badProcessCount tooManyMessages badLength badCount unknownProcess toItself badSend badReceipt sameChannel waits
-    outOfTurn brokenBelow brokenChannel tableChecks tableRefusal processesIn messagesIn countsPart sendsPart receiptsPart countAt processAt
-    checkpointAt messageAt decode entriesOf encode numberAt bytesOf bytesOfAll tabulate any anyBelow processCount messageCount countOf messageOf highBit
-    unless answer lineAnswer lineOfSetChecks lineOfSetAnswer waitsFor badPosition notRisingAfter notRising passesOver receiptChecks receivedAt
-    afterReceipt receiptCallChecks checkpointCallChecks receiptAnswer checkpointAnswer channelWith fullReceiver answerOf sameBytes sameAnswer allHold
-    channelCases
-channel-cases = refl
+channel-cases = all-cases .4
 
 pub standing-cases : allHold standingCases ≡ true
-unfolding firstCaught outside tooShort badProcessCount tooManyMessages badLength badCount unknownProcess toItself badSend badReceipt sameChannel waits
-    outOfTurn brokenBelow brokenChannel tableChecks tableRefusal processesIn messagesIn countsPart sendsPart receiptsPart countAt processAt
-    checkpointAt messageAt decode numberAt bytesOf bytesOfAll tabulate any anyBelow processCount messageCount countOf messageOf isOrphan lower pass passes sum
-    lineUnder unless answer notRisingAfter notRising unknownNamed notBelowCounts putNamed namedCeiling namedLine misses standTogetherChecks
-    standingBytes standTogetherAnswer tableA tableD lateReceipt unsavedA crossing figureOne oneInterval answerOf sameBytes sameAnswer allHold
-    standingCases
-standing-cases = refl
+standing-cases = all-cases .5
 
 -- by the theorem: the procedure ends, and with the computed line
 pub marking-example : MarkingExample
 unfolding firstCaught outside tooShort badProcessCount tooManyMessages badLength badCount unknownProcess toItself badSend badReceipt sameChannel waits
     outOfTurn brokenBelow brokenChannel tableChecks tableRefusal processesIn messagesIn countsPart sendsPart receiptsPart countAt processAt
     checkpointAt messageAt decode numberAt bytesOf bytesOfAll tabulate any anyBelow processCount messageCount countOf messageOf isOrphan lower pass passes sum
-    lineUnder tableA aboveCounts MarkingExample
+    lineUnder caseTable likeA aboveCounts MarkingExample
 marking-example =
     let ceilings : List ℕ = 2 ∷ 2 ∷ [] in
     let agrees = same-line (decode tableA) (facts tableA refl .well-formed) ceilings (ceiling-checked (decode tableA) ceilings refl refl) in
@@ -107,7 +86,7 @@ marking-example =
 -- that before its checkpoint 2
 pub zigzag-example : ZigzagExample
 unfolding processesIn messagesIn countsPart sendsPart receiptsPart countAt processAt checkpointAt messageAt decode numberAt bytesOf bytesOfAll tabulate
-    messageOf tableA receivedIn ZigzagExample
+    messageOf caseTable likeA receivedIn ZigzagExample
 zigzag-example = record {
   last = 2;
   chain =

@@ -69,8 +69,8 @@ module _ {table ceilings : List ℕ} (marks : List ℕ) (q : QuietCall table (ma
       let line = call-short (line-judged q (marked-ceiling _ q)) found short in
       (record { roots = _; by-marking = λ _. ends; yields = line .0 }, (unchanged 16 table marks sixteen, line))
 
-  pub marked-answered : {size : ℕ} → size ≡ 2 * processCount (decode table) → {room : ℕ} {marks′ buffer buffer′ : List ℕ} {written : ℕ} → size ≤ room
-      → marks′ ≡ cleared (marksSize (decode table)) marks → PutByMarking (decode table) ceilings buffer buffer′
+  pub marked-answered : {size : ℕ} → size ≡ 2 * processCount (decode table) → {room : ℕ} {marks′ buffer buffer′ : List ℕ} {written : ℕ}
+      → size ≤ room → marks′ ≡ cleared (marksSize (decode table)) marks → PutByMarking (decode table) ceilings buffer buffer′
       → Marks table ceilings room 0 marks marks′ buffer buffer′ written size
   unfolding markedLineAnswer lineAnswer marksAfter
   marked-answered found {buffer = buffer} enough clear put =

@@ -62,7 +62,9 @@ step-judged {table} {s = s} {after} {m} quiet taken = record { quiet = quiet; si
     left : (buffer : List ℕ) {buffer′ : List ℕ} → buffer′ ≡ putAt buffer 0 (encode after)
         → HoldsTable (step (decode table) s) buffer′ size
     left buffer put =
-        let first = ap (take size) (put ∙ put-in-front buffer (encode after)) ∙ take-at (encode after) (drop (length (encode after)) buffer) size (sym sized) in
+        let first =
+        ap (take size) (put ∙ put-in-front buffer (encode after))
+        ∙ take-at (encode after) (drop (length (encode after)) buffer) size (sym sized) in
         record {
           accepted = subst⁻¹ Accepted first (accepted-encode after well-formed (taken .limits));
           reads = ap decode first ∙ reread after well-formed (taken .limits) ∙ sym (taken .gives);
@@ -120,7 +122,8 @@ module _ {table : List ℕ} where
   unfolding checkpointCallChecks receiptCallChecks receiptChecks tableChecks caughtBy
   checkpoint-judged i list q =
       step-judged (q .quiet)
-      (received (q .accepted) (checkpoint-step (decode table) i list (quiet-receives i list (quiet-receipt table i list q))) (checkpoint-receives (decode table) i list)
+      (received (q .accepted) (checkpoint-step (decode table) i list (quiet-receives i list (quiet-receipt table i list q)))
+      (checkpoint-receives (decode table) i list)
       (checkpoint-limits (decode table) i list (facts table (q .accepted) .limits) (leb-false mostCheckpoints _ (quiet-by q 14))))
 
   pub rollback-judged : QuietCall table (tableChecks table) → {m : ℕ} → m ≡ messageCount (afterRollback (decode table))

@@ -15,30 +15,33 @@ use Rattle.tables.specs.Numbers.{u16s}
 use Rattle.zigzag.specs.Paths.{Zigzag}
 
 -- ---- the tables, by their numbers: N, M; the counts; the sends; the receipts
-unfoldable pub tableA : List ℕ
-tableA =
-    u16s (2 ∷ 5 ∷ 3 ∷ 3 ∷ 0 ∷ 0 ∷ 1 ∷ 0 ∷ 1 ∷ 1 ∷ 0 ∷ 2 ∷ 1 ∷ 2
-    ∷ 1 ∷ 2 ∷ 0 ∷ 1 ∷ 0 ∷ 2 ∷ 1 ∷ 2 ∷ 0 ∷ 0 ∷ [])
+unfoldable pub caseTable : ℕ → ℕ → List ℕ → List ℕ → List ℕ → List ℕ
+caseTable n m counts sends receipts = u16s (n ∷ m ∷ (counts ++ (sends ++ receipts)))
+
+-- A, but for the count of process 0 and the send number and the receipt number of the last message.
+unfoldable pub likeA : ℕ → ℕ → ℕ → List ℕ
+likeA count sent received =
+    caseTable 2 5 (count ∷ 3 ∷ []) (0 ∷ 0 ∷ 1 ∷ 0 ∷ 1 ∷ 1 ∷ 0 ∷ 2 ∷ 1 ∷ sent ∷ [])
+    (1 ∷ 2 ∷ 0 ∷ 1 ∷ 0 ∷ 2 ∷ 1 ∷ 2 ∷ 0 ∷ received ∷ [])
+
+abbrev pub tableA : List ℕ
+tableA = likeA 3 2 0
 
 unfoldable pub tableB : List ℕ
-tableB = u16s (1 ∷ 0 ∷ 1 ∷ [])
+tableB = caseTable 1 0 (1 ∷ []) [] []
 
 unfoldable pub tableC : List ℕ
-tableC = u16s (2 ∷ 0 ∷ 1 ∷ 4 ∷ [])
+tableC = caseTable 2 0 (1 ∷ 4 ∷ []) [] []
 
 unfoldable pub tableD : List ℕ
-tableD = u16s (2 ∷ 2 ∷ 2 ∷ 2 ∷ 0 ∷ 1 ∷ 1 ∷ 0 ∷ 1 ∷ 1 ∷ 0 ∷ 1 ∷ [])
+tableD = caseTable 2 2 (2 ∷ 2 ∷ []) (0 ∷ 1 ∷ 1 ∷ 0 ∷ []) (1 ∷ 1 ∷ 0 ∷ 1 ∷ [])
 
 -- A, with (1, 2) to (0, 4), and with (1, 3) to (0, 0), as its last message.
-unfoldable pub lateReceipt : List ℕ
-lateReceipt =
-    u16s (2 ∷ 5 ∷ 3 ∷ 3 ∷ 0 ∷ 0 ∷ 1 ∷ 0 ∷ 1 ∷ 1 ∷ 0 ∷ 2 ∷ 1 ∷ 2
-    ∷ 1 ∷ 2 ∷ 0 ∷ 1 ∷ 0 ∷ 2 ∷ 1 ∷ 2 ∷ 0 ∷ 4 ∷ [])
+abbrev pub lateReceipt : List ℕ
+lateReceipt = likeA 3 2 4
 
-unfoldable pub lateSend : List ℕ
-lateSend =
-    u16s (2 ∷ 5 ∷ 3 ∷ 3 ∷ 0 ∷ 0 ∷ 1 ∷ 0 ∷ 1 ∷ 1 ∷ 0 ∷ 2 ∷ 1 ∷ 3
-    ∷ 1 ∷ 2 ∷ 0 ∷ 1 ∷ 0 ∷ 2 ∷ 1 ∷ 2 ∷ 0 ∷ 0 ∷ [])
+abbrev pub lateSend : List ℕ
+lateSend = likeA 3 3 0
 
 -- ---- a case: a call on a table, and the answer that the document gives
 pub data Call : Type 0 where
@@ -107,7 +110,7 @@ markedCases =
     ∷ record {
       table = tableA;
       call = fallBack;
-      expected = answered (u16s (2 ∷ 2 ∷ 2 ∷ 2 ∷ 0 ∷ 0 ∷ 1 ∷ 0 ∷ 1 ∷ 0 ∷ 0 ∷ 1 ∷ []));
+      expected = answered (caseTable 2 2 (2 ∷ 2 ∷ []) (0 ∷ 0 ∷ 1 ∷ 0 ∷ []) (1 ∷ 0 ∷ 0 ∷ 1 ∷ []));
     }
     -- B: its line, and its checkpoint 0
     ∷ record { table = tableB; call = recoveryLine; expected = answered (u16s (0 ∷ [])) }
@@ -168,10 +171,10 @@ MarkingExample = EndsWith (decode tableA) (2 ∷ 2 ∷ []) (1 ∷ 1 ∷ [])
 -- Which mark buffers are long enough, and the order of the checks; the lines are those under the ceilings.
 -- Two processes without messages: 7 checkpoints and 2 new states are 9 marks; 8 and 2 are 10.
 unfoldable pub nineMarks : List ℕ
-nineMarks = u16s (2 ∷ 0 ∷ 3 ∷ 4 ∷ [])
+nineMarks = caseTable 2 0 (3 ∷ 4 ∷ []) [] []
 
 unfoldable pub tenMarks : List ℕ
-tenMarks = u16s (2 ∷ 0 ∷ 4 ∷ 4 ∷ [])
+tenMarks = caseTable 2 0 (4 ∷ 4 ∷ []) [] []
 
 unfoldable pub markingCases : List Case
 markingCases =
@@ -198,27 +201,23 @@ markingCases =
 
 -- ---- receipts since the last save (docs/MANUAL.md, "Steps")
 -- A, after process 0 received its last message, which is unsaved; and after process 0 saved.
-unfoldable pub unsavedA : List ℕ
-unsavedA =
-    u16s (2 ∷ 5 ∷ 3 ∷ 3 ∷ 0 ∷ 0 ∷ 1 ∷ 0 ∷ 1 ∷ 1 ∷ 0 ∷ 2 ∷ 1 ∷ 2
-    ∷ 1 ∷ 2 ∷ 0 ∷ 1 ∷ 0 ∷ 2 ∷ 1 ∷ 2 ∷ 0 ∷ 3 ∷ [])
+abbrev pub unsavedA : List ℕ
+unsavedA = likeA 3 2 3
 
-unfoldable pub savedA : List ℕ
-savedA =
-    u16s (2 ∷ 5 ∷ 4 ∷ 3 ∷ 0 ∷ 0 ∷ 1 ∷ 0 ∷ 1 ∷ 1 ∷ 0 ∷ 2 ∷ 1 ∷ 2
-    ∷ 1 ∷ 2 ∷ 0 ∷ 1 ∷ 0 ∷ 2 ∷ 1 ∷ 2 ∷ 0 ∷ 3 ∷ [])
+abbrev pub savedA : List ℕ
+savedA = likeA 4 2 3
 
 -- Two processes with one checkpoint each, and a message each way that is received at r.
 unfoldable pub crossing : ℕ → List ℕ
-crossing r = u16s (2 ∷ 2 ∷ 1 ∷ 1 ∷ 0 ∷ 0 ∷ 1 ∷ 0 ∷ 1 ∷ r ∷ 0 ∷ r ∷ [])
+crossing r = caseTable 2 2 (1 ∷ 1 ∷ []) (0 ∷ 0 ∷ 1 ∷ 0 ∷ []) (1 ∷ r ∷ 0 ∷ r ∷ [])
 
 -- Counts 2 and 1, and a message from checkpoint 0 of process 0 to process 1 that is received at r.
 unfoldable pub oneMessage : ℕ → List ℕ
-oneMessage r = u16s (2 ∷ 1 ∷ 2 ∷ 1 ∷ 0 ∷ 0 ∷ 1 ∷ r ∷ [])
+oneMessage r = caseTable 2 1 (2 ∷ 1 ∷ []) (0 ∷ 0 ∷ []) (1 ∷ r ∷ [])
 
 -- One process with all the checkpoints that it may have.
 unfoldable pub full : List ℕ
-full = u16s (1 ∷ 0 ∷ 4096 ∷ [])
+full = caseTable 1 0 (4096 ∷ []) [] []
 
 unfoldable pub receiptCases : List Case
 receiptCases =
@@ -251,7 +250,7 @@ receiptCases =
     ∷ record { table = unsavedA; call = hold 0; expected = answered (u16s (3 ∷ 3 ∷ [])) }
     -- a fall back: its send remains, and it waits again; its send is undone, and it is gone
     ∷ record { table = oneMessage 1; call = fallBack; expected = answered (oneMessage 0) }
-    ∷ record { table = crossing 1; call = fallBack; expected = answered (u16s (2 ∷ 0 ∷ 1 ∷ 1 ∷ [])) }
+    ∷ record { table = crossing 1; call = fallBack; expected = answered (caseTable 2 0 (1 ∷ 1 ∷ []) [] []) }
     -- the sheet: an unsaved message that crosses a holder's line; two that cross none, and the same two as they waited
     ∷ record {
       table = oneMessage 1;
@@ -275,15 +274,15 @@ receiptCases =
 -- each, and between them one from process 2 to process 1, of receipt number w.
 unfoldable pub channelWith : ℕ → ℕ → ℕ → ℕ → ℕ → List ℕ
 channelWith w y r y′ r′ =
-    u16s (3 ∷ 3 ∷ 3 ∷ 3 ∷ 3 ∷ 0 ∷ y ∷ 2 ∷ 0 ∷ 0 ∷ y′
-    ∷ 1 ∷ r ∷ 1 ∷ w ∷ 1 ∷ r′ ∷ [])
+    caseTable 3 3 (3 ∷ 3 ∷ 3 ∷ []) (0 ∷ y ∷ 2 ∷ 0 ∷ 0 ∷ y′ ∷ [])
+    (1 ∷ r ∷ 1 ∷ w ∷ 1 ∷ r′ ∷ [])
 
 abbrev pub channel : ℕ → ℕ → ℕ → ℕ → List ℕ
 channel = channelWith 0
 
 -- Two messages that wait for a process with all the checkpoints that it may have.
 unfoldable pub fullReceiver : List ℕ
-fullReceiver = u16s (2 ∷ 2 ∷ 1 ∷ 4096 ∷ 0 ∷ 0 ∷ 0 ∷ 0 ∷ 1 ∷ 0 ∷ 1 ∷ 0 ∷ [])
+fullReceiver = caseTable 2 2 (1 ∷ 4096 ∷ []) (0 ∷ 0 ∷ 0 ∷ 0 ∷ []) (1 ∷ 0 ∷ 1 ∷ 0 ∷ [])
 
 unfoldable pub channelCases : List Case
 channelCases =
@@ -335,12 +334,12 @@ ZigzagExample = Zigzag (decode tableA) 0 2 0 2
 -- cycle of C_{2,1} by m5 and m4, one of C_{3,1} by m3, m1 and m2. The source counts processes from 1.
 unfoldable pub figureOne : List ℕ
 figureOne =
-    u16s (3 ∷ 5 ∷ 2 ∷ 2 ∷ 2 ∷ 0 ∷ 0 ∷ 1 ∷ 0 ∷ 2 ∷ 1 ∷ 0 ∷ 1 ∷ 1 ∷ 1
-    ∷ 1 ∷ 1 ∷ 2 ∷ 1 ∷ 0 ∷ 1 ∷ 1 ∷ 1 ∷ 0 ∷ 2 ∷ [])
+    caseTable 3 5 (2 ∷ 2 ∷ 2 ∷ []) (0 ∷ 0 ∷ 1 ∷ 0 ∷ 2 ∷ 1 ∷ 0 ∷ 1 ∷ 1 ∷ 1 ∷ [])
+    (1 ∷ 1 ∷ 2 ∷ 1 ∷ 0 ∷ 1 ∷ 1 ∷ 1 ∷ 0 ∷ 2 ∷ [])
 
 -- Process 1 sends to 2 in the interval in which it receives from 0, perhaps before it: a path that is not causal.
 unfoldable pub oneInterval : List ℕ
-oneInterval = u16s (3 ∷ 2 ∷ 2 ∷ 3 ∷ 3 ∷ 0 ∷ 1 ∷ 1 ∷ 1 ∷ 1 ∷ 2 ∷ 2 ∷ 2 ∷ [])
+oneInterval = caseTable 3 2 (2 ∷ 3 ∷ 3 ∷ []) (0 ∷ 1 ∷ 1 ∷ 1 ∷ []) (1 ∷ 2 ∷ 2 ∷ 2 ∷ [])
 
 unfoldable pub standingCases : List Case
 standingCases =

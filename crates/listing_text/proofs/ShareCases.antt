@@ -6,7 +6,7 @@ use Rattle.consistency.specs.Ceilings.{ceilingOf, lineOf, single}
 use Rattle.consistency.specs.Lowering.{isOrphan, lineUnder, lower, pass, passes}
 use Rattle.consistency.specs.Ceilings.{holderLine}
 use Rattle.keep_sheet.specs.Sheet.{keepsCheckpoint, keptCheckpoints}
-use Rattle.keeper.specs.Cases.{tableA, tableB, tableC, tableD}
+use Rattle.keeper.specs.Cases.{caseTable, likeA, tableB, tableC, tableD}
 use Rattle.listing_text.specs.Listing.{share}
 use Rattle.rounding.specs.Rounding.{evenOf, roundedQuotient}
 use Rattle.listing_text.specs.ShareCases.{allPortions, allShares, portions, shareCases}
@@ -20,7 +20,7 @@ unfolding evenOf roundedQuotient allPortions portions
 all-portions = refl
 
 pub share-cases : allShares shareCases ≡ true
-unfolding evenOf roundedQuotient allShares shareCases share checkpointTotal tableA tableB tableC tableD processesIn messagesIn countsPart sendsPart
-    receiptsPart countAt processAt checkpointAt messageAt decode numberAt bytesOf bytesOfAll tabulate anyBelow rows select sum processCount
+unfolding evenOf roundedQuotient allShares shareCases share checkpointTotal caseTable likeA tableB tableC tableD processesIn messagesIn countsPart
+    sendsPart receiptsPart countAt processAt checkpointAt messageAt decode numberAt bytesOf bytesOfAll tabulate anyBelow rows select sum processCount
     messageCount countOf messageOf ceilingOf lineOf single isOrphan lower pass passes lineUnder holderLine keepsCheckpoint keptCheckpoints
 share-cases = refl

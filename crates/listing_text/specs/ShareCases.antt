@@ -3,11 +3,10 @@ use mathlib.Core.Bool.{Bool, true, _&&_}
 use mathlib.Core.List.{List, [], _∷_}
 use Prim.Native.Nat.{ℕ, _*_}
 use lib.Dec.{eqb}
-use Rattle.keeper.specs.Cases.{tableA, tableB, tableC, tableD}
+use Rattle.keeper.specs.Cases.{caseTable, tableA, tableB, tableC, tableD}
 use Rattle.listing_text.specs.Listing.{share}
 use Rattle.rounding.specs.Rounding.{roundedQuotient}
 use Rattle.tables.specs.Format.{decode}
-use Rattle.tables.specs.Numbers.{u16s}
 
 -- So many checkpoints of so many, and the percentage.
 pub record Portion : Type 0 where
@@ -58,9 +57,9 @@ unfoldable pub shareCases : List ShareCase
 shareCases =
     record { table = tableA; expected = 50 } ∷ record { table = tableB; expected = 100 }
     ∷ record { table = tableC; expected = 40 } ∷ record { table = tableD; expected = 75 }
-    ∷ record { table = u16s (1 ∷ 0 ∷ 8 ∷ []); expected = 12 }
-    ∷ record { table = u16s (3 ∷ 0 ∷ 2 ∷ 3 ∷ 3 ∷ []); expected = 38 }
-    ∷ record { table = u16s (1 ∷ 0 ∷ 7 ∷ []); expected = 14 }
-    ∷ record { table = u16s (1 ∷ 0 ∷ 9 ∷ []); expected = 11 }
-    ∷ record { table = u16s (3 ∷ 0 ∷ 2 ∷ 3 ∷ 2 ∷ []); expected = 43 }
-    ∷ record { table = u16s (3 ∷ 0 ∷ 2 ∷ 3 ∷ 4 ∷ []); expected = 33 } ∷ []
+    ∷ record { table = caseTable 1 0 (8 ∷ []) [] []; expected = 12 }
+    ∷ record { table = caseTable 3 0 (2 ∷ 3 ∷ 3 ∷ []) [] []; expected = 38 }
+    ∷ record { table = caseTable 1 0 (7 ∷ []) [] []; expected = 14 }
+    ∷ record { table = caseTable 1 0 (9 ∷ []) [] []; expected = 11 }
+    ∷ record { table = caseTable 3 0 (2 ∷ 3 ∷ 2 ∷ []) [] []; expected = 43 }
+    ∷ record { table = caseTable 3 0 (2 ∷ 3 ∷ 4 ∷ []) [] []; expected = 33 } ∷ []

@@ -1,5 +1,5 @@
 -- The refusals of the calls on a table: the table's checks, and behind them the call's own.
---     Left, catches, next, none-left    check after check: those that are left; the next one catches, or does not; none is left
+--     ChecksLeft, catches, next, none-left    check after check: those that are left; the next one catches, or does not; none is left
 --     table-caught, own-left      the table is refused; it is accepted, and the call's own checks are left
 --     table-accepted              where no check of the call catches, none of the table's does
 --     Quiet                       none of a call's checks before 16 catches
@@ -7,11 +7,12 @@
 --     quiet-by                    then the check of any number is quiet
 --     more-left                   further checks behind a call's, of which none catches
 --     quiet-front-call            where none of a longer list catches, none of its front does
+--     first-of, second-of, neither    a check of two tests
 --     quiet-table .. quiet-sheet  each call's list, none of which catches
 --     quiet-ceilings, marks-long, quiet-receipt    what a list begins with; 19, by the length of the mark buffer
 --     long-scratch, scratch-long  15, by the scratch's length
 -- Assumes nothing.
-use mathlib.Core.Bool.{true, false}
+use mathlib.Core.Bool.{Bool, true, false, _||_}
 use mathlib.Core.List.{List, [], _∷_, _++_}
 use mathlib.Core.Path.{_≡_, refl, sym, _∙_}
 use Prim.Native.Nat.{ℕ, _*_, _≤_}
@@ -28,17 +29,17 @@ use Rattle.tables.specs.Table.{processCount}
 
 -- ---- check after check
 -- Of all checks the first that catches is the first of those that are left.
-pub record Left (all rest : List Check) : Type 0 where
+pub record ChecksLeft (all rest : List Check) : Type 0 where
   pub same : firstCaught all ≡ firstCaught rest
 
-module _ {all rest : List Check} {check : Check} (left : Left all (check ∷ rest)) where
+module _ {all rest : List Check} {check : Check} (left : ChecksLeft all (check ∷ rest)) where
   pub catches : check .caught ≡ true → check .number ≡ firstCaught all
   catches e = sym (left .same ∙ stopped check rest e)
 
-  pub next : check .caught ≡ false → Left all rest
+  pub next : check .caught ≡ false → ChecksLeft all rest
   next e = record { same = left .same ∙ passed check rest _ e refl }
 
-pub none-left : {all : List Check} → Left all [] → 0 ≡ firstCaught all
+pub none-left : {all : List Check} → ChecksLeft all [] → 0 ≡ firstCaught all
 none-left left = sym (left .same ∙ quiet-none)
 
 -- ---- behind the table's checks
@@ -47,7 +48,7 @@ module _ (table : List ℕ) (own : List Check) where
   unfolding tableRefusal
   table-caught e nonzero = caught-first (tableChecks table) own _ e nonzero
 
-  pub own-left : tableRefusal table ≡ 0 → Left (onTable table own) own
+  pub own-left : tableRefusal table ≡ 0 → ChecksLeft (onTable table own) own
   unfolding tableRefusal
   own-left accepted = record { same = append-passed (tableChecks table) own (table-refusals table) accepted }
 
@@ -75,12 +76,23 @@ pub quiet-by : {table : List ℕ} {checks : List Check} → QuietCall table chec
 quiet-by {checks = checks} q = quiet-number checks (q .quiet .refusals) (q .quiet .quiet)
 
 -- further checks behind those of a call, of which none catches
-pub more-left : {table : List ℕ} {checks : List Check} → QuietCall table checks → (more : List Check) → Left (checks ++ more) more
+pub more-left : {table : List ℕ} {checks : List Check} → QuietCall table checks → (more : List Check) → ChecksLeft (checks ++ more) more
 more-left {checks = checks} q more = record { same = append-passed checks more (q .quiet .refusals) (q .quiet .quiet) }
 
 quiet-front-call : {table : List ℕ} (checks last : List Check) → areRefusals checks ≡ true → QuietCall table (checks ++ last) → QuietCall table checks
 quiet-front-call checks last refusals q =
     record { accepted = q .accepted; quiet = record { refusals = refusals; quiet = quiet-front checks last (q .quiet .quiet) } }
+
+-- ---- a check of two tests
+module _ (a b : Bool) where
+  pub first-of : a ≡ true → (a || b) ≡ true
+  first-of e = rw e
+
+  pub second-of : a ≡ false → b ≡ true → (a || b) ≡ true
+  second-of e e′ = rw e e′
+
+  pub neither : a ≡ false → b ≡ false → (a || b) ≡ false
+  neither e e′ = rw e e′
 
 -- ---- the lists of checks, none of which catches; where one begins with another, none of that catches either
 module _ (table : List ℕ) where
@@ -92,7 +104,8 @@ module _ (table : List ℕ) where
   unfolding lineOfSetChecks areRefusals
   quiet-set set = quiet-call table _ refl
 
-  pub quiet-under : (ceilings : List ℕ) {r : ℕ} → r ≡ firstCaught (lineUnderChecks table ceilings) → r ≡ 0 → QuietCall table (lineUnderChecks table ceilings)
+  pub quiet-under : (ceilings : List ℕ) {r : ℕ} → r ≡ firstCaught (lineUnderChecks table ceilings) → r ≡ 0
+      → QuietCall table (lineUnderChecks table ceilings)
   unfolding lineUnderChecks areRefusals
   quiet-under ceilings = quiet-call table _ refl
 
@@ -110,7 +123,8 @@ module _ (table : List ℕ) where
   unfolding sendCallChecks sendChecks areRefusals
   quiet-send j i = quiet-call table _ refl
 
-  pub quiet-receive : (i : ℕ) (list : List ℕ) {r : ℕ} → r ≡ firstCaught (receiptCallChecks table i list) → r ≡ 0 → QuietCall table (receiptCallChecks table i list)
+  pub quiet-receive : (i : ℕ) (list : List ℕ) {r : ℕ} → r ≡ firstCaught (receiptCallChecks table i list) → r ≡ 0
+      → QuietCall table (receiptCallChecks table i list)
   unfolding receiptCallChecks receiptChecks areRefusals
   quiet-receive i list = quiet-call table _ refl
 
@@ -119,7 +133,8 @@ module _ (table : List ℕ) where
   unfolding checkpointCallChecks receiptCallChecks receiptChecks tableChecks areRefusals
   quiet-save i list = quiet-call table _ refl
 
-  pub quiet-sheet : (numbers : ℕ) {r : ℕ} → r ≡ firstCaught (keepSheetChecks table numbers) → r ≡ 0 → QuietCall table (keepSheetChecks table numbers)
+  pub quiet-sheet : (numbers : ℕ) {r : ℕ} → r ≡ firstCaught (keepSheetChecks table numbers) → r ≡ 0
+      → QuietCall table (keepSheetChecks table numbers)
   unfolding keepSheetChecks areRefusals
   quiet-sheet numbers = quiet-call table _ refl
 

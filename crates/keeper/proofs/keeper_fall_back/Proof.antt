@@ -15,7 +15,7 @@ use Rattle.tables.specs.Format.{decode}
 use Rattle.keeper.proofs.keeper_fall_back.Statement.{statement}
 use Rattle.keeper.proofs.keeper_fall_back.Tie as tie
 
--- ---- the places: the entry; where no check before 16 caught; where the recovery line was found; where the size was
+-- ---- the places: the entry; where no check before 16 caught; where the recovery line was found, from where the size was
 abbrev entry : tie.Else1 → tie.Start
 entry c = c .before .before .before .before
 
@@ -24,9 +24,6 @@ judged c = c .before
 
 abbrev lined : tie.After-rollback-size → tie.After-recovery-line
 lined c = c .before .before
-
-abbrev sized : tie.After-put-rollback → tie.After-rollback-size
-sized c = c .before .before .before
 
 -- ---- what is known there: no check before 16 catches; the table is at its line
 quiet : (c : tie.Else1) → QuietCall (now (entry c .args .table)) (tableChecks (now (entry c .args .table)))
@@ -61,6 +58,6 @@ keeper-fall-back-spec =
     -- the answer
     (λ c.
     let put = c .before .before in
-    let size = sized put in
+    let size = put .before .before .before in
     call-answered (rollback-judged (quiet (judged (lined size))) (size .before .count-remaining .ensures)) (size .rollback-size .ensures)
     (put .before .before .if2 .left) (put .put-rollback .ensures)))

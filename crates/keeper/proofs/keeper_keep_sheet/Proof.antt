@@ -17,7 +17,7 @@ use Rattle.refusals.specs.CallChecks.{keepSheetChecks}
 use Rattle.keeper.proofs.keeper_keep_sheet.Statement.{statement}
 use Rattle.keeper.proofs.keeper_keep_sheet.Tie as tie
 
--- ---- the places: the entry; where no check before 16 caught; where the scratch was filled; where K, Q and the size were found
+-- ---- the places: the entry; where no check before 16 caught; where the scratch was filled; where K and Q were found
 abbrev entry : tie.Else1 → tie.Start
 entry c = c .before .before .before .before .before
 
@@ -29,9 +29,6 @@ filled c = c .before .before .before .before
 
 abbrev counted : tie.After-count-messages → tie.After-count-checkpoints
 counted c = c .before .before
-
-abbrev sized : tie.After-put-sheet → tie.After-sheet-size
-sized c = c .before .before .before .before
 
 -- ---- what is known there: no check before 16 catches; the scratch has the lines; the sheet is the answer
 abbrev table : tie.Else1 → List ℕ
@@ -94,7 +91,7 @@ keeper-keep-sheet-spec =
     -- the answer
     (λ c.
     let put = c .before .before in
-    let size = sized put in
+    let size = put .before .before .before .before in
     let full = filled (counted (size .before)) in
     let all = call-answered (sheeted (size .before)) (size .sheet-size .ensures) (put .before .before .before .if2 .left) (put .put-sheet .ensures) in
     (all .0, (scratch-filled _ _ (quiet (judged full) .quiet) _ (full .fill-lines .ensures), all .1))))

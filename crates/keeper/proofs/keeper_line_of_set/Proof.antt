@@ -12,12 +12,10 @@ use Rattle.refusals.specs.CallChecks.{lineOfSetChecks}
 use Rattle.keeper.proofs.keeper_line_of_set.Statement.{statement}
 use Rattle.keeper.proofs.keeper_line_of_set.Tie as tie
 
--- ---- the places: the entry, from where no check before 16 caught
-abbrev entry : tie.Else1 → tie.Start
-entry c = c .before .before .before .before
-
--- ---- what is known there: no check before 16 catches
-quiet : (c : tie.Else1) → QuietCall (now (entry c .args .table)) (lineOfSetChecks (now (entry c .args .table)) (entry c .args .set))
+-- ---- what is known where no check before 16 caught
+quiet : (c : tie.Else1)
+    → (let args = c .before .before .before .before .args in
+    QuietCall (now (args .table)) (lineOfSetChecks (now (args .table)) (args .set)))
 quiet c = quiet-set _ _ (c .before .set-refusal .ensures) (c .if1 .left)
 
 -- ---- the needs, in the code's course
@@ -40,4 +38,5 @@ keeper-line-of-set-spec =
     (λ c.
     let put = c .before .before in
     let size = put .before .before .before in
-    call-answered (line-judged (quiet (size .before)) (set-ceiling _ _)) (size .line-size .ensures) (put .before .before .if2 .left) (put .put-line-of-set .ensures)))
+    call-answered (line-judged (quiet (size .before)) (set-ceiling _ _)) (size .line-size .ensures) (put .before .before .if2 .left)
+    (put .put-line-of-set .ensures)))

@@ -9,13 +9,9 @@ use Rattle.refusals.specs.CallChecks.{markedLineChecks}
 use Rattle.keeper.proofs.keeper_marked_line.Statement.{statement}
 use Rattle.keeper.proofs.keeper_marked_line.Tie as tie
 
--- ---- the places: the entry, from where no check before 16 caught
-abbrev entry : tie.Else1 → tie.Start
-entry c = c .before .before .before .before .before .before
-
--- ---- what is known there: no check before 16 catches
+-- ---- what is known where no check before 16 caught
 quiet : (c : tie.Else1)
-    → (let args = entry c .args in
+    → (let args = c .before .before .before .before .before .before .args in
     QuietCall (now (args .table)) (markedLineChecks (now (args .table)) (now (args .ceilings)) (length (now (args .marks)))))
 quiet c = quiet-marking _ _ _ (c .before .marking-refusal .ensures) (c .if1 .left)
 

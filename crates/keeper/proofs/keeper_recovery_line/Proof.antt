@@ -13,12 +13,10 @@ use Rattle.tables.specs.Checks.{tableChecks, tableRefusal}
 use Rattle.keeper.proofs.keeper_recovery_line.Statement.{statement}
 use Rattle.keeper.proofs.keeper_recovery_line.Tie as tie
 
--- ---- the places: the entry, from where no check before 16 caught
-abbrev entry : tie.Else1 → tie.Start
-entry c = c .before .before .before .before
-
--- ---- what is known there: no check before 16 catches
-quiet : (c : tie.Else1) → QuietCall (now (entry c .args .table)) (tableChecks (now (entry c .args .table)))
+-- ---- what is known where no check before 16 caught
+quiet : (c : tie.Else1)
+    → (let args = c .before .before .before .before .args in
+    QuietCall (now (args .table)) (tableChecks (now (args .table))))
 quiet c = quiet-table _ (c .before .check .ensures) (c .if1 .left)
 
 -- ---- the needs, in the code's course

@@ -10,13 +10,9 @@ use Rattle.refusals.specs.CallChecks.{checkpointCallChecks}
 use Rattle.keeper.proofs.keeper_save.Statement.{statement}
 use Rattle.keeper.proofs.keeper_save.Tie as tie
 
--- ---- the places: the entry, from where no check before 16 caught
-abbrev entry : tie.Else1 → tie.Start
-entry c = c .before .before .before .before .before
-
--- ---- what is known there: no check before 16 catches
+-- ---- what is known where no check before 16 caught
 quiet : (c : tie.Else1)
-    → (let args = entry c .args in
+    → (let args = c .before .before .before .before .before .args in
     QuietCall (now (args .table)) (checkpointCallChecks (now (args .table)) (args .process) (now (args .list))))
 quiet c = quiet-save _ _ _ (c .before .checkpoint-refusal .ensures) (c .if1 .left)
 

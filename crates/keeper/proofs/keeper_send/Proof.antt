@@ -10,13 +10,9 @@ use Rattle.refusals.specs.CallChecks.{sendCallChecks}
 use Rattle.keeper.proofs.keeper_send.Statement.{statement}
 use Rattle.keeper.proofs.keeper_send.Tie as tie
 
--- ---- the places: the entry, from where no check before 16 caught
-abbrev entry : tie.Else1 → tie.Start
-entry c = c .before .before .before .before
-
--- ---- what is known there: no check before 16 catches
+-- ---- what is known where no check before 16 caught
 quiet : (c : tie.Else1)
-    → (let args = entry c .args in
+    → (let args = c .before .before .before .before .args in
     QuietCall (now (args .table)) (sendCallChecks (now (args .table)) (args .from) (args .to)))
 quiet c = quiet-send _ _ _ (c .before .send-refusal .ensures) (c .if1 .left)
 

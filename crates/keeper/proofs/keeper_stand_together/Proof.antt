@@ -12,7 +12,7 @@ use Rattle.zigzag.specs.Together.{misses, namedLine}
 use Rattle.keeper.proofs.keeper_stand_together.Statement.{statement}
 use Rattle.keeper.proofs.keeper_stand_together.Tie as tie
 
--- ---- the places: the entry; where no check before 16 caught; where the line was found; where it has the names; where the size was found
+-- ---- the places: the entry; where no check before 16 caught; where the line was found, from where it has the names
 abbrev entry : tie.Else1 → tie.Start
 entry c = c .before .before .before .before .before .before
 
@@ -21,12 +21,6 @@ judged c = c .before
 
 abbrev lined : tie.Else2 → tie.After-named-line
 lined c = c .before .before
-
-abbrev standing : tie.After-line-size → tie.Else2
-standing c = c .before
-
-abbrev sized : tie.After-put-line → tie.After-line-size
-sized c = c .before .before .before
 
 -- ---- what is known there: no check before 16 catches; the line has the names
 quiet : (c : tie.Else1)
@@ -60,17 +54,17 @@ keeper-stand-together-spec =
     -- 16
     (λ c.
     let size = c .before in
-    let here = standing size in
+    let here = size .before in
     standing-short _ _ _ (quiet (judged (lined here))) (has-names here) (size .line-size .ensures) (c .if3 .taken))
     -- asked by `put_line`
     (λ c κs.
     let size = c .before .before in
-    (quiet (judged (lined (standing size))) .accepted, search needs))
+    (quiet (judged (lined (size .before))) .accepted, search needs))
     (λ c. search needs)
     -- a yes
     (λ c.
     let put = c .before .before in
-    let size = sized put in
-    let here = standing size in
+    let size = put .before .before .before in
+    let here = size .before in
     standing-yes _ _ _ (quiet (judged (lined here))) (has-names here) (size .line-size .ensures) _ (put .before .before .if3 .left)
     (lined here .named-line .ensures) (put .put-line .ensures)))

@@ -2,22 +2,11 @@
 -- Assumes nothing.
 use borrow.Author.Needs.{needs}
 use mathlib.Core.Path.{sym, _∙_}
-use denote.Ref.{now}
-use Rattle.refusals.proofs.RefusalLaws.{QuietCall, catches, more-left, next, none-left, quiet-receive}
-use Rattle.refusals.specs.CallChecks.{checkpointCallChecks, receiptCallChecks}
+use Rattle.refusals.proofs.RefusalLaws.{catches, more-left, next, none-left, quiet-receive}
+use Rattle.refusals.specs.CallChecks.{checkpointCallChecks}
 use Rattle.tables.proofs.CheckLaws.{caught-first}
 use Rattle.refusals.proofs.checkpoint_refusal.Statement.{statement}
 use Rattle.refusals.proofs.checkpoint_refusal.Tie as tie
-
--- ---- the places: the entry, from where the receipt was judged
-abbrev entry : tie.After-receipt-refusal → tie.Start
-entry c = c .before .before .before
-
--- ---- what is known there: no check of the receipt catches
-quiet : (c : tie.Else1)
-    → (let args = entry (c .before) .args in
-    QuietCall (now (args .table)) (receiptCallChecks (now (args .table)) (args .process) (now (args .list))))
-quiet c = quiet-receive _ _ _ (c .before .receipt-refusal .ensures) (c .if1 .left)
 
 -- ---- the needs, in the code's course
 pub checkpoint-refusal-spec : {M : Type 1} → statement M
@@ -30,6 +19,13 @@ checkpoint-refusal-spec =
     (λ c. caught-first _ _ _ (c .before .receipt-refusal .ensures) (c .if1 .taken))
     (λ c κs. search needs)
     -- 14
-    (λ c. catches (more-left (quiet (c .before .before)) _) (sym (c .before .full-of-checkpoints .ensures) ∙ c .if2 .taken))
+    (λ c.
+    let here = c .before .before in
+    catches (more-left (quiet-receive _ _ _ (here .before .receipt-refusal .ensures) (here .if1 .left)) _)
+    (sym (c .before .full-of-checkpoints .ensures) ∙ c .if2 .taken))
     -- none
-    (λ c. none-left (next (more-left (quiet (c .before .before)) _) (sym (c .before .full-of-checkpoints .ensures) ∙ c .if2 .left))))
+    (λ c.
+    let here = c .before .before in
+    none-left
+    (next (more-left (quiet-receive _ _ _ (here .before .receipt-refusal .ensures) (here .if1 .left)) _)
+    (sym (c .before .full-of-checkpoints .ensures) ∙ c .if2 .left))))
