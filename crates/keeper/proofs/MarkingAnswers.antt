@@ -1,5 +1,5 @@
 -- The answers of the line by marking.
---     Marks                  all that the call promises
+--     MeetsByMarking         all that the call promises
 --     marked-refused, marked-short, marked-answered    where a check before 16 catches, where 16 does, and where none does
 --     marked-ceiling         where no check before 16 catches, the ceilings are a ceiling
 --     marked-under           where the mark buffer is long enough, the answer is that of the line under ceilings, byte for byte, and refused alike
@@ -30,8 +30,8 @@ use Rattle.tables.specs.Numbers.{putAt, u16s}
 use Rattle.tables.specs.Table.{processCount}
 
 -- All that the call promises: what it yields, the mark buffer afterwards, the same by the line under ceilings, and that this is the latest one.
-abbrev pub Marks : List ℕ → List ℕ → ℕ → ℕ → List ℕ → List ℕ → List ℕ → List ℕ → ℕ → ℕ → Type 0
-Marks table ceilings room number marks marks′ buffer buffer′ written written′ =
+abbrev pub MeetsByMarking : List ℕ → List ℕ → ℕ → ℕ → List ℕ → List ℕ → List ℕ → List ℕ → ℕ → ℕ → Type 0
+MeetsByMarking table ceilings room number marks marks′ buffer buffer′ written written′ =
     YieldsByMarking table ceilings (length marks) room number buffer buffer′ written written′
     × ((marks′ ≡ marksAfter number table marks)
     × (Yields (markedLineAnswer table ceilings (length marks) room) number buffer buffer′ written written′
@@ -45,7 +45,7 @@ unchanged (suc n) table marks nonzero = refl
 
 module _ (table ceilings : List ℕ) (room : ℕ) (marks : List ℕ) {r : ℕ} {buffer : List ℕ} {written : ℕ} where
   pub marked-refused : r ≡ firstCaught (markedLineChecks table ceilings (length marks)) → (r ≡ 0 → ⊥)
-      → Marks table ceilings room r marks marks buffer buffer written written
+      → MeetsByMarking table ceilings room r marks marks buffer buffer written written
   unfolding markedLineAnswer lineAnswer
   marked-refused e nonzero =
       let line = call-refused _ _ room e nonzero in
@@ -63,7 +63,7 @@ module _ {table ceilings : List ℕ} (marks : List ℕ) (q : QuietCall table (ma
   ends = subst (EndsWith (decode table) ceilings) (agrees .same _ (agrees .ends .1)) (agrees .ends .1)
 
   pub marked-short : {size : ℕ} → size ≡ 2 * processCount (decode table) → {room : ℕ} {buffer : List ℕ} {written : ℕ} → room < size
-      → Marks table ceilings room 16 marks marks buffer buffer written written
+      → MeetsByMarking table ceilings room 16 marks marks buffer buffer written written
   unfolding markedLineAnswer lineAnswer
   marked-short found short =
       let line = call-short (line-judged q (marked-ceiling _ q)) found short in
@@ -71,7 +71,7 @@ module _ {table ceilings : List ℕ} (marks : List ℕ) (q : QuietCall table (ma
 
   pub marked-answered : {size : ℕ} → size ≡ 2 * processCount (decode table) → {room : ℕ} {marks′ buffer buffer′ : List ℕ} {written : ℕ}
       → size ≤ room → marks′ ≡ cleared (marksSize (decode table)) marks → PutByMarking (decode table) ceilings buffer buffer′
-      → Marks table ceilings room 0 marks marks′ buffer buffer′ written size
+      → MeetsByMarking table ceilings room 0 marks marks′ buffer buffer′ written size
   unfolding markedLineAnswer lineAnswer marksAfter
   marked-answered found {buffer = buffer} enough clear put =
       let same = ap (λ (l : List ℕ). putAt buffer 0 (u16s l)) (agrees .same _ (put .by-marking)) in

@@ -38,14 +38,14 @@ use Rattle.zigzag.specs.Names.{Names, unknownNamed}
 use Rattle.zigzag.specs.Together.{StandOn, Together, misses, namedCeiling, namedLine}
 
 -- All that the call promises: what it yields, and what it tells where no check before 16 catches.
-abbrev pub Stands : List ℕ → List ℕ → List ℕ → ℕ → ℕ → List ℕ → List ℕ → ℕ → ℕ → Type 0
-Stands table processes states room number buffer buffer′ written written′ =
+abbrev pub MeetsStanding : List ℕ → List ℕ → List ℕ → ℕ → ℕ → List ℕ → List ℕ → ℕ → ℕ → Type 0
+MeetsStanding table processes states room number buffer buffer′ written written′ =
     Yields (standTogetherAnswer table processes states room) number buffer buffer′ written written′
     × (firstCaught (standTogetherChecks table processes states) ≡ 0 → TellsTogether (decode table) processes states number buffer′ written′)
 
 pub standing-refused : (table processes states : List ℕ) (room : ℕ) {r : ℕ} {buffer : List ℕ} {written : ℕ}
     → r ≡ firstCaught (standTogetherChecks table processes states) → (r ≡ 0 → ⊥)
-    → Stands table processes states room r buffer buffer written written
+    → MeetsStanding table processes states room r buffer buffer written written
 unfolding standTogetherAnswer
 standing-refused table processes states room e nonzero = (refused _ _ room e nonzero, λ none. absurd (nonzero (e ∙ none)))
 
@@ -88,7 +88,7 @@ module _ (table processes states : List ℕ) (q : QuietCall table (standTogether
 
   -- one of the names is not on the line
   pub standing-no : misses processes states line ≡ true → (room : ℕ) {buffer : List ℕ} {written : ℕ}
-      → Stands table processes states room 0 buffer buffer written 0
+      → MeetsStanding table processes states room 0 buffer buffer written 0
   unfolding standTogetherAnswer standingBytes
   standing-no e room {buffer} = (
     rw e (answered _ [] room (q .quiet) refl (omega arith) (sym (put-in-front buffer []))),
@@ -101,7 +101,7 @@ module _ (table processes states : List ℕ) (q : QuietCall table (standTogether
     judged = line-judged q ceiling
 
     pub standing-short : {room : ℕ} {buffer : List ℕ} {written : ℕ} → room < size
-        → Stands table processes states room 16 buffer buffer written written
+        → MeetsStanding table processes states room 16 buffer buffer written written
     unfolding standTogetherAnswer standingBytes namedLine
     standing-short short = (
       rw e (call-short judged found short .0),
@@ -122,7 +122,7 @@ module _ (table processes states : List ℕ) (q : QuietCall table (standTogether
           (numbers-read table (q .accepted) ceiling buffer put)
           (agrees .stands (λ z. true≢false (sym (agrees .told .1 z) ∙ e)), agrees .latest)
 
-      pub standing-yes : {written : ℕ} → Stands table processes states room 0 buffer buffer′ written size
+      pub standing-yes : {written : ℕ} → MeetsStanding table processes states room 0 buffer buffer′ written size
       unfolding standTogetherAnswer standingBytes namedLine
       standing-yes = (
         rw e (call-answered judged found enough put .0),
