@@ -37,15 +37,17 @@ names-refusal-spec =
     let good = c .before .before in
     (search needs, parallel _ _ _ (good .before .before .if2 .left) (sym (good .before .unknown-process .ensures) ∙ good .if3 .left)))
     (λ c.
-    let rising = c .before .before in
-    let good = rising .before .before in
+    let all = c .before .before in
+    let good = all .before .before in
     let twenty = ap not (eq-eqb _ _ (good .before .before .if2 .left)) in
-    let twenty-one = neither _ _ (sym (good .before .unknown-process .ensures) ∙ good .if3 .left) (sym (rising .before .not-rising .ensures) ∙ rising .if4 .left) in
+    let known = sym (good .before .unknown-process .ensures) ∙ good .if3 .left in
+    let twenty-one = neither _ _ known (sym (all .before .not-rising .ensures) ∙ all .if4 .left) in
     catches (next (next (own-left _ _ (search needs)) twenty) twenty-one) (sym (c .before .not-below-counts .ensures) ∙ c .if5 .taken))
     -- none
     (λ c.
-    let rising = c .before .before in
-    let good = rising .before .before in
+    let all = c .before .before in
+    let good = all .before .before in
     let twenty = ap not (eq-eqb _ _ (good .before .before .if2 .left)) in
-    let twenty-one = neither _ _ (sym (good .before .unknown-process .ensures) ∙ good .if3 .left) (sym (rising .before .not-rising .ensures) ∙ rising .if4 .left) in
+    let known = sym (good .before .unknown-process .ensures) ∙ good .if3 .left in
+    let twenty-one = neither _ _ known (sym (all .before .not-rising .ensures) ∙ all .if4 .left) in
     none-left (next (next (next (own-left _ _ (search needs)) twenty) twenty-one) (sym (c .before .not-below-counts .ensures) ∙ c .if5 .left))))
