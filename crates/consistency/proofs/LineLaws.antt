@@ -1,12 +1,11 @@
 -- Laws of consistent lines and of the latest one.
---     orphan-free, no-orphan        not an orphan, as an implication and back
+--     orphan-free                   not an orphan, as an implication
 --     zero-consistent               the line of zeros is consistent
 --     max-consistent, min-consistent    of two consistent lines the larger and the smaller, place by place
 --     latest-unique                 two latest lines under one ceiling are the same at every process
 --     latest-monotone               a higher ceiling gives no lower line
 --     latest-antitone               more messages give no higher line
 --     latest-min                    the line under the smaller of two ceilings is the smaller of their lines
---     latest-between                a consistent line between the latest one and the ceiling is the latest one
 --     latest-from                   the latest line under anything between the line and its ceiling is the same line
 -- Assumes nothing.
 use mathlib.Core.List.{List}
@@ -26,9 +25,6 @@ orphan-free m l none d s = go (decLe (m .received) (l (m .receiver)))
     go : Dec (m .received ≤ l (m .receiver)) → l (m .receiver) < m .received
     go (yes b) = absurd (none (record { delivered = d; sent-after = s; received-before = b }))
     go (no b) = omega arith
-
-pub no-orphan : (m : Message) (l : Line) → (0 < m .received → l (m .sender) ≤ m .sent → l (m .receiver) < m .received) → Orphan m l → ⊥
-no-orphan m l free o = omega (arith, free (o .delivered) (o .sent-after), o .received-before)
 
 pub zero-consistent : (messages : List Message) (l : Line) → ((p : ℕ) → l p ≡ 0) → Consistent messages l
 zero-consistent messages l z k o = omega (arith, o .delivered, o .received-before, z (getD messages k noMessage .receiver))
@@ -76,10 +72,6 @@ latest-min messages ceiling ceiling′ l l′ a b = record {
   latest = λ other below c p.
       omega (arith, a .latest other (λ q. omega (arith, below q)) c p, b .latest other (λ q. omega (arith, below q)) c p);
 }
-
-pub latest-between : (messages : List Message) (ceiling l l′ : Line) → Latest messages ceiling l → AtOrBelow l l′ → AtOrBelow l′ ceiling
-    → Consistent messages l′ → (p : ℕ) → l′ p ≡ l p
-latest-between messages ceiling l l′ a above below c p = le-antisymm (a .latest l′ below c p) (above p)
 
 pub latest-from : (messages : List Message) (ceiling start l : Line) → Latest messages ceiling l → AtOrBelow l start → AtOrBelow start ceiling
     → Latest messages start l

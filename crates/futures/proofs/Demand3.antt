@@ -1,5 +1,5 @@
--- Demand 3, proved. For every well formed table, and so for every accepted one: a checkpoint or message is on the sheet exactly when
--- some finite list of sends, receipts, checkpoints and rollbacks, in any order and without limit, needs it.
+-- Demand 3, proved. For every well formed table, its channels in turn or not, and so for every accepted one: a checkpoint or message is
+-- on the sheet exactly when some finite list of sends, receipts, checkpoints and rollbacks, in any order and without limit, needs it.
 --     checkpoint-needed, message-needed    the sheet's test passes just when some future needs the checkpoint or the message
 --     demand-3                             so the sheet's lists hold exactly what futures need
 --     nothing-off-the-sheet-is-needed      no future needs what is not listed

@@ -1,19 +1,16 @@
 -- Laws of futures: what a list of steps keeps of the run that it starts from.
---     end-well-formed                  the table at the end is well formed
 --     Grown, send-grown, receipt-grown, checkpoint-grown    all but a rollback keep every checkpoint and message, and receive late
---     nothing-lost                     a step that is no rollback loses nothing, and moves nothing
+--     LosesNothing, by-step            a step that is no rollback loses nothing, and moves nothing; what holds of it, and of a rollback
 --     rolled-to, rolled-message        where a rollback moves a message, and what it makes of it
 --     moved-inside, moved-same, moved-order    the messages over one step
 --     still-there-count                a checkpoint that is still there is a checkpoint of the last table
 --     followed-inside, followed-same   a message that is still there is a message of the last table, with the sender, send number
 --                                      and receiver that it had
---     followed-once, followed-order    it stands at one position, and messages that are still there keep their order
---     end-append, still-there-append, followed-append    one future after another
---     needs-checkpoint-later, needs-message-later        what a later future needs, the whole future needs
+--     followed-order                   messages that are still there keep their order
 --     needs-checkpoint-now, needs-message-now            the empty future needs what the table's own recovery line needs
 -- Assumes nothing.
 use mathlib.Core.Bool.{Bool, true, false, cond}
-use mathlib.Core.List.{List, [], _∷_, _++_}
+use mathlib.Core.List.{List, [], _∷_}
 use mathlib.Core.Logic.{_↔_, _⊎_}
 use mathlib.Core.Path.{_≡_, refl, sym, ap, _∙_, subst, subst⁻¹}
 use Prim.Native.Nat.{ℕ, _≤_, _<_}
@@ -25,22 +22,16 @@ use lib.ListN.{length, take}
 use Rattle.consistency.specs.Ceilings.{recoveryLine}
 use Rattle.consistency.specs.Lines.{AtOrBelow, asLine}
 use Rattle.steps.proofs.StepLaws.{Receives, checkpoint-receives, putBack-receiver, putBack-sender, putBack-sent, receipt-receives, receipt-waiting}
-use Rattle.steps.proofs.StepLaws.{receivedAt-listed, receivedAt-unlisted, receives-message, receives-messages, rollback-count, rollback-message}
-use Rattle.steps.proofs.StepLaws.{rollback-order, rollback-place, send-count, send-message-new, send-message-old, send-messages, step-cases}
-use Rattle.steps.proofs.StepLaws.{step-well-formed}
+use Rattle.steps.proofs.StepLaws.{receivedAt-listed, receivedAt-unlisted, receives-message, receives-messages, rollback-count, rollback-message, rollback-order}
+use Rattle.steps.proofs.StepLaws.{rollback-place, send-count, send-message-new, send-message-old, send-messages, step-cases}
 use Rattle.futures.specs.Futures.{FollowedTo, Future, NeedsCheckpoint, NeedsMessage, Place, StepKeeps, StillThere, at-position, endOf, gone, moved}
 use Rattle.futures.specs.Futures.{placeOf}
 use Rattle.steps.specs.Steps.{Step, afterCheckpoint, afterReceipt, afterRollback, afterSend, checkpoint, putBack, receiptChecks, receive, receivedAt}
 use Rattle.steps.specs.Steps.{remaining, rollback, send, sendChecks, stays, step}
 use Rattle.tables.proofs.FormatLaws.{known-process, message-beyond}
-use Rattle.tables.specs.Checks.{WellFormed, firstCaught}
+use Rattle.tables.specs.Checks.{firstCaught}
 use Rattle.tables.specs.Lists.{any}
-use Rattle.tables.specs.Table.{Message, Table, countOf, messageCount, messageOf, processCount}
-
-pub end-well-formed : (t : Table) → WellFormed t → (future : Future) → WellFormed (endOf t future)
-unfolding endOf
-end-well-formed t w [] = w
-end-well-formed t w (s ∷ rest) = end-well-formed (step t s) (step-well-formed t w s) rest
+use Rattle.tables.specs.Table.{Message, Table, countOf, messageCount, messageOf}
 
 -- ---- one step
 -- A message after a step, or after several, is the one that it was but for its receipt.
@@ -125,29 +116,40 @@ module _ (t : Table) where
       step-cases (receiptChecks t i list) (afterCheckpoint t i list) t (Grown t)
       (receives-grown i list (afterCheckpoint t i list) (checkpoint-receives t i list)) (table-grown t)
 
--- a checkpoint that a step keeps is one of the table after it
-pub step-keeps-count : (t : Table) (s : Step) (i c : ℕ) → c < countOf t i → StepKeeps t s i c → c < countOf (step t s) i
-unfolding StepKeeps
-step-keeps-count t (send j i′) i c b keeps = omega (arith, send-grown t j i′ .counts-grow i)
-step-keeps-count t (receive i′ list) i c b keeps = omega (arith, receipt-grown t i′ list .counts-grow i)
-step-keeps-count t (checkpoint i′ list) i c b keeps = omega (arith, checkpoint-grown t i′ list .counts-grow i)
-step-keeps-count t rollback i c b keeps = unfold step in omega (arith, rollback-count t i (known-process t i c b))
-
 -- ---- where a step moves a message
 -- The message at position k is at position n after the step.
 abbrev pub MovedTo : Table → Step → ℕ → ℕ → Type 0
 MovedTo t s k n = moved t s k ≡ at-position n
 
--- a step that is no rollback loses nothing, and moves nothing
-pub nothing-lost : (t : Table) (s : Step) → (s ≡ rollback → ⊥) → ((i c : ℕ) → StepKeeps t s i c) × ((k : ℕ) → MovedTo t s k k)
-unfolding StepKeeps moved
-nothing-lost t (send j i) other = (λ p c. tt, λ k. refl)
-nothing-lost t (receive i list) other = (λ p c. tt, λ k. refl)
-nothing-lost t (checkpoint i list) other = (λ p c. tt, λ k. refl)
-nothing-lost t rollback other = absurd (other refl)
-
 pub same-position : (k n : ℕ) → at-position k ≡ at-position n → k ≡ n
 same-position k n e = cc
+
+-- What a step that is no rollback does: it loses nothing, and moves nothing.
+pub record LosesNothing (t : Table) (s : Step) : Type 0 where
+  pub grown : Grown t (step t s)
+  pub checkpoints-stay : (i c : ℕ) → StepKeeps t s i c
+  pub messages-stay : (k : ℕ) → MovedTo t s k k
+
+pub stayed-at : {t : Table} {s : Step} {k n : ℕ} → LosesNothing t s → MovedTo t s k n → k ≡ n
+stayed-at {k = k} {n = n} x e = same-position k n (sym (x .messages-stay k) ∙ e)
+
+-- what holds of each such step, and of a rollback, holds of every step
+pub by-step : (t : Table) (Q : Step → Type 0) → ((s : Step) → LosesNothing t s → Q s) → Q rollback → (s : Step) → Q s
+unfolding StepKeeps moved
+by-step t Q other rolled (send j i) =
+    other (send j i) (record { grown = send-grown t j i; checkpoints-stay = λ p c. tt; messages-stay = λ k. refl })
+by-step t Q other rolled (receive i list) =
+    other (receive i list) (record { grown = receipt-grown t i list; checkpoints-stay = λ p c. tt; messages-stay = λ k. refl })
+by-step t Q other rolled (checkpoint i list) =
+    other (checkpoint i list) (record { grown = checkpoint-grown t i list; checkpoints-stay = λ p c. tt; messages-stay = λ k. refl })
+by-step t Q other rolled rollback = rolled
+
+-- a checkpoint that a step keeps is one of the table after it
+pub step-keeps-count : (t : Table) (s : Step) (i c : ℕ) → c < countOf t i → StepKeeps t s i c → c < countOf (step t s) i
+unfolding StepKeeps step
+step-keeps-count t s i c b =
+    by-step t (λ s. StepKeeps t s i c → c < countOf (step t s) i) (λ s x _. omega (arith, x .grown .counts-grow i))
+    (λ keeps. omega (arith, rollback-count t i (known-process t i c b))) s
 
 -- a rollback moves a message that stays to the number of those before it that stay
 pub record RolledTo (t : Table) (k n : ℕ) : Type 0 where
@@ -169,48 +171,37 @@ rolled-to t k n e = go (stays (recoveryLine t) (messageOf t k)) refl e
 
 -- a message that a step leaves in the table
 module _ (t : Table) where
-  module _ (t′ : Table) (g : Grown t t′) (k n : ℕ) (e : at-position k ≡ at-position n) (l : k < messageCount t) where
-    kept-inside : n < messageCount t′
-    kept-inside = omega (arith, same-position k n e, g .messages-grow)
-
-    kept-same : SameMessage (messageOf t k) (messageOf t′ n)
-    kept-same = subst (λ (x : ℕ). SameMessage (messageOf t k) (messageOf t′ x)) (same-position k n e) (g .messages-go-on k l .same)
-
   pub moved-inside : (s : Step) (k n : ℕ) → k < messageCount t → MovedTo t s k n → n < messageCount (step t s)
-  unfolding moved
-  moved-inside (send j i) k n l e = kept-inside (step t (send j i)) (send-grown t j i) k n e l
-  moved-inside (receive i list) k n l e = kept-inside (step t (receive i list)) (receipt-grown t i list) k n e l
-  moved-inside (checkpoint i list) k n l e = kept-inside (step t (checkpoint i list)) (checkpoint-grown t i list) k n e l
-  moved-inside rollback k n l e =
+  unfolding step
+  moved-inside s k n l =
+      by-step t (λ s. MovedTo t s k n → n < messageCount (step t s)) (λ s x e. omega (arith, stayed-at x e, x .grown .messages-grow))
+      (λ e.
       let to = rolled-to t k n e in
-      unfold step in subst (λ (x : ℕ). x < messageCount (afterRollback t)) (to .position) (rollback-place t k l (to .stayed))
+      subst (λ (x : ℕ). x < messageCount (afterRollback t)) (to .position) (rollback-place t k l (to .stayed))) s
 
   pub rolled-message : (k n : ℕ) → k < messageCount t → RolledTo t k n → messageOf (step t rollback) n ≡ putBack (recoveryLine t) (messageOf t k)
   unfolding step
   rolled-message k n l to = ap (messageOf (afterRollback t)) (sym (to .position)) ∙ rollback-message t k l (to .stayed)
 
   pub moved-same : (s : Step) (k n : ℕ) → k < messageCount t → MovedTo t s k n → SameMessage (messageOf t k) (messageOf (step t s) n)
-  unfolding moved
-  moved-same (send j i) k n l e = kept-same (step t (send j i)) (send-grown t j i) k n e l
-  moved-same (receive i list) k n l e = kept-same (step t (receive i list)) (receipt-grown t i list) k n e l
-  moved-same (checkpoint i list) k n l e = kept-same (step t (checkpoint i list)) (checkpoint-grown t i list) k n e l
-  moved-same rollback k n l e = subst⁻¹ (SameMessage m) (rolled-message k n l (rolled-to t k n e)) (record {
-    sender-same = putBack-sender (recoveryLine t) m;
-    sent-same = putBack-sent (recoveryLine t) m;
-    receiver-same = putBack-receiver (recoveryLine t) m;
-  })
+  moved-same s k n l =
+      by-step t (λ s. MovedTo t s k n → SameMessage m (messageOf (step t s) n))
+      (λ s x e. subst (λ (a : ℕ). SameMessage m (messageOf (step t s) a)) (stayed-at x e) (x .grown .messages-go-on k l .same))
+      (λ e. subst⁻¹ (SameMessage m) (rolled-message k n l (rolled-to t k n e)) (record {
+        sender-same = putBack-sender (recoveryLine t) m;
+        sent-same = putBack-sent (recoveryLine t) m;
+        receiver-same = putBack-receiver (recoveryLine t) m;
+      })) s
     where
       m : Message
       m = messageOf t k
 
   pub moved-order : (s : Step) (a b a′ b′ : ℕ) → a < b → b < messageCount t → MovedTo t s a a′ → MovedTo t s b b′ → a′ < b′
-  unfolding moved
-  moved-order (send j i) a b a′ b′ h l e f = omega (arith, same-position a a′ e, same-position b b′ f)
-  moved-order (receive i list) a b a′ b′ h l e f = omega (arith, same-position a a′ e, same-position b b′ f)
-  moved-order (checkpoint i list) a b a′ b′ h l e f = omega (arith, same-position a a′ e, same-position b b′ f)
-  moved-order rollback a b a′ b′ h l e f =
+  moved-order s a b a′ b′ h l =
+      by-step t (λ s. MovedTo t s a a′ → MovedTo t s b b′ → a′ < b′) (λ s x e f. omega (arith, stayed-at x e, stayed-at x f))
+      (λ e f.
       let to = rolled-to t a a′ e in
-      omega (arith, to .position, rolled-to t b b′ f .position, rollback-order t a (omega arith) (to .stayed) b h)
+      omega (arith, to .position, rolled-to t b b′ f .position, rollback-order t a (omega arith) (to .stayed) b h)) s
 
 -- ---- a future, one step at a time
 pub gone-stays : (t : Table) (future : Future) → placeOf t future gone ≡ gone
@@ -267,10 +258,6 @@ followed-same t (s ∷ rest) k k′ l e =
       receiver-same = later .receiver-same ∙ here .receiver-same;
     }
 
-pub followed-once : (t : Table) (future : Future) (k a b : ℕ) → FollowedTo t future k a → FollowedTo t future k b → a ≡ b
-unfolding FollowedTo
-followed-once t future k a b e f = same-position a b (sym e ∙ f)
-
 pub followed-order : (t : Table) (future : Future) (a b a′ b′ : ℕ) → a < b → b < messageCount t → FollowedTo t future a a′
     → FollowedTo t future b b′ → a′ < b′
 followed-order t [] a b a′ b′ h l e f = omega (arith, followed-here t a a′ e, followed-here t b b′ f)
@@ -279,57 +266,6 @@ followed-order t (s ∷ rest) a b a′ b′ h l e f =
     let y = followed-first t s rest b b′ f in
     followed-order (step t s) rest (x .0) (y .0) a′ b′ (moved-order t s a b (x .0) (y .0) h l (x .1) (y .1))
     (moved-inside t s b (y .0) l (y .1)) (x .2) (y .2)
-
--- ---- one future after another
-pub end-append : (t : Table) (first later : Future) → endOf t (first ++ later) ≡ endOf (endOf t first) later
-unfolding endOf
-end-append t [] later = refl
-end-append t (s ∷ rest) later = end-append (step t s) rest later
-
-pub still-there-append : (t : Table) (first later : Future) (i c : ℕ)
-    → StillThere t (first ++ later) i c ↔ (StillThere t first i c × StillThere (endOf t first) later i c)
-unfolding StillThere endOf
-still-there-append t [] later i c = (λ h. (tt, h), λ h. h .1)
-still-there-append t (s ∷ rest) later i c =
-    let rest-of = still-there-append (step t s) rest later i c in
-    (λ h. ((h .0, rest-of .0 (h .1) .0), rest-of .0 (h .1) .1), λ h. (h .0 .0, rest-of .1 (h .0 .1, h .1)))
-
-pub place-append : (t : Table) (first later : Future) (place : Place)
-    → placeOf t (first ++ later) place ≡ placeOf (endOf t first) later (placeOf t first place)
-unfolding placeOf endOf
-place-append t [] later place = refl
-place-append t (s ∷ rest) later (at-position k) = place-append (step t s) rest later (moved t s k)
-place-append t (s ∷ rest) later gone = sym (gone-stays (endOf (step t s) rest) later)
-
-pub followed-append : (t : Table) (first later : Future) (k k′ k″ : ℕ) → FollowedTo t first k k′ → FollowedTo (endOf t first) later k′ k″
-    → FollowedTo t (first ++ later) k k″
-unfolding FollowedTo
-followed-append t first later k k′ k″ e f = place-append t first later (at-position k) ∙ ap (placeOf (endOf t first) later) e ∙ f
-
-module _ (t : Table) (first later : Future) where
-  pub needs-checkpoint-later : (i c : ℕ) → c < countOf t i → StillThere t first i c → NeedsCheckpoint (endOf t first) later i c
-      → NeedsCheckpoint t (first ++ later) i c
-  needs-checkpoint-later i c b still needs = record {
-    a-checkpoint = b;
-    still-there = still-there-append t first later i c .1 (still, needs .still-there);
-    on-the-line = ap (λ (x : Table). asLine (recoveryLine x) i) (end-append t first later) ∙ needs .on-the-line;
-  }
-
-  pub needs-message-later : (k k′ : ℕ) → k < messageCount t → FollowedTo t first k k′ → NeedsMessage (endOf t first) later k′
-      → NeedsMessage t (first ++ later) k
-  needs-message-later k k′ l still needs = record {
-    a-message = l;
-    position = n;
-    still-there = followed-append t first later k k′ n still (needs .still-there);
-    sent-before =
-        subst⁻¹ (λ (x : Table). messageOf x n .sent < asLine (recoveryLine x) (messageOf x n .sender)) (end-append t first later) (needs .sent-before);
-    not-received =
-        subst⁻¹ (λ (x : Table). (messageOf x n .received ≡ 0) ⊎ (asLine (recoveryLine x) (messageOf x n .receiver) < messageOf x n .received))
-        (end-append t first later) (needs .not-received);
-  }
-    where
-      n : ℕ
-      n = needs .position
 
 -- ---- the empty future
 pub needs-checkpoint-now : (t : Table) (i c : ℕ) → NeedsCheckpoint t [] i c ↔ ((c < countOf t i) × (asLine (recoveryLine t) i ≡ c))

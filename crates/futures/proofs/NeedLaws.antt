@@ -15,15 +15,15 @@ use native.Mathlib.Decide.{decLt, ℕ-discrete}
 use native.Mathlib.Omega.{arith}
 use Rattle.consistency.specs.Ceilings.{recoveryLine, single}
 use Rattle.consistency.specs.Lines.{AtOrBelow, Line, asLine}
-use Rattle.futures.proofs.FutureLaws.{Grown, MovedTo, checkpoint-grown, followed-first, followed-here, moved-inside, rolled-message, rolled-to}
-use Rattle.futures.proofs.FutureLaws.{receipt-grown, same-position, send-grown, step-keeps-count}
+use Rattle.futures.proofs.FutureLaws.{Grown, MovedTo, by-step, followed-first, followed-here, moved-inside, rolled-message, rolled-to, stayed-at}
+use Rattle.futures.proofs.FutureLaws.{step-keeps-count}
 use Rattle.futures.proofs.HeldLaws.{Held, held-above, held-attained, held-before, set-held}
 use Rattle.keep_sheet.proofs.KeptLaws.{Across, HolderWith, keeps-checkpoint, keeps-message}
 use Rattle.steps.proofs.StepLaws.{putBack-before, recovery-latest, rollback-line, stays-sent, step-well-formed}
-use Rattle.futures.specs.Futures.{FollowedTo, Future, NeedsCheckpoint, NeedsMessage, StepKeeps, StillThere, at-position, endOf, moved}
+use Rattle.futures.specs.Futures.{FollowedTo, Future, NeedsCheckpoint, NeedsMessage, StepKeeps, StillThere, endOf}
 use Rattle.consistency.specs.Ceilings.{holderLine}
 use Rattle.keep_sheet.specs.Sheet.{keepsCheckpoint, keepsMessage}
-use Rattle.steps.specs.Steps.{Step, afterRollback, checkpoint, putBack, receive, rollback, send, step}
+use Rattle.steps.specs.Steps.{Step, afterRollback, putBack, step}
 use Rattle.tables.specs.Checks.{WellFormed}
 use Rattle.tables.specs.Table.{Message, Table, countOf, messageCount, messageOf}
 
@@ -133,25 +133,21 @@ module _ (t : Table) where
 -- ---- before any step
 module _ (t : Table) (w : WellFormed t) where
   pub checkpoint-back : (s : Step) (i c : ℕ) → c < countOf t i → StepKeeps t s i c → OnHeld (step t s) i c → OnHeld t i c
-  unfolding StepKeeps
-  checkpoint-back (send j i′) i c b keeps on = grown-checkpoint t (step t (send j i′)) w (send-grown t j i′) i c b on
-  checkpoint-back (receive i′ list) i c b keeps on = grown-checkpoint t (step t (receive i′ list)) w (receipt-grown t i′ list) i c b on
-  checkpoint-back (checkpoint i′ list) i c b keeps on = grown-checkpoint t (step t (checkpoint i′ list)) w (checkpoint-grown t i′ list) i c b on
-  checkpoint-back rollback i c b keeps on = unfold step in rolled-checkpoint t i c keeps on
-
-  grown-back : (t′ : Table) → Grown t t′ → (k n : ℕ) → at-position k ≡ at-position n → k < messageCount t → Open t′ (messageOf t′ n)
-      → Open t (messageOf t k)
-  grown-back t′ g k n e l open′ = grown-message t t′ w g k l (subst⁻¹ (λ (x : ℕ). Open t′ (messageOf t′ x)) (same-position k n e) open′)
+  unfolding StepKeeps step
+  checkpoint-back s i c b =
+      by-step t (λ s. StepKeeps t s i c → OnHeld (step t s) i c → OnHeld t i c)
+      (λ s x _ on. grown-checkpoint t (step t s) w (x .grown) i c b on) (rolled-checkpoint t i c) s
 
   pub message-back : (s : Step) (k n : ℕ) → k < messageCount t → MovedTo t s k n → Open (step t s) (messageOf (step t s) n) → Open t (messageOf t k)
-  unfolding moved
-  message-back (send j i) k n l e open′ = grown-back (step t (send j i)) (send-grown t j i) k n e l open′
-  message-back (receive i list) k n l e open′ = grown-back (step t (receive i list)) (receipt-grown t i list) k n e l open′
-  message-back (checkpoint i list) k n l e open′ = grown-back (step t (checkpoint i list)) (checkpoint-grown t i list) k n e l open′
-  message-back rollback k n l e open′ =
+  unfolding step
+  message-back s k n l =
+      by-step t (λ s. MovedTo t s k n → Open (step t s) (messageOf (step t s) n) → Open t (messageOf t k))
+      (λ s x e open′.
+      grown-message t (step t s) w (x .grown) k l (subst⁻¹ (λ (a : ℕ). Open (step t s) (messageOf (step t s) a)) (stayed-at x e) open′))
+      (λ e open′.
       let to = rolled-to t k n e in
-      unfold step in rolled-open t (messageOf t k) (stays-sent (recoveryLine t) (messageOf t k) (to .stayed))
-      (subst (Open (step t rollback)) (rolled-message t k n l to) open′)
+      rolled-open t (messageOf t k) (stays-sent (recoveryLine t) (messageOf t k) (to .stayed))
+      (subst (Open (afterRollback t)) (rolled-message t k n l to) open′)) s
 
 -- ---- before any future
 pub checkpoint-all-back : (t : Table) → WellFormed t → (future : Future) (i c : ℕ) → c < countOf t i → StillThere t future i c

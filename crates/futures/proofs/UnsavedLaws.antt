@@ -18,7 +18,6 @@ use Rattle.steps.proofs.OrderLaws.{OlderListed, neighbours-rise}
 use Rattle.steps.proofs.StepLaws.{Waiting, checkpoint-count-here, checkpoint-step, putBack-after, receipt-count, receipt-known, receipt-of-nothing}
 use Rattle.steps.proofs.StepLaws.{receipt-older, receipt-quiet, receipt-receives, receive-step, receivedAt-listed, receives-message}
 use Rattle.steps.proofs.StepLaws.{receives-messages, recovery-latest, rollback-count, rollback-each, rollback-message, step-cases, waits-for}
-use Rattle.steps.proofs.StepLaws.{withReceipt}
 use Rattle.futures.specs.Futures.{FollowedTo, StepKeeps, StillThere, endOf, moved, placeOf}
 use Rattle.keep_sheet.specs.Sheet.{crosses, keepsMessage}
 use Rattle.consistency.specs.Ceilings.{holderLine}
@@ -29,7 +28,7 @@ use Rattle.tables.proofs.ListLaws.{and-left, and-right, select-gap, select-more
 use Rattle.tables.proofs.TurnLaws.{channel-on, channel-same, one-channel, undelivered-waits, waits-undelivered}
 use Rattle.tables.specs.Checks.{WellFormed, firstCaught, sameChannel, waits}
 use Rattle.tables.specs.Lists.{any, anyBelow, select}
-use Rattle.tables.specs.Table.{Message, Table, countOf, messageCount, messageOf, processCount}
+use Rattle.tables.specs.Table.{Message, Table, countOf, messageCount, messageOf, processCount, withReceipt}
 
 -- ---- the waiting messages of a channel, up to one
 module _ (t : Table) (k : ℕ) where

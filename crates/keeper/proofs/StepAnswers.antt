@@ -12,18 +12,18 @@ use lib.ListN.{length, take, drop}
 use lib.Seq.{take-at}
 use Rattle.steps.proofs.StepLaws.{Receives, checkpoint-limits, checkpoint-receives, checkpoint-step, quiet-send, receipt-known, receipt-limits}
 use Rattle.steps.proofs.StepLaws.{receipt-of-nothing, receipt-positions, receipt-receives, receive-step, receives-messages, rollback-limits}
-use Rattle.steps.proofs.StepLaws.{rollback-processes, rollback-step, send-limits, send-messages, send-processes, send-step, step-well-formed}
+use Rattle.steps.proofs.StepLaws.{rollback-processes, rollback-step, send-limits, send-messages, send-processes, send-step, step-orderly}
 use Rattle.steps.specs.Steps.{Step, afterCheckpoint, afterReceipt, afterRollback, afterSend, checkpoint, receiptChecks, receive, rollback, send}
 use Rattle.steps.specs.Steps.{sendChecks, step}
 use Rattle.keeper.proofs.AnswerLaws.{Judged, Promise, put-in-front}
 use Rattle.refusals.proofs.RefusalLaws.{Quiet, QuietCall, quiet-by, quiet-receipt}
 use Rattle.keeper.specs.Calls.{HoldsTable}
 use Rattle.refusals.specs.CallChecks.{checkpointCallChecks, receiptCallChecks, sendCallChecks}
-use Rattle.tables.proofs.AcceptLaws.{accepted-encode, facts, reread, rewritten}
+use Rattle.tables.proofs.AcceptLaws.{accepted-encode, facts, orderly, reread, rewritten}
 use Rattle.tables.proofs.CheckLaws.{caughtBy, passed, quiet-none}
 use Rattle.tables.proofs.CodingLaws.{AreBytes}
 use Rattle.tables.proofs.FormatLaws.{encode-length}
-use Rattle.tables.specs.Checks.{Accepted, Check, Limits, WellFormed, firstCaught, tableChecks, tableRefusal}
+use Rattle.tables.specs.Checks.{Accepted, Check, Limits, Orderly, firstCaught, tableChecks, tableRefusal}
 use Rattle.tables.specs.Format.{decode, encode, tableLength}
 use Rattle.tables.specs.Numbers.{putAt}
 use Rattle.tables.specs.Table.{Table, messageCount, mostCheckpoints, mostMessages, processCount}
@@ -56,8 +56,8 @@ step-judged {table} {s = s} {after} {m} quiet taken = record { quiet = quiet; si
     sized : size ≡ length (encode after)
     sized = omega (arith, encode-length after, taken .processes, taken .messages)
 
-    well-formed : WellFormed after
-    well-formed = subst WellFormed (taken .gives) (step-well-formed (decode table) (facts table (taken .accepted) .well-formed) s)
+    orderly-after : Orderly after
+    orderly-after = subst Orderly (taken .gives) (step-orderly (decode table) (orderly table (facts table (taken .accepted))) s)
 
     left : (buffer : List ℕ) {buffer′ : List ℕ} → buffer′ ≡ putAt buffer 0 (encode after)
         → HoldsTable (step (decode table) s) buffer′ size
@@ -66,8 +66,8 @@ step-judged {table} {s = s} {after} {m} quiet taken = record { quiet = quiet; si
         ap (take size) (put ∙ put-in-front buffer (encode after))
         ∙ take-at (encode after) (drop (length (encode after)) buffer) size (sym sized) in
         record {
-          accepted = subst⁻¹ Accepted first (accepted-encode after well-formed (taken .limits));
-          reads = ap decode first ∙ reread after well-formed (taken .limits) ∙ sym (taken .gives);
+          accepted = subst⁻¹ Accepted first (accepted-encode after orderly-after (taken .limits));
+          reads = ap decode first ∙ reread after (orderly-after .well-formed) (taken .limits) ∙ sym (taken .gives);
         }
 
 -- ---- a send, a receipt and a checkpoint of which no check catches

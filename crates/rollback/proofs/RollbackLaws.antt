@@ -21,7 +21,7 @@ use lib.Seq.{take-all}
 use Rattle.consistency.specs.Ceilings.{recoveryLine}
 use Rattle.consistency.specs.Lines.{asLine}
 use Rattle.steps.proofs.StepLaws.{putBack-receiver, putBack-sender, putBack-sent, recovery-latest, recovery-length, rollback-count, rollback-fewer}
-use Rattle.steps.proofs.StepLaws.{rollback-place, rollback-processes, withReceipt}
+use Rattle.steps.proofs.StepLaws.{rollback-place, rollback-processes}
 use Rattle.steps.specs.Steps.{afterRollback, putBack, remaining, stays}
 use Rattle.tables.proofs.AcceptLaws.{facts}
 use Rattle.tables.proofs.ArrayLaws.{array-at, array-front}
@@ -33,7 +33,7 @@ use Rattle.tables.proofs.ReadLaws.{ReadMessages, messages-read, processes-few, 
 use Rattle.tables.specs.Arrays.{arrayOf}
 use Rattle.tables.specs.Format.{decode, entriesOf, receiptsOf, receiptsPart, sendsOf, sendsPart}
 use Rattle.tables.specs.Numbers.{bytesOfAll, putAt, u16At, u16s}
-use Rattle.tables.specs.Table.{Message, Table, countOf, messageCount, messageOf, mostProcesses, noMessage, processCount}
+use Rattle.tables.specs.Table.{Message, Table, countOf, messageCount, messageOf, mostProcesses, noMessage, processCount, withReceipt}
 use Rattle.rollback.specs.Rollback.{AtLine, receiptLeft}
 
 -- ---- what remains of the first k messages

@@ -1,5 +1,4 @@
 -- Laws of the steps: what each one does, that each leaves a well formed table well formed, and that none puts the recovery line back.
---     withReceipt, newMessage                          a message with another receipt number; the one that a send adds
 --     send-processes .. send-message-new               the table after a send
 --     send-each                                        what holds of the old messages and of the new one holds of all
 --     quiet-send, send-quiet                           what it means that nothing catches a send
@@ -12,15 +11,16 @@
 --     receives-messages .. receives-each               its messages; what holds of the listed ones, received, and of the old ones holds of all
 --     receipt-count .. checkpoint-count-here           the counts after a receipt, and after a checkpoint
 --     recovery-latest, recovery-length                 the recovery line
---     putBack-after .. putBack-under, stays-sent       a message that is put back; one that stays
+--     putBack-after .. putBack-receiver, stays-sent      a message that is put back; one that stays
 --     rollback-processes .. rollback-fewer             the sizes and the counts after a rollback
 --     rollback-from, rollback-each, rollback-pairs     each message comes from one that stays, and each two from two in their order
 --     rollback-place, rollback-message, rollback-order    where one that stays goes, in order
---     step-cases                                       a step that is caught leaves the table as it is
+--     step-cases, step-each                            a step that is caught leaves the table as it is; what holds after every step
 --     receipt-of-nothing                               one of no messages leaves the table
 --     send-step .. rollback-step                       any other leaves the table whose bytes its call answers
+--     step-well-formed                                 steps keep tables well formed
 --     Turn, waiting-turn .. put-back-turn              two messages of a channel stay in turn when received, and when put back
---     send-well-formed .. step-well-formed             steps keep tables well formed
+--     step-orderly                                     so steps keep tables orderly
 --     send-limits .. rollback-limits                   when they keep tables within the limits
 --     rollback-line                                    a rollback leaves the recovery line where it is
 --     line-never-back                                  no step puts it back
@@ -41,24 +41,18 @@ use Rattle.consistency.proofs.LineLaws.{latest-same}
 use Rattle.consistency.specs.Ceilings.{ceilingOf, lineOf, recoveryLine}
 use Rattle.consistency.specs.Lines.{AtOrBelow, Latest, Orphan, asLine}
 use Rattle.steps.proofs.OrderLaws.{OlderListed, none-passed, passes-none}
-use Rattle.steps.specs.Steps.{Step, afterCheckpoint, afterReceipt, afterRollback, afterSend, badPosition, checkpoint, notRising, notRisingAfter}
+use Rattle.steps.specs.Steps.{Step, afterCheckpoint, afterReceipt, afterRollback, afterSend, badPosition, checkpoint, newMessage, notRising}
+use Rattle.steps.specs.Steps.{notRisingAfter}
 use Rattle.steps.specs.Steps.{passesOver, putBack, receiptChecks, receive, receivedAt, remaining, rollback, send, sendChecks, stays, step}
 use Rattle.steps.specs.Steps.{unlessCaught, waitsFor}
 use Rattle.tables.proofs.CheckLaws.{passed, quiet-cons, quiet-none}
 use Rattle.tables.proofs.FormatLaws.{count-beyond, message-beyond}
 use Rattle.tables.proofs.ListLaws.{and-left, and-right, any-none, getD-tabulate, length-tabulate, or-false-left, or-false-right}
 use Rattle.tables.proofs.TurnLaws.{one-channel, undelivered-waits, waits-undelivered}
-use Rattle.tables.specs.Checks.{Check, GoodMessage, InTurn, Limits, WellFormed, firstCaught, sameChannel, waits}
+use Rattle.tables.specs.Checks.{ChannelsInTurn, Check, GoodMessage, InTurn, Limits, Orderly, WellFormed, firstCaught, sameChannel, waits}
 use Rattle.tables.specs.Lists.{any}
 use Rattle.tables.specs.Table.{Message, Table, countOf, messageCount, messageOf, mostCheckpoints, mostMessages, noMessage, processCount}
-
--- A message with another receipt number.
-abbrev pub withReceipt : Message → ℕ → Message
-withReceipt m n = record { sender = m .sender; sent = m .sent; receiver = m .receiver; received = n }
-
--- The message that a send adds.
-abbrev pub newMessage : Table → ℕ → ℕ → Message
-newMessage t j i = record { sender = j; sent = countOf t j - 1; receiver = i; received = 0 }
+use Rattle.tables.specs.Table.{withMessages, withReceipt}
 
 -- ---- send
 module _ (t : Table) (j i : ℕ) where
@@ -211,9 +205,6 @@ module _ (t : Table) (i : ℕ) (list : List ℕ) where
     pub receipt-positions : any (badPosition t i) list ≡ false
     receipt-positions = or-false-left (any (badPosition t i) list) (notRising list) (quiet-list .1)
 
-    pub receipt-rising : notRising list ≡ false
-    receipt-rising = or-false-right (any (badPosition t i) list) (notRising list) (quiet-list .1)
-
     pub receipt-passes-none : any (passesOver t list) list ≡ false
     receipt-passes-none = quiet-list .2
 
@@ -327,9 +318,6 @@ module _ (l : List ℕ) (m : Message) where
 
   pub putBack-receiver : putBack l m .receiver ≡ m .receiver
   putBack-receiver = putBack-cases (λ x. x .receiver ≡ m .receiver) refl (λ _. refl)
-
-  pub putBack-under : putBack l m .received ≤ asLine l (m .receiver)
-  putBack-under = putBack-cases (λ x. x .received ≤ asLine l (m .receiver)) (omega arith) (λ h. h)
 
   pub stays-sent : stays l m ≡ true → m .sent < asLine l (m .sender)
   unfolding stays
@@ -515,11 +503,23 @@ module _ (checks : List Check) (after before : Table) where
       go (yes e) = subst⁻¹ P (step-taken e) (taken e)
       go (no e) = subst⁻¹ P (step-caught e) caught
 
+-- what holds of the table, and of the one that each step leaves where nothing catches it
+pub step-each : (t : Table) (P : Table → Type 0) → ((j i : ℕ) → firstCaught (sendChecks t j i) ≡ 0 → P (afterSend t j i))
+    → ((i : ℕ) (list : List ℕ) (t′ : Table) → Receives t i list t′ → firstCaught (receiptChecks t i list) ≡ 0 → P t′)
+    → P (afterRollback t) → P t → (s : Step) → P (step t s)
+unfolding step
+step-each t P sent received rolled same (send j i) = step-cases (sendChecks t j i) (afterSend t j i) t P (sent j i) same
+step-each t P sent received rolled same (receive i list) =
+    step-cases (receiptChecks t i list) (afterReceipt t i list) t P (received i list _ (receipt-receives t i list)) same
+step-each t P sent received rolled same (checkpoint i list) =
+    step-cases (receiptChecks t i list) (afterCheckpoint t i list) t P (received i list _ (checkpoint-receives t i list)) same
+step-each t P sent received rolled same rollback = rolled
+
 -- a receipt of nothing leaves the messages, and so the table
 pub receipt-of-nothing : (t : Table) (i : ℕ) → afterReceipt t i [] ≡ t
 unfolding afterReceipt messageCount messageOf any
 receipt-of-nothing t i =
-    ap (λ (ms : List Message). record { counts = t .counts; messages = ms })
+    ap (withMessages t)
     (ext-getD noMessage (afterReceipt t i [] .messages) (t .messages) (receives-messages after)
     (λ k l.
     let inside : k < messageCount t = omega (arith, receives-messages after) in
@@ -546,6 +546,89 @@ module _ (t : Table) where
   pub rollback-step : step t rollback ≡ afterRollback t
   unfolding step
   rollback-step = refl
+
+-- ---- well formed tables
+-- a good message among as many processes, where no count is lower
+still-good : (t t′ : Table) (m : Message) → processCount t′ ≡ processCount t → ((p : ℕ) → countOf t p ≤ countOf t′ p) → GoodMessage t m
+    → GoodMessage t′ m
+still-good t t′ m n c g = record {
+  sender-known = omega (arith, g .sender-known);
+  receiver-known = omega (arith, g .receiver-known);
+  two-processes = g .two-processes;
+  sent-below = omega (arith, g .sent-below, c (m .sender));
+  received-within = omega (arith, g .received-within, c (m .receiver));
+}
+
+send-well-formed : (t : Table) → WellFormed t → (j i : ℕ) → firstCaught (sendChecks t j i) ≡ 0 → WellFormed (afterSend t j i)
+send-well-formed t w j i quiet = record {
+  some-process = omega (arith, send-processes t j i, w .some-process);
+  some-checkpoint = λ p l. omega (arith, same p, w .some-checkpoint p (omega (arith, send-processes t j i)));
+  good-messages = send-each t j i (GoodMessage after) (λ k l. still-good t after (messageOf t k) (send-processes t j i) same (w .good-messages k l)) new;
+}
+  where
+    after : Table
+    after = afterSend t j i
+
+    same : (p : ℕ) → countOf t p ≤ countOf after p
+    same p = omega (arith, send-count t j i p)
+
+    new : GoodMessage after (newMessage t j i)
+    new =
+        let names = quiet-send t j i quiet in
+        record {
+          sender-known = omega (arith, names .0, send-processes t j i);
+          receiver-known = omega (arith, names .1, send-processes t j i);
+          two-processes = names .2;
+          sent-below = omega (arith, w .some-checkpoint j (names .0), same j);
+          received-within = omega arith;
+        }
+
+-- a listed message is received at the count, and any other as before
+receives-well-formed : (t : Table) → WellFormed t → (i : ℕ) (list : List ℕ) (t′ : Table) → Receives t i list t′
+    → firstCaught (receiptChecks t i list) ≡ 0 → WellFormed t′
+receives-well-formed t w i list t′ r quiet = record {
+  some-process = omega (arith, r .same-processes, w .some-process);
+  some-checkpoint = λ p l. omega (arith, r .counts-grow p, w .some-checkpoint p (omega (arith, r .same-processes)));
+  good-messages = receives-each r (GoodMessage t′) listed good;
+}
+  where
+    good : (k : ℕ) → k < messageCount t → GoodMessage t′ (messageOf t k)
+    good k l = still-good t t′ (messageOf t k) (r .same-processes) (r .counts-grow) (w .good-messages k l)
+
+    listed : (k : ℕ) → k < messageCount t → any (eqb k) list ≡ true → GoodMessage t′ (withReceipt (messageOf t k) (countOf t i))
+    listed k l e = record {
+      sender-known = good k l .sender-known;
+      receiver-known = good k l .receiver-known;
+      two-processes = good k l .two-processes;
+      sent-below = good k l .sent-below;
+      received-within =
+          subst⁻¹ (λ (q : ℕ). countOf t i ≤ countOf t′ q) (receipt-waiting t i list quiet k e .to-process) (r .counts-grow i);
+    }
+
+-- a message that remains was sent below the line, and is undelivered or was received at or below it
+rollback-well-formed : (t : Table) → WellFormed t → WellFormed (afterRollback t)
+rollback-well-formed t w = record {
+  some-process = omega (arith, rollback-processes t, w .some-process);
+  some-checkpoint = λ p l. omega (arith, rollback-count t p (omega (arith, rollback-processes t)));
+  good-messages = rollback-each t (GoodMessage (afterRollback t)) (λ k l e. good k l e 0 (omega arith)) (λ k l e. good k l e (messageOf t k .received));
+}
+  where
+    good : (k : ℕ) → k < messageCount t → stays (recoveryLine t) (messageOf t k) ≡ true → (n : ℕ)
+        → n ≤ asLine (recoveryLine t) (messageOf t k .receiver)
+        → GoodMessage (afterRollback t) (withReceipt (messageOf t k) n)
+    good k l e n under =
+        let m = messageOf t k in
+        let g = w .good-messages k l in
+        record {
+          sender-known = omega (arith, g .sender-known, rollback-processes t);
+          receiver-known = omega (arith, g .receiver-known, rollback-processes t);
+          two-processes = g .two-processes;
+          sent-below = omega (arith, stays-sent (recoveryLine t) m e, rollback-count t (m .sender) (g .sender-known));
+          received-within = omega (arith, rollback-count t (m .receiver) (g .receiver-known));
+        }
+
+pub step-well-formed : (t : Table) → WellFormed t → (s : Step) → WellFormed (step t s)
+step-well-formed t w = step-each t WellFormed (send-well-formed t w) (receives-well-formed t w) (rollback-well-formed t w) w
 
 -- ---- messages of a channel stay in turn
 -- Two messages, the earlier one first, are in turn if they have one channel.
@@ -598,132 +681,59 @@ module _ (m later : Message) (turn : Turn m later) where
         go (no a) (yes b) = rw (putBack-before l m (omega arith), putBack-after l later b) later-back
         go (no a) (no b) = rw (putBack-before l m (omega arith), putBack-before l later (omega arith)) turn
 
--- ---- well formed tables
--- a good message among as many processes, where no count is lower
-still-good : (t t′ : Table) (m : Message) → processCount t′ ≡ processCount t → ((p : ℕ) → countOf t p ≤ countOf t′ p) → GoodMessage t m
-    → GoodMessage t′ m
-still-good t t′ m n c g = record {
-  sender-known = omega (arith, g .sender-known);
-  receiver-known = omega (arith, g .receiver-known);
-  two-processes = g .two-processes;
-  sent-below = omega (arith, g .sent-below, c (m .sender));
-  received-within = omega (arith, g .received-within, c (m .receiver));
-}
-
-pub send-well-formed : (t : Table) (j i : ℕ) → WellFormed t → firstCaught (sendChecks t j i) ≡ 0 → WellFormed (afterSend t j i)
-send-well-formed t j i w quiet = record {
-  some-process = omega (arith, send-processes t j i, w .some-process);
-  some-checkpoint = λ p l. omega (arith, same p, w .some-checkpoint p (omega (arith, send-processes t j i)));
-  good-messages = send-each t j i (GoodMessage after) (λ k l. still-good t after (messageOf t k) (send-processes t j i) same (w .good-messages k l)) new;
-  in-turn = λ q k before l. turns q k before (omega (arith, send-messages t j i)) (decLt k (messageCount t));
-}
+-- the new message waits, and was sent last
+send-in-turn : (t : Table) → Orderly t → (j i : ℕ) → ChannelsInTurn (afterSend t j i)
+send-in-turn t o j i q k before l = go (decLt k (messageCount t))
   where
     after : Table
     after = afterSend t j i
 
-    same : (p : ℕ) → countOf t p ≤ countOf after p
-    same p = omega (arith, send-count t j i p)
-
-    new : GoodMessage after (newMessage t j i)
-    new =
-        let names = quiet-send t j i quiet in
-        record {
-          sender-known = omega (arith, names .0, send-processes t j i);
-          receiver-known = omega (arith, names .1, send-processes t j i);
-          two-processes = names .2;
-          sent-below = omega (arith, w .some-checkpoint j (names .0), same j);
-          received-within = omega arith;
-        }
-
-    -- the new message waits, and was sent last
-    newest : (q : ℕ) → q < messageCount t → Turn (messageOf t q) (newMessage t j i)
-    newest q l channel =
+    newest : q < messageCount t → Turn (messageOf t q) (newMessage t j i)
+    newest b channel =
         let sender : countOf t (messageOf t q .sender) ≡ countOf t j = ap (countOf t) (one-channel (messageOf t q) (newMessage t j i) channel .0) in
-        waiting-turn (messageOf t q) (newMessage t j i) (omega (arith, w .good-messages q l .sent-below)) refl
+        waiting-turn (messageOf t q) (newMessage t j i) (omega (arith, o .well-formed .good-messages q b .sent-below)) refl
 
-    turns : (q k : ℕ) → q < k → k ≤ messageCount t → Dec (k < messageCount t) → Turn (messageOf after q) (messageOf after k)
-    turns q k before l (yes b) = rw (send-message-old t j i q (omega arith), send-message-old t j i k b) (w .in-turn q k before b)
-    turns q k before l (no b) =
-        let last : k ≡ messageCount t = omega arith in
-        rw (send-message-old t j i q (omega arith), ap (messageOf after) last ∙ send-message-new t j i) (newest q (omega arith))
+    go : Dec (k < messageCount t) → Turn (messageOf after q) (messageOf after k)
+    go (yes b) = rw (send-message-old t j i q (omega arith), send-message-old t j i k b) (o .in-turn q k before b)
+    go (no b) =
+        let last : k ≡ messageCount t = omega (arith, send-messages t j i) in
+        rw (send-message-old t j i q (omega arith), ap (messageOf after) last ∙ send-message-new t j i) (newest (omega arith))
 
--- a listed message is received at the count, and any other as before
-receives-well-formed : {t : Table} {i : ℕ} {list : List ℕ} {t′ : Table} → Receives t i list t′ → WellFormed t
-    → firstCaught (receiptChecks t i list) ≡ 0 → WellFormed t′
-receives-well-formed {t} {i} {list} {t′} r w quiet = record {
-  some-process = omega (arith, r .same-processes, w .some-process);
-  some-checkpoint = λ p l. omega (arith, r .counts-grow p, w .some-checkpoint p (omega (arith, r .same-processes)));
-  good-messages = receives-each r (GoodMessage t′) listed good;
-  in-turn = λ q k before l.
-      let b : k < messageCount t = omega (arith, receives-messages r) in
-      rw (receives-message r q (omega arith), receives-message r k b) (turns q k (any (eqb q) list) (any (eqb k) list) refl refl before b);
-}
+receives-in-turn : (t : Table) → Orderly t → (i : ℕ) (list : List ℕ) (t′ : Table) → Receives t i list t′ → firstCaught (receiptChecks t i list) ≡ 0
+    → ChannelsInTurn t′
+receives-in-turn t o i list t′ r quiet q k before l =
+    let b : k < messageCount t = omega (arith, receives-messages r) in
+    rw (receives-message r q (omega arith), receives-message r k b) (go (any (eqb q) list) (any (eqb k) list) refl refl b (o .in-turn q k before b))
   where
-    good : (k : ℕ) → k < messageCount t → GoodMessage t′ (messageOf t k)
-    good k l = still-good t t′ (messageOf t k) (r .same-processes) (r .counts-grow) (w .good-messages k l)
-
-    listed : (k : ℕ) → k < messageCount t → any (eqb k) list ≡ true → GoodMessage t′ (withReceipt (messageOf t k) (countOf t i))
-    listed k l e = record {
-      sender-known = good k l .sender-known;
-      receiver-known = good k l .receiver-known;
-      two-processes = good k l .two-processes;
-      sent-below = good k l .sent-below;
-      received-within =
-          subst⁻¹ (λ (q : ℕ). countOf t i ≤ countOf t′ q) (receipt-waiting t i list quiet k e .to-process) (r .counts-grow i);
-    }
-
     -- an earlier message of its channel that is not listed waits no more, and was received at the count at the latest
-    received-earlier : (q k : ℕ) → q < k → k < messageCount t → any (eqb q) list ≡ false → any (eqb k) list ≡ true
+    received-earlier : k < messageCount t → any (eqb q) list ≡ false → any (eqb k) list ≡ true
         → sameChannel (messageOf t q) (messageOf t k) ≡ true → (0 < messageOf t q .received) × (messageOf t q .received ≤ countOf t i)
-    received-earlier q k before l a b channel =
+    received-earlier l a b channel =
         let some : messageOf t q .received ≡ 0 → ⊥ = λ z. false≢true (sym a ∙ receipt-older t i list quiet k b q before channel z) in
         let to-i : messageOf t q .receiver ≡ i = one-channel (messageOf t q) (messageOf t k) channel .1 ∙ receipt-waiting t i list quiet k b .to-process in
-        (omega (arith, some), omega (arith, w .good-messages q (omega arith) .received-within, ap (countOf t) to-i))
+        (omega (arith, some), omega (arith, o .well-formed .good-messages q (omega arith) .received-within, ap (countOf t) to-i))
 
-    turns : (q k : ℕ) (x y : Bool) → any (eqb q) list ≡ x → any (eqb k) list ≡ y → q < k → k < messageCount t
+    go : (x y : Bool) → any (eqb q) list ≡ x → any (eqb k) list ≡ y → k < messageCount t → Turn (messageOf t q) (messageOf t k)
         → Turn (receivedAt t i list q) (receivedAt t i list k)
-    turns q k true true a b before l =
-        rw (receivedAt-listed t i list q a, receivedAt-listed t i list k b)
-        (both-received (messageOf t q) (messageOf t k) (w .in-turn q k before l) (countOf t i))
-    turns q k true false a b before l =
+    go true true a b l turn =
+        rw (receivedAt-listed t i list q a, receivedAt-listed t i list k b) (both-received (messageOf t q) (messageOf t k) turn (countOf t i))
+    go true false a b l turn =
         rw (receivedAt-listed t i list q a, receivedAt-unlisted t i list k b)
-        (earlier-received (messageOf t q) (messageOf t k) (w .in-turn q k before l) (countOf t i) (receipt-waiting t i list quiet q a .undelivered))
-    turns q k false true a b before l =
+        (earlier-received (messageOf t q) (messageOf t k) turn (countOf t i) (receipt-waiting t i list quiet q a .undelivered))
+    go false true a b l turn =
         rw (receivedAt-unlisted t i list q a, receivedAt-listed t i list k b)
-        (later-received (messageOf t q) (messageOf t k) (w .in-turn q k before l) (countOf t i) (received-earlier q k before l a b))
-    turns q k false false a b before l = rw (receivedAt-unlisted t i list q a, receivedAt-unlisted t i list k b) (w .in-turn q k before l)
+        (later-received (messageOf t q) (messageOf t k) turn (countOf t i) (received-earlier l a b))
+    go false false a b l turn = rw (receivedAt-unlisted t i list q a, receivedAt-unlisted t i list k b) turn
 
--- a message that remains was sent below the line, and is undelivered or was received at or below it
-pub rollback-well-formed : (t : Table) → WellFormed t → WellFormed (afterRollback t)
-rollback-well-formed t w = record {
-  some-process = omega (arith, rollback-processes t, w .some-process);
-  some-checkpoint = λ p l. omega (arith, rollback-count t p (omega (arith, rollback-processes t)));
-  good-messages = rollback-each t (GoodMessage (afterRollback t)) (λ k l e. good k l e 0 (omega arith)) (λ k l e. good k l e (messageOf t k .received));
-  in-turn = rollback-pairs t Turn (λ q k before l. put-back-turn (messageOf t q) (messageOf t k) (w .in-turn q k before l) (recoveryLine t));
+rollback-in-turn : (t : Table) → ChannelsInTurn t → ChannelsInTurn (afterRollback t)
+rollback-in-turn t turns =
+    rollback-pairs t Turn (λ q k before l. put-back-turn (messageOf t q) (messageOf t k) (turns q k before l) (recoveryLine t))
+
+pub step-orderly : (t : Table) → Orderly t → (s : Step) → Orderly (step t s)
+step-orderly t o s = record {
+  well-formed = step-well-formed t (o .well-formed) s;
+  in-turn = step-each t ChannelsInTurn (λ j i _. send-in-turn t o j i) (receives-in-turn t o) (rollback-in-turn t (o .in-turn)) (o .in-turn) s;
 }
-  where
-    good : (k : ℕ) → k < messageCount t → stays (recoveryLine t) (messageOf t k) ≡ true → (n : ℕ)
-        → n ≤ asLine (recoveryLine t) (messageOf t k .receiver)
-        → GoodMessage (afterRollback t) (withReceipt (messageOf t k) n)
-    good k l e n under =
-        let m = messageOf t k in
-        let g = w .good-messages k l in
-        record {
-          sender-known = omega (arith, g .sender-known, rollback-processes t);
-          receiver-known = omega (arith, g .receiver-known, rollback-processes t);
-          two-processes = g .two-processes;
-          sent-below = omega (arith, stays-sent (recoveryLine t) m e, rollback-count t (m .sender) (g .sender-known));
-          received-within = omega (arith, rollback-count t (m .receiver) (g .receiver-known));
-        }
-
-pub step-well-formed : (t : Table) → WellFormed t → (s : Step) → WellFormed (step t s)
-unfolding step
-step-well-formed t w (send j i) = step-cases (sendChecks t j i) (afterSend t j i) t WellFormed (send-well-formed t j i w) w
-step-well-formed t w (receive i list) =
-    step-cases (receiptChecks t i list) (afterReceipt t i list) t WellFormed (receives-well-formed (receipt-receives t i list) w) w
-step-well-formed t w (checkpoint i list) =
-    step-cases (receiptChecks t i list) (afterCheckpoint t i list) t WellFormed (receives-well-formed (checkpoint-receives t i list) w) w
-step-well-formed t w rollback = rollback-well-formed t w
 
 -- ---- limits
 pub send-limits : (t : Table) (j i : ℕ) → Limits t → messageCount t < mostMessages → Limits (afterSend t j i)
@@ -810,15 +820,7 @@ module _ (t : Table) where
   pub rollback-line : (p : ℕ) → asLine (recoveryLine (afterRollback t)) p ≡ asLine (recoveryLine t) p
   rollback-line p = omega (arith, rollback-no-higher p, recovery-latest (afterRollback t) .under p, last-checkpoint t p)
 
-  pub line-never-back : (s : Step) (p : ℕ) → asLine (recoveryLine t) p ≤ asLine (recoveryLine (step t s)) p
-  unfolding step
-  line-never-back (send j i) p =
-      step-cases (sendChecks t j i) (afterSend t j i) t (λ t′. asLine (recoveryLine t) p ≤ asLine (recoveryLine t′) p)
-      (λ _. send-no-higher j i p) (omega arith)
-  line-never-back (receive i list) p =
-      step-cases (receiptChecks t i list) (afterReceipt t i list) t (λ t′. asLine (recoveryLine t) p ≤ asLine (recoveryLine t′) p)
-      (λ quiet. receives-no-higher i list (afterReceipt t i list) (receipt-receives t i list) quiet p) (omega arith)
-  line-never-back (checkpoint i list) p =
-      step-cases (receiptChecks t i list) (afterCheckpoint t i list) t (λ t′. asLine (recoveryLine t) p ≤ asLine (recoveryLine t′) p)
-      (λ quiet. receives-no-higher i list (afterCheckpoint t i list) (checkpoint-receives t i list) quiet p) (omega arith)
-  line-never-back rollback p = rollback-no-higher p
+  pub line-never-back : (s : Step) → AtOrBelow (asLine (recoveryLine t)) (asLine (recoveryLine (step t s)))
+  line-never-back =
+      step-each t (λ t′. AtOrBelow (asLine (recoveryLine t)) (asLine (recoveryLine t′))) (λ j i _. send-no-higher j i) receives-no-higher
+      rollback-no-higher (λ p. omega arith)

@@ -10,7 +10,8 @@ use Rattle.consistency.specs.Ceilings.{recoveryLine}
 use Rattle.consistency.specs.Lines.{asLine}
 use Rattle.tables.specs.Checks.{Check, firstCaught, sameChannel, waits}
 use Rattle.tables.specs.Lists.{any, anyBelow, tabulate}
-use Rattle.tables.specs.Table.{Message, Table, countOf, messageCount, messageOf, processCount}
+use Rattle.tables.specs.Table.{Message, Table, countOf, messageCount, messageOf, processCount, withCounts}
+use Rattle.tables.specs.Table.{withMessages, withReceipt}
 
 -- A step: a send from one process to another; a receipt, by a process, of the messages at a list of positions; a
 -- checkpoint of a process after it received such messages; or a rollback of the whole run to its recovery line.
@@ -28,12 +29,13 @@ sendChecks t j i =
     ∷ record { caught = eqb j i; number = 11 }
     ∷ []
 
--- An entry (j, count of j − 1), (i, 0) is added at the end of both arrays.
+-- The message of a send: (j, count of j − 1), (i, 0).
+abbrev pub newMessage : Table → ℕ → ℕ → Message
+newMessage t j i = record { sender = j; sent = countOf t j - 1; receiver = i; received = 0 }
+
+-- It is added at the end of both arrays.
 unfoldable pub afterSend : Table → ℕ → ℕ → Table
-afterSend t j i = record {
-  counts = t .counts;
-  messages = t .messages ++ (record { sender = j; sent = countOf t j - 1; receiver = i; received = 0 } ∷ []);
-}
+afterSend t j i = withMessages t (t .messages ++ (newMessage t j i ∷ []))
 
 -- ---- receive
 -- A message waits for a process: it goes there and is undelivered.
@@ -73,24 +75,17 @@ receiptChecks t i list =
 unfoldable pub receivedAt : Table → ℕ → List ℕ → ℕ → Message
 receivedAt t i list k =
     let m = messageOf t k in
-    cond (any (eqb k) list)
-    (record { sender = m .sender; sent = m .sent; receiver = m .receiver; received = countOf t i }) m
+    cond (any (eqb k) list) (withReceipt m (countOf t i)) m
 
 -- The listed messages are received, and unsaved as yet: nothing else changes.
 unfoldable pub afterReceipt : Table → ℕ → List ℕ → Table
-afterReceipt t i list = record {
-  counts = t .counts;
-  messages = tabulate (messageCount t) (receivedAt t i list);
-}
+afterReceipt t i list = withMessages t (tabulate (messageCount t) (receivedAt t i list))
 
 -- ---- checkpoint
 -- The listed messages are received, and the count grows by one: what was received since the last checkpoint, with the
 -- old count as its receipt number, is saved thereby.
 unfoldable pub afterCheckpoint : Table → ℕ → List ℕ → Table
-afterCheckpoint t i list = record {
-  counts = set (t .counts) i (countOf t i + 1);
-  messages = afterReceipt t i list .messages;
-}
+afterCheckpoint t i list = withCounts (afterReceipt t i list) (set (t .counts) i (countOf t i + 1))
 
 -- ---- rollback
 -- A message stays where it was sent before the line.
@@ -100,9 +95,7 @@ stays l m = ltb (m .sent) (asLine l (m .sender))
 -- One that was received after the line is undelivered again; so is every unsaved one, as a count is above the recovery
 -- line.
 unfoldable pub putBack : List ℕ → Message → Message
-putBack l m =
-    cond (ltb (asLine l (m .receiver)) (m .received))
-    (record { sender = m .sender; sent = m .sent; receiver = m .receiver; received = 0 }) m
+putBack l m = cond (ltb (asLine l (m .receiver)) (m .received)) (withReceipt m 0) m
 
 -- The messages that stay, in order.
 unfoldable pub remaining : List ℕ → List Message → List Message
@@ -111,10 +104,8 @@ remaining l (m ∷ rest) = cond (stays l m) (putBack l m ∷ remaining l rest) (
 
 -- With L the recovery line, each count becomes L + 1, and the messages that stay remain.
 unfoldable pub afterRollback : Table → Table
-afterRollback t = record {
-  counts = map (λ c. c + 1) (recoveryLine t);
-  messages = remaining (recoveryLine t) (t .messages);
-}
+afterRollback t =
+    withCounts (withMessages t (remaining (recoveryLine t) (t .messages))) (map (λ c. c + 1) (recoveryLine t))
 
 -- ---- a step
 -- A step that is caught leaves the table as it is.

@@ -1,7 +1,8 @@
 -- An accepted table's facts.
 --     facts, refusal-zero            the refusal is 0 just when the table is accepted
---     numbers-fit                    a well formed table within the limits fits 16 bits
---     accepted-encode, reread        such a table, written, is accepted and is read as it was
+--     orderly                        an accepted table is orderly
+--     numbers-fit, reread            a well formed table within the limits fits 16 bits; written, it is read as it was
+--     accepted-encode                an orderly table within the limits, written, is accepted
 --     rewritten                      an accepted table's bytes, read and written again
 -- Assumes nothing.
 use mathlib.Core.Bool.{Bool, false, not}
@@ -18,8 +19,8 @@ use Rattle.tables.proofs.CodingLaws.{AreBytes, Fits16, decode-encode, e
 use Rattle.tables.proofs.FormatLaws.{decode-messages, decode-processes, encode-length, sizes-in}
 use Rattle.tables.proofs.ListLaws.{any-none, none-of, or-false-left, or-false-right}
 use Rattle.tables.proofs.TurnLaws.{turns-quiet, turns-read}
-use Rattle.tables.specs.Checks.{Accepted, GoodMessage, Limits, WellFormed, badCount, badLength, badProcessCount, badReceipt}
-use Rattle.tables.specs.Checks.{badSend, outside, tableChecks, tableRefusal, toItself, tooManyMessages, unknownProcess}
+use Rattle.tables.specs.Checks.{Accepted, ChannelsInTurn, GoodMessage, Limits, Orderly, WellFormed, badCount, badLength, badProcessCount}
+use Rattle.tables.specs.Checks.{badReceipt, badSend, outside, tableChecks, tableRefusal, toItself, tooManyMessages, unknownProcess}
 use Rattle.tables.specs.Format.{decode, encode, messagesIn, processesIn, tableLength}
 use Rattle.tables.specs.Lists.{any}
 use Rattle.tables.specs.Table.{Message, Table, countOf, messageCount, messageOf, noMessage, processCount}
@@ -104,8 +105,8 @@ module _ (bytes : List ℕ) where
           good-messages = λ k l.
               good-message t (messageOf t k) (each-message (unknownProcess (processCount t)) (by 6) k l) (each-message toItself (by 7) k l)
               (each-message (badSend t) (by 8) k l) (each-message (badReceipt t) (by 9) k l);
-          in-turn = turns-read t (by 23);
         };
+        in-turn = turns-read t (by 23);
         limits = record {
           processes-limit = within-limit mostProcesses (processCount t) (process-count (by 2));
           messages-limit = message-count (by 3);
@@ -143,6 +144,9 @@ module _ (bytes : List ℕ) where
     length-good : badLength bytes ≡ false
     length-good = length-checked (sizes-in bytes) ∙ ap not (eq-eqb (length bytes) (tableLength (processesIn bytes) (messagesIn bytes)) whole)
 
+    pub orderly : Orderly (decode bytes)
+    orderly = record { well-formed = a .well-formed; in-turn = a .in-turn }
+
     pub refusal-zero : tableRefusal bytes ≡ 0
     unfolding tableRefusal tableChecks
     refusal-zero =
@@ -157,7 +161,7 @@ module _ (bytes : List ℕ) where
         (passed _ _ _ (no-message toItself (λ k l. not-to-itself t (messageOf t k) (good k l)))
         (passed _ _ _ (no-message (badSend t) (λ k l. good-send t (messageOf t k) (good k l)))
         (passed _ _ _ (no-message (badReceipt t) (λ k l. good-receipt t (messageOf t k) (good k l)))
-        (passed _ _ _ (turns-quiet t (w .in-turn))
+        (passed _ _ _ (turns-quiet t (a .in-turn))
         quiet-none)))))))))
 
     -- an accepted table's bytes, read and written again
@@ -183,9 +187,12 @@ module _ (t : Table) (w : WellFormed t) (l : Limits t) where
   pub reread : decode (encode t) ≡ t
   reread = decode-encode t numbers-fit
 
-  pub accepted-encode : Accepted (encode t)
-  accepted-encode = record {
-    whole = subst⁻¹ (λ (x : Table). length (encode t) ≡ tableLength (processCount x) (messageCount x)) reread (encode-length t);
-    well-formed = subst⁻¹ WellFormed reread w;
-    limits = subst⁻¹ Limits reread l;
-  }
+pub accepted-encode : (t : Table) → Orderly t → Limits t → Accepted (encode t)
+accepted-encode t o l =
+    let back = reread t (o .well-formed) l in
+    record {
+      whole = subst⁻¹ (λ (x : Table). length (encode t) ≡ tableLength (processCount x) (messageCount x)) back (encode-length t);
+      well-formed = subst⁻¹ WellFormed back (o .well-formed);
+      in-turn = subst⁻¹ ChannelsInTurn back (o .in-turn);
+      limits = subst⁻¹ Limits back l;
+    }

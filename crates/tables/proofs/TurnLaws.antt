@@ -14,7 +14,7 @@ use borrow.Author.Tests.{eq-eqb, eqb-false, eqb-true, le-ltb, ltb-false, ne-eqb}
 use lib.Dec.{eqb, ltb}
 use Rattle.tables.proofs.ListLaws.{and-left, and-right, anyBelow-ext, anyBelow-found, anyBelow-none, found-below, none-below, or-false-left}
 use Rattle.tables.proofs.ListLaws.{or-false-right}
-use Rattle.tables.specs.Checks.{InTurn, brokenBelow, brokenChannel, outOfTurn, sameChannel, waits}
+use Rattle.tables.specs.Checks.{ChannelsInTurn, InTurn, brokenBelow, brokenChannel, outOfTurn, sameChannel, waits}
 use Rattle.tables.specs.Lists.{anyBelow}
 use Rattle.tables.specs.Table.{Message, Table, messageCount, messageOf}
 
@@ -125,16 +125,14 @@ broken-on message {k} {m} l broken =
     anyBelow-found (λ k. anyBelow k (brokenPair message k)) m j (omega (arith, before, l)) out
 
 module _ (t : Table) where
-  pub turns-read : brokenChannel t ≡ false → (q k : ℕ) → q < k → k < messageCount t → sameChannel (messageOf t q) (messageOf t k) ≡ true
-      → InTurn (messageOf t q) (messageOf t k)
+  pub turns-read : brokenChannel t ≡ false → ChannelsInTurn t
   unfolding brokenChannel brokenBelow
   turns-read quiet q k before within same =
       let all = none-below (λ k. anyBelow k (brokenPair (messageOf t) k)) (messageCount t) quiet k within in
       let here : brokenPair (messageOf t) k q ≡ false = none-below (brokenPair (messageOf t) k) k all q before in
       turn-read (rw same at here)
 
-  pub turns-quiet : ((q k : ℕ) → q < k → k < messageCount t → sameChannel (messageOf t q) (messageOf t k) ≡ true
-      → InTurn (messageOf t q) (messageOf t k)) → brokenChannel t ≡ false
+  pub turns-quiet : ChannelsInTurn t → brokenChannel t ≡ false
   unfolding brokenChannel brokenBelow
   turns-quiet turns =
       anyBelow-none (λ k. anyBelow k (brokenPair (messageOf t) k)) (messageCount t) (λ k within.

@@ -122,14 +122,22 @@ pub record InTurn (m later : Message) : Type 0 where
   pub received-first : 0 < later .received → 0 < m .received
   pub receipts-rise : 0 < later .received → m .received ≤ later .received
 
--- What an accepted table satisfies, the limits apart: a process at least, a checkpoint at least of each, good
--- messages, and those of each channel in turn.
+-- A well formed table: a process at least, a checkpoint at least of each, and good messages. This is what lines, paths
+-- and futures need of a table: they ask for no order of its messages.
 pub record WellFormed (t : Table) : Type 0 where
   pub some-process : 0 < processCount t
   pub some-checkpoint : (p : ℕ) → p < processCount t → 0 < countOf t p
   pub good-messages : (k : ℕ) → k < messageCount t → GoodMessage t (messageOf t k)
-  pub in-turn : (q k : ℕ) → q < k → k < messageCount t → sameChannel (messageOf t q) (messageOf t k) ≡ true
-      → InTurn (messageOf t q) (messageOf t k)
+
+-- The messages of each channel are in turn.
+abbrev pub ChannelsInTurn : Table → Type 0
+ChannelsInTurn t = (q k : ℕ) → q < k → k < messageCount t → sameChannel (messageOf t q) (messageOf t k) ≡ true
+    → InTurn (messageOf t q) (messageOf t k)
+
+-- An orderly table: well formed, with its channels in turn. This is what an accepted table satisfies, the limits apart.
+pub record Orderly (t : Table) : Type 0 where
+  pub well-formed : WellFormed t
+  pub in-turn : ChannelsInTurn t
 
 -- The limits of its numbers.
 pub record Limits (t : Table) : Type 0 where
@@ -141,4 +149,5 @@ pub record Limits (t : Table) : Type 0 where
 pub record Accepted (bytes : List ℕ) : Type 0 where
   pub whole : length bytes ≡ tableLength (processCount (decode bytes)) (messageCount (decode bytes))
   pub well-formed : WellFormed (decode bytes)
+  pub in-turn : ChannelsInTurn (decode bytes)
   pub limits : Limits (decode bytes)

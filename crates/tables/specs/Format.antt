@@ -6,7 +6,7 @@ use Prim.Native.Nat.{ℕ, _+_, _*_}
 use lib.ListN.{length, take, drop}
 use Rattle.tables.specs.Lists.{tabulate}
 use Rattle.tables.specs.Numbers.{u16At, u16s}
-use Rattle.tables.specs.Table.{Message, Table}
+use Rattle.tables.specs.Table.{Message, Table, tableOf}
 
 -- N and M, as the bytes give them.
 unfoldable pub processesIn : List ℕ → ℕ
@@ -62,10 +62,9 @@ messageAt sends receipts k = record {
 
 -- The table that the bytes give.
 unfoldable pub decode : List ℕ → Table
-decode bytes = record {
-  counts = tabulate (processesIn bytes) (countAt (countsPart bytes));
-  messages = tabulate (messagesIn bytes) (messageAt (sendsPart bytes) (receiptsPart bytes));
-}
+decode bytes =
+    tableOf (tabulate (processesIn bytes) (countAt (countsPart bytes)))
+    (tabulate (messagesIn bytes) (messageAt (sendsPart bytes) (receiptsPart bytes)))
 
 -- The numbers of one array, entry after entry: a process and a checkpoint of each message.
 unfoldable pub entriesOf : (Message → ℕ) → (Message → ℕ) → List Message → List ℕ

@@ -14,10 +14,25 @@ pub record Message : Type 0 where
   pub receiver : ℕ
   pub received : ℕ
 
+-- A message with another receipt number.
+abbrev pub withReceipt : Message → ℕ → Message
+withReceipt m n = record { sender = m .sender; sent = m .sent; receiver = m .receiver; received = n }
+
 -- A run: for each process its count of checkpoints, numbered from 0; and its messages, by position.
 pub record Table : Type 0 where
   pub counts : List ℕ
   pub messages : List Message
+
+-- A table is built of its parts by one of these: of all of them; of another table, with other counts; with other
+-- messages.
+abbrev pub tableOf : List ℕ → List Message → Table
+tableOf counts messages = record { counts = counts; messages = messages }
+
+abbrev pub withCounts : Table → List ℕ → Table
+withCounts t counts = tableOf counts (t .messages)
+
+abbrev pub withMessages : Table → List Message → Table
+withMessages t messages = tableOf (t .counts) messages
 
 -- The limits that an accepted table keeps: of N, of M, and of each count.
 abbrev pub mostProcesses : ℕ
