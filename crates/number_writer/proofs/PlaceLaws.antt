@@ -1,16 +1,17 @@
--- Bytes put at two places of one buffer.
+-- Bytes put at two places of one buffer, and at one place twice.
 --     putAt-apart         places apart from each other: either may be first
---     putAt-within        a place within what was put
 --     both-more           two arrays that grow side by side
---     number-within       one number of an array, put anew
+--     number-set          one number of an array, put anew
+--     part-there, part-anew    a part that was put, as it is lent, and with something else in it
 -- Assumes nothing.
 use mathlib.Core.List.{List, [], _∷_, _++_}
-use mathlib.Core.Path.{_≡_, sym, ap, ap₂, _∙_}
+use mathlib.Core.Path.{_≡_, refl, sym, ap, ap₂, _∙_}
 use Prim.Native.Nat.{ℕ, zero, suc, _+_, _*_, _≤_, _<_}
-use native.Mathlib.Nat.{mul-le-mul-left, mul-suc, mul-zero, suc-add, zero-add}
+use native.Mathlib.Nat.{mul-suc, mul-zero, suc-add, zero-add}
 use native.Mathlib.Omega.{arith}
 use lib.ListN.{length, set, take, drop, length-append}
-use Rattle.tables.proofs.NumberLaws.{length-all, length-bytes, length-putAt, putAt-more, putAt-none}
+use lib.Seq.{drop-at, length-take-le, take-at}
+use Rattle.tables.proofs.NumberLaws.{length-bytes, length-putAt, putAt-more, putAt-none}
 use Rattle.tables.specs.Numbers.{bytesOf, bytesOfAll, putAt}
 
 -- ---- one entry further on
@@ -43,34 +44,6 @@ putAt-apart (c ∷ b) xs ys (suc i) (suc j) h g =
     ∙ ap (λ (l : List ℕ). c ∷ l) (putAt-apart b xs ys i j (omega arith) (omega arith))
     ∙ sym (put-later c (putAt b j ys) xs i) ∙ ap (λ (l : List ℕ). putAt l (suc i) xs) (sym (put-later c b ys j))
 
--- ---- a place within
-within-first : (b xs ys : List ℕ) → length ys ≤ length xs → length xs ≤ length b → putAt (putAt b 0 xs) 0 ys ≡ putAt b 0 (putAt xs 0 ys)
-within-first b xs [] h g = putAt-none (putAt b 0 xs) 0 ∙ ap (putAt b 0) (sym (putAt-none xs 0))
-within-first b [] (y ∷ ys) h g = absurd (omega arith)
-within-first [] (x ∷ xs) (y ∷ ys) h g = absurd (omega arith)
-within-first (c ∷ b) (x ∷ xs) (y ∷ ys) h g =
-    ap (λ (l : List ℕ). putAt l 0 (y ∷ ys)) (put-first c b x xs) ∙ put-first x (putAt b 0 xs) y ys
-    ∙ ap (λ (l : List ℕ). y ∷ l) (within-first b xs ys (omega arith) (omega arith))
-    ∙ sym (put-first c b y (putAt xs 0 ys)) ∙ ap (putAt (c ∷ b) 0) (sym (put-first x xs y ys))
-
-within-front : (b xs ys : List ℕ) (j : ℕ) → j + length ys ≤ length xs → length xs ≤ length b
-    → putAt (putAt b 0 xs) j ys ≡ putAt b 0 (putAt xs j ys)
-within-front b xs ys zero h g = within-first b xs ys (omega arith) g
-within-front b [] ys (suc j) h g = absurd (omega arith)
-within-front [] (x ∷ xs) ys (suc j) h g = absurd (omega arith)
-within-front (c ∷ b) (x ∷ xs) ys (suc j) h g =
-    ap (λ (l : List ℕ). putAt l (suc j) ys) (put-first c b x xs) ∙ put-later x (putAt b 0 xs) ys j
-    ∙ ap (λ (l : List ℕ). x ∷ l) (within-front b xs ys j (omega arith) (omega arith))
-    ∙ sym (put-first c b x (putAt xs j ys)) ∙ ap (putAt (c ∷ b) 0) (sym (put-later x xs ys j))
-
-pub putAt-within : (b xs ys : List ℕ) (i j : ℕ) → j + length ys ≤ length xs → i + length xs ≤ length b
-    → putAt (putAt b i xs) (i + j) ys ≡ putAt b i (putAt xs j ys)
-putAt-within b xs ys zero j h g = ap (λ (n : ℕ). putAt (putAt b 0 xs) n ys) (zero-add j) ∙ within-front b xs ys j h (omega arith)
-putAt-within [] xs ys (suc i) j h g = absurd (omega arith)
-putAt-within (c ∷ b) xs ys (suc i) j h g =
-    ap₂ (λ (l : List ℕ) (n : ℕ). putAt l n ys) (put-later c b xs i) (suc-add i j) ∙ put-later c (putAt b i xs) ys (i + j)
-    ∙ ap (λ (l : List ℕ). c ∷ l) (putAt-within b xs ys i j h (omega arith)) ∙ sym (put-later c b (putAt xs j ys) i)
-
 -- ---- two arrays that grow side by side
 pub both-more : (b xs ys x y : List ℕ) (near far : ℕ) → near + length xs + length x ≤ far → far + length ys + length y ≤ length b
     → putAt (putAt (putAt (putAt b near xs) far ys) (near + length xs) x) (far + length ys) y ≡ putAt (putAt b near (xs ++ x)) far (ys ++ y)
@@ -97,7 +70,7 @@ behind (x ∷ xs) rest ys i =
     ∙ ap (λ (l : List ℕ). x ∷ l) (behind xs rest ys i)
 
 module _ (w : ℕ) where
-  number-set : (ns : List ℕ) (i v : ℕ) → i < length ns → putAt (bytesOfAll w ns) (w * i) (bytesOf w v) ≡ bytesOfAll w (set ns i v)
+  pub number-set : (ns : List ℕ) (i v : ℕ) → i < length ns → putAt (bytesOfAll w ns) (w * i) (bytesOf w v) ≡ bytesOfAll w (set ns i v)
   unfolding bytesOfAll
   number-set [] i v h = absurd (omega arith)
   number-set (n ∷ ns) zero v h =
@@ -108,10 +81,19 @@ module _ (w : ℕ) where
       ap (λ (k : ℕ). putAt (bytesOf w n ++ bytesOfAll w ns) k (bytesOf w v)) place ∙ behind (bytesOf w n) (bytesOfAll w ns) (bytesOf w v) (w * i)
       ∙ ap (λ (l : List ℕ). bytesOf w n ++ l) (number-set ns i v (omega arith))
 
-  pub number-within : (b ns : List ℕ) (place i v : ℕ) → i < length ns → place + w * length ns ≤ length b
-      → putAt (putAt b place (bytesOfAll w ns)) (place + w * i) (bytesOf w v) ≡ putAt b place (bytesOfAll w (set ns i v))
-  number-within b ns place i v h g =
-      let room : w * suc i ≤ w * length ns = mul-le-mul-left w h in
-      putAt-within b (bytesOfAll w ns) (bytesOf w v) place (w * i) (omega (arith, room, mul-suc w i, length-bytes w v, length-all w ns))
-      (omega (arith, g, length-all w ns))
-      ∙ ap (putAt b place) (number-set ns i v h)
+-- ---- a part that was put, lent from its place on
+module _ (b xs : List ℕ) (at : ℕ) (fits : at + length xs ≤ length b) where
+  from-place : drop at (putAt b at xs) ≡ xs ++ drop (at + length xs) b
+  unfolding putAt
+  from-place = drop-at (take at b) _ at (length-take-le at b (omega arith))
+
+  pub part-there : take (length xs) (drop at (putAt b at xs)) ≡ xs
+  part-there = ap (take (length xs)) from-place ∙ take-at xs (drop (at + length xs) b) (length xs) refl
+
+  pub part-anew : (ys : List ℕ) → length ys ≡ length xs
+      → take at (putAt b at xs) ++ (ys ++ drop (length xs) (drop at (putAt b at xs))) ≡ putAt b at ys
+  unfolding putAt
+  part-anew ys same =
+      ap₂ (λ (x y : List ℕ). x ++ (ys ++ y)) (take-at (take at b) (xs ++ drop (at + length xs) b) at (length-take-le at b (omega arith)))
+      (ap (drop (length xs)) from-place ∙ drop-at xs (drop (at + length xs) b) (length xs) refl)
+      ∙ ap (λ (n : ℕ). take at b ++ (ys ++ drop (at + n) b)) (sym same)

@@ -1,148 +1,147 @@
--- The receipts that a list changes, as a loop writes them.
---     Received, received-none, received-more, received-all     the loop over the listed positions
---     positions-below                           the positions of one that can be taken
+-- The receipts that a list sets.
+--     messagesSet, messages-set        messages that are received one after another: those of the table after a receipt
+--     receipts-set                     the bytes of their receipts, set one after another
+--     SettingReceipts, setting-none, setting-more, setting-all     a loop that sets them
+--     ListedPut, listed-put            a part that is copied, and set in its place
+--     positions-below                  the positions of one that can be taken
 -- Assumes nothing.
-use mathlib.Core.Bool.{Bool, cond, _||_, or-true}
-use mathlib.Core.List.{List, [], _∷_, _++_, append-assoc}
+use mathlib.Core.Bool.{Bool, true, false, cond, _||_}
+use mathlib.Core.List.{List, [], _∷_, _++_}
 use mathlib.Core.Path.{_≡_, refl, sym, ap, ap₂, _∙_}
-use Prim.Native.Nat.{ℕ, zero, suc, _+_, _*_, _≤_, _<_, zero-le}
-use native.Mathlib.Decide.{ℕ-discrete}
+use Prim.Native.Nat.{ℕ, zero, suc, _+_, _*_, _<_, _≤_, zero-le, suc-le-suc, _-_}
 use native.Mathlib.Numerals.{add-one}
 use native.Mathlib.Omega.{arith}
-use borrow.Author.Tests.{eq-eqb, ne-eqb}
+use borrow.Author.Tests.{eqb-false, eqb-true}
 use lib.Dec.{eqb}
-use lib.ListN.{length, getD, set, take, length-append}
-use lib.Seq.{set-append-left, set-append-seam, take-all, take-suc}
-use Rattle.number_writer.proofs.PlaceLaws.{number-within}
-use Rattle.steps.proofs.StepLaws.{good-position}
-use Rattle.steps.specs.Steps.{badPosition}
-use Rattle.step_writer.proofs.SendLaws.{copied}
-use Rattle.step_writer.specs.Receipts.{CanReceive, newReceipt, receiptNumbers}
-use Rattle.tables.proofs.CodingLaws.{even-number, odd-number}
-use Rattle.tables.proofs.ListLaws.{any-last, none-of, or-none, tabulate-more}
-use Rattle.tables.specs.Format.{checkpointAt, decode, processAt}
-use Rattle.tables.specs.Lists.{any, tabulate}
+use lib.ListN.{length, getD, set, drop, drop-of-length-le, length-set, take}
+use lib.Seq.{drop-cons, ext-getD, getD-set-other, getD-set-same}
+use Rattle.number_writer.proofs.PlaceLaws.{number-set, part-anew, part-there}
+use Rattle.steps.proofs.StepLaws.{good-position, receipt-receives, receives-message, receives-messages}
+use Rattle.steps.specs.Steps.{afterReceipt, badPosition, receivedAt}
+use Rattle.step_writer.specs.Receipts.{CanReceive, receiptsSet}
+use Rattle.tables.proofs.FormatLaws.{length-entries}
+use Rattle.tables.proofs.ListLaws.{none-of}
+use Rattle.tables.specs.Format.{decode, entriesOf, receiptsOf}
+use Rattle.tables.specs.Lists.{any}
 use Rattle.tables.specs.Numbers.{putAt, u16At, u16Bytes, u16s}
-use Rattle.tables.specs.Table.{messageCount}
+use Rattle.tables.specs.Table.{Message, Table, countOf, messageCount, messageOf, noMessage, withReceipt}
+use Rattle.number_writer.proofs.WriteLaws.{numbers-size}
+use Rattle.step_writer.proofs.SendLaws.{copied}
 
--- ---- a loop over the listed positions, which writes their receipts
-module _ (receipts : List ℕ) (number : ℕ) where
-  abbrev numbers : ℕ → List ℕ → List ℕ
-  numbers m list = receiptNumbers m receipts list number
+-- ---- messages that are received
+-- A message in its place, received at a number.
+abbrev receivedIn : List Message → ℕ → ℕ → List Message
+receivedIn ms k n = set ms k (withReceipt (getD ms k noMessage) n)
 
-  numbers-length : (m : ℕ) (list : List ℕ) → length (numbers m list) ≡ 2 * m
-  unfolding receiptNumbers
-  numbers-length zero list = refl
-  numbers-length (suc m) list =
-      omega (arith, length-append (numbers m list) (processAt receipts m ∷ newReceipt receipts list number m ∷ []), numbers-length m list)
+-- The listed ones, one after another.
+unfoldable pub messagesSet : List Message → List ℕ → ℕ → List Message
+messagesSet ms [] n = ms
+messagesSet ms (k ∷ rest) n = messagesSet (receivedIn ms k n) rest n
 
-  -- the numbers as they are copied, before any is listed
-  numbers-copied : (m : ℕ) → copied m receipts ≡ numbers m []
-  unfolding receiptNumbers tabulate newReceipt any processAt checkpointAt
-  numbers-copied zero = refl
-  numbers-copied (suc m) =
-      let f : ℕ → ℕ = λ e. u16At receipts (2 * e) in
-      let further : 2 * suc m ≡ 2 * m + 1 + 1 = omega arith in
-      ap (λ (j : ℕ). tabulate j f) further ∙ tabulate-more (2 * m + 1) f ∙ ap (λ (l : List ℕ). l ++ (f (2 * m + 1) ∷ [])) (tabulate-more (2 * m) f)
-      ∙ append-assoc (tabulate (2 * m) f) (f (2 * m) ∷ []) (f (2 * m + 1) ∷ [])
-      ∙ ap₂ (λ (l : List ℕ) (x : ℕ). l ++ (x ∷ f (2 * m + 1) ∷ [])) (numbers-copied m) (sym (even-number receipts m))
-      ∙ ap (λ (y : ℕ). numbers m [] ++ (u16At receipts (4 * m) ∷ y ∷ [])) (sym (odd-number receipts m))
+same-size : (ms : List Message) (list : List ℕ) (n : ℕ) → length (messagesSet ms list n) ≡ length ms
+unfolding messagesSet
+same-size ms [] n = refl
+same-size ms (k ∷ rest) n = same-size (receivedIn ms k n) rest n ∙ length-set ms k _
 
-  module _ (list : List ℕ) (k : ℕ) where
-    abbrev longer : List ℕ
-    longer = list ++ (k ∷ [])
+-- a message that is listed twice is received once
+set-at : (ms : List Message) (list : List ℕ) (n k : ℕ) → k < length ms
+    → getD (messagesSet ms list n) k noMessage ≡ cond (any (eqb k) list) (withReceipt (getD ms k noMessage) n) (getD ms k noMessage)
+unfolding messagesSet any
+set-at ms [] n k l = refl
+set-at ms (x ∷ rest) n k l = set-at (receivedIn ms x n) rest n k (rw (length-set ms x) l) ∙ go (eqb k x) refl
+  where
+    m : Message
+    m = getD ms k noMessage
 
-    here-new : newReceipt receipts longer number k ≡ number
-    unfolding newReceipt
-    here-new = rw (any-last (eqb k) list k, eq-eqb k k refl, or-true (any (eqb k) list))
+    again : (b : Bool) → cond b (withReceipt m n) (withReceipt m n) ≡ withReceipt m n
+    again true = refl
+    again false = refl
 
-    other-same : (j : ℕ) → (j ≡ k → ⊥) → newReceipt receipts longer number j ≡ newReceipt receipts list number j
-    unfolding newReceipt
-    other-same j e =
-        ap (λ (b : Bool). cond b number (checkpointAt receipts j))
-        (any-last (eqb j) list k ∙ ap (λ (b : Bool). any (eqb j) list || b) (ne-eqb j k e) ∙ or-none (any (eqb j) list))
+    go : (b : Bool) → eqb k x ≡ b
+        → cond (any (eqb k) rest) (withReceipt (getD (receivedIn ms x n) k noMessage) n) (getD (receivedIn ms x n) k noMessage)
+        ≡ cond (b || any (eqb k) rest) (withReceipt m n) m
+    go true e =
+        let here : getD (receivedIn ms x n) k noMessage ≡ withReceipt m n =
+        ap (λ (j : ℕ). getD (receivedIn ms j n) k noMessage) (sym (eqb-true k x e)) ∙ getD-set-same ms k _ noMessage l in
+        rw here (again (any (eqb k) rest))
+    go false e = rw (getD-set-other ms x k (withReceipt (getD ms x noMessage) n) noMessage (eqb-false k x e))
 
-    -- one position more in the list
-    numbers-below : (m : ℕ) → m ≤ k → numbers m longer ≡ numbers m list
-    unfolding receiptNumbers
-    numbers-below zero l = refl
-    numbers-below (suc m) l =
-        ap₂ (λ (a : List ℕ) (y : ℕ). a ++ (processAt receipts m ∷ y ∷ [])) (numbers-below m (omega arith)) (other-same m (λ e. omega arith))
+pub messages-set : (t : Table) (i : ℕ) (list : List ℕ) → messagesSet (t .messages) list (countOf t i) ≡ afterReceipt t i list .messages
+unfolding messageCount messageOf receivedAt
+messages-set t i list =
+    let after = receipt-receives t i list in
+    ext-getD noMessage _ _ (same-size (t .messages) list (countOf t i) ∙ sym (receives-messages after)) (λ k l.
+    let inside : k < length (t .messages) = omega (arith, same-size (t .messages) list (countOf t i)) in
+    set-at (t .messages) list (countOf t i) k inside ∙ sym (receives-message after k inside))
 
-    numbers-set : (m : ℕ) → k < m → set (numbers m list) (2 * k + 1) number ≡ numbers m longer
-    unfolding receiptNumbers
-    numbers-set zero l = absurd (omega arith)
-    numbers-set (suc m) l = by-place (ℕ-discrete k m) (λ h. numbers-set m h)
-      where
-        -- the numbers before entry m, and those of the entry with another receipt number
-        front : List ℕ
-        front = numbers m list
+-- ---- their receipts
+receipt-set : (ms : List Message) (k n : ℕ) → k < length ms → set (receiptsOf ms) (2 * k + 1) n ≡ receiptsOf (receivedIn ms k n)
+unfolding entriesOf
+receipt-set [] k n l = absurd (omega arith)
+receipt-set (m ∷ rest) zero n l = refl
+receipt-set (m ∷ rest) (suc k) n l =
+    let further : 2 * suc k + 1 ≡ suc (suc (2 * k + 1)) = omega arith in
+    rw further (ap (λ (x : List ℕ). m .receiver ∷ m .received ∷ x) (receipt-set rest k n (omega arith)))
 
-        pair : ℕ → List ℕ
-        pair y = processAt receipts m ∷ y ∷ []
+pub receipts-set : (ms : List Message) (list : List ℕ) (n : ℕ) → ((a : ℕ) → a < length list → getD list a 0 < length ms)
+    → receiptsSet (u16s (receiptsOf ms)) list n ≡ u16s (receiptsOf (messagesSet ms list n))
+unfolding receiptsSet messagesSet
+receipts-set ms [] n listed = refl
+receipts-set ms (k ∷ rest) n listed =
+    let here : k < length ms = listed zero (suc-le-suc zero-le) in
+    let place : 4 * k + 2 ≡ 2 * (2 * k + 1) = omega arith in
+    ap (λ (x : List ℕ). receiptsSet x rest n)
+    (ap (λ (j : ℕ). putAt (u16s (receiptsOf ms)) j (u16Bytes n)) place
+    ∙ number-set 2 (receiptsOf ms) (2 * k + 1) n (omega (arith, length-entries (λ x. x .receiver) (λ x. x .received) ms))
+    ∙ ap u16s (receipt-set ms k n here))
+    ∙ receipts-set (receivedIn ms k n) rest n (λ a l. omega (arith, listed (suc a) (suc-le-suc l), length-set ms k (withReceipt (getD ms k noMessage) n)))
 
-        by-place : Dec (k ≡ m) → (k < m → set front (2 * k + 1) number ≡ numbers m longer)
-            → set (front ++ pair (newReceipt receipts list number m)) (2 * k + 1) number ≡ numbers m longer ++ pair (newReceipt receipts longer number m)
-        by-place (yes e) before =
-            let old = newReceipt receipts list number m in
-            let split = sym (append-assoc front (processAt receipts m ∷ []) (old ∷ [])) in
-            let seam : length (front ++ (processAt receipts m ∷ [])) ≡ 2 * k + 1 =
-            omega (arith, length-append front (processAt receipts m ∷ []), numbers-length m list) in
-            ap₂ (λ (a : List ℕ) (j : ℕ). set a j number) split (sym seam)
-            ∙ set-append-seam (front ++ (processAt receipts m ∷ [])) old [] number ∙ append-assoc front (processAt receipts m ∷ []) (number ∷ [])
-            ∙ ap₂ (λ (a : List ℕ) (y : ℕ). a ++ pair y) (sym (numbers-below m (omega arith)))
-            (sym (ap (newReceipt receipts longer number) (sym e) ∙ here-new))
-        by-place (no e) before =
-            set-append-left front (pair (newReceipt receipts list number m)) (2 * k + 1) number (omega (arith, numbers-length m list))
-            ∙ ap₂ (λ (a : List ℕ) (y : ℕ). a ++ pair y) (before (omega arith)) (sym (other-same m (λ s. e (sym s))))
+-- ---- a loop that sets them
+-- With those from entry a of the list on still to be set, the part becomes what it is to be.
+pub record SettingReceipts (before list : List ℕ) (number : ℕ) (part : List ℕ) (a : ℕ) : Type 0 where
+  pub listed : (b : ℕ) → b < length list → 4 * getD list b 0 + 3 < length before
+  pub same-length : length part ≡ length before
+  pub left : receiptsSet part (drop a list) number ≡ receiptsSet before list number
 
--- The receipts were put from a place on, and the first a listed ones have their new number.
-pub record Received (at : ℕ) (receipts : List ℕ) (m : ℕ) (list : List ℕ) (number : ℕ) (put after : List ℕ) (a : ℕ) : Type 0 where
-  pub listed : (b : ℕ) → b < length list → getD list b 0 < m
-  pub within : a ≤ length list
-  pub room : at + 4 * m ≤ length put
-  pub same-length : length after ≡ length put
-  pub contents : (before : List ℕ) → at + 4 * m ≤ length before → put ≡ putAt before at (u16s (receiptNumbers m receipts [] number))
-      → after ≡ putAt before at (u16s (receiptNumbers m receipts (take a list) number))
+module _ {before list : List ℕ} {number : ℕ} where
+  pub setting-none : ((b : ℕ) → b < length list → 4 * getD list b 0 + 3 < length before) → SettingReceipts before list number before 0
+  setting-none listed = record { listed = listed; same-length = refl; left = refl }
 
-module _ {at : ℕ} {receipts : List ℕ} {m : ℕ} {list : List ℕ} {number : ℕ} {put : List ℕ} where
-  pub received-none : ((b : ℕ) → b < length list → getD list b 0 < m) → at + 4 * m ≤ length put → Received at receipts m list number put put 0
-  received-none listed room = record { listed = listed; within = zero-le; room = room; same-length = refl; contents = λ before fits e. e }
-
-  module _ {after : List ℕ} {a : ℕ} (w : Received at receipts m list number put after a) where
-    -- the number was put at its place in entry a's message
-    pub received-more : a < length list → {later : List ℕ} → length later ≡ length after
-        → later ≡ putAt after (at + 4 * getD list a 0 + 2) (u16Bytes number) → Received at receipts m list number put later (a + 1)
-    received-more l same is = record {
+  module _ {part : List ℕ} {a : ℕ} (w : SettingReceipts before list number part a) where
+    pub setting-more : a < length list → {later : List ℕ} → length later ≡ length part
+        → later ≡ putAt part (4 * getD list a 0 + 2) (u16Bytes number) → SettingReceipts before list number later (a + 1)
+    unfolding receiptsSet
+    setting-more l same is = record {
       listed = w .listed;
-      within = omega arith;
-      room = w .room;
       same-length = same ∙ w .same-length;
-      contents =
-          λ before fits e.
-          is ∙ ap₂ (λ (b : List ℕ) (j : ℕ). putAt b j (u16Bytes number)) (w .contents before fits e) place
-          ∙ number-within 2 before (numbers receipts number m (take a list)) at (2 * k + 1) number (omega (arith, w .listed a l, size)) (omega (arith, size))
-          ∙ ap (λ (l : List ℕ). putAt before at (u16s l))
-          (numbers-set receipts number (take a list) k m (w .listed a l) ∙ ap (numbers receipts number m) (sym longer));
+      left =
+          ap₂ (λ (x : List ℕ) (j : ℕ). receiptsSet x (drop j list) number) is (add-one a)
+          ∙ sym (ap (λ (x : List ℕ). receiptsSet part x number) (drop-cons list a 0 l)) ∙ w .left;
     }
-      where
-        k : ℕ
-        k = getD list a 0
 
-        size : length (numbers receipts number m (take a list)) ≡ 2 * m
-        size = numbers-length receipts number m (take a list)
+    pub setting-all : length list ≤ a → part ≡ receiptsSet before list number
+    unfolding receiptsSet
+    setting-all l = sym (ap (λ (x : List ℕ). receiptsSet part x number) (drop-of-length-le list l)) ∙ w .left
 
-        place : at + 4 * k + 2 ≡ at + 2 * (2 * k + 1)
-        place = omega arith
+-- ---- m receipts that were copied to a place of a buffer, and set there, where the code lends them
+pub record ListedPut (before : List ℕ) (at m : ℕ) (receipts list : List ℕ) (number : ℕ) (put part : List ℕ) : Type 0 where
+  pub room : at + 4 * m ≤ length before
+  pub copy : put ≡ putAt before at (u16s (copied m receipts))
+  pub set-there : part ≡ receiptsSet (take (at + 4 * m - at) (drop at put)) list number
+  pub same-length : length part ≡ length (take (at + 4 * m - at) (drop at put))
 
-        longer : take (a + 1) list ≡ take a list ++ (k ∷ [])
-        longer = ap (λ (j : ℕ). take j list) (add-one a) ∙ take-suc list a 0 l
-
-    pub received-all : length list ≤ a → (before : List ℕ) → at + 4 * m ≤ length before → put ≡ putAt before at (u16s (copied m receipts))
-        → after ≡ putAt before at (u16s (receiptNumbers m receipts list number))
-    received-all l before fits e =
-        w .contents before fits (e ∙ ap (λ (x : List ℕ). putAt before at (u16s x)) (numbers-copied receipts number m))
-        ∙ ap (λ (x : List ℕ). putAt before at (u16s (receiptNumbers m receipts x number))) (take-all a list l)
+pub listed-put : {before : List ℕ} {at m : ℕ} {receipts list : List ℕ} {number : ℕ} {put part : List ℕ}
+    → ListedPut before at m receipts list number put part
+    → take at put ++ (part ++ drop (at + 4 * m - at) (drop at put)) ≡ putAt before at (receiptsSet (u16s (copied m receipts)) list number)
+listed-put {before} {at} {m} {receipts} {list} {number} {put} {part} w =
+    let xs : List ℕ = u16s (copied m receipts) in
+    let size : at + 4 * m - at ≡ length xs = omega (arith, numbers-size (2 * m) (λ k. u16At receipts (2 * k))) in
+    let fits : at + length xs ≤ length before = omega (arith, w .room) in
+    let there : take (at + 4 * m - at) (drop at put) ≡ xs =
+    ap₂ (λ (x : List ℕ) (n : ℕ). take n (drop at x)) (w .copy) size ∙ part-there before xs at fits in
+    ap₂ (λ (x : List ℕ) (n : ℕ). take at x ++ (part ++ drop n (drop at x))) (w .copy) size
+    ∙ part-anew before xs at fits part (w .same-length ∙ ap length there)
+    ∙ ap (putAt before at) (w .set-there ∙ ap (λ (x : List ℕ). receiptsSet x list number) there)
 
 -- the positions of a receipt that can be taken
 pub positions-below : {table : List ℕ} {i : ℕ} {list : List ℕ} → CanReceive table i list → {m : ℕ} → m ≡ messageCount (decode table)

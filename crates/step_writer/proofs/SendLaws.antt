@@ -8,7 +8,7 @@
 --     send-put                    the table after a send
 -- Assumes nothing.
 use mathlib.Core.List.{List, [], _∷_, _++_}
-use mathlib.Core.Path.{_≡_, sym, ap, ap₂, _∙_}
+use mathlib.Core.Path.{_≡_, sym, ap, ap₂, _∙_, refl}
 use Prim.Native.Nat.{ℕ, _+_, _-_, _*_, _≤_, _<_}
 use native.Mathlib.Omega.{arith}
 use lib.ListN.{length, getD, set, take, length-set}
@@ -88,23 +88,23 @@ module _ {table : List ℕ} {n m : ℕ} {counts : List ℕ} (r : Read table n m 
     pub count-small : getD counts p 0 ≤ mostCheckpoints
     count-small = omega (arith, count-read p, facts table (r .accepted) .limits .counts-limit p known)
 
--- ---- a table put at the front of a buffer, in three writes: its head; its sends, at a; its receipts, at z
+-- ---- a table put at the front of a buffer, in three writes: its head; the bytes of its sends, at a; those of its receipts, at z
 pub record Writes (n m : ℕ) (counts sends receipts : List ℕ) (a z : ℕ) (before headed sent after : List ℕ) : Type 0 where
   pub room : tableLength n m ≤ length before
   pub head : headed ≡ putAt before 0 (u16s (length counts ∷ m ∷ counts))
   pub sends-at : a ≡ sendsAt n
-  pub sends-put : sent ≡ putAt headed a (u16s sends)
+  pub sends-put : sent ≡ putAt headed a sends
   pub receipts-at : z ≡ receiptsAt n m
-  pub receipts-put : after ≡ putAt sent z (u16s receipts)
+  pub receipts-put : after ≡ putAt sent z receipts
 
 pub table-written : {n m : ℕ} {counts sends receipts : List ℕ} {a z : ℕ} {before headed sent after : List ℕ}
     → Writes n m counts sends receipts a z before headed sent after → (t : Table) → n ≡ processCount t → m ≡ messageCount t → counts ≡ t .counts
-    → sends ≡ sendsOf (t .messages) → receipts ≡ receiptsOf (t .messages) → after ≡ putAt before 0 (encode t)
+    → sends ≡ u16s (sendsOf (t .messages)) → receipts ≡ u16s (receiptsOf (t .messages)) → after ≡ putAt before 0 (encode t)
 unfolding processCount
-table-written {n} {m} {counts} {before = before} w t n-is m-is counts-are sends-are receipts-are =
+table-written {n} {m} {counts} {before = before} {headed = headed} {sent = sent} w t n-is m-is counts-are sends-are receipts-are =
     let head = w .head ∙ ap (λ (x : ℕ). putAt before 0 (u16s (x ∷ m ∷ counts))) (ap length counts-are ∙ sym n-is) in
-    table-put t n m counts _ _ n-is m-is counts-are sends-are receipts-are _ _ _ _ (w .room) head
-    (rw (w .sends-at) at (w .sends-put)) (rw (w .receipts-at) at (w .receipts-put))
+    table-put t n m counts _ _ n-is m-is counts-are refl refl _ _ _ _ (w .room) head (w .sends-put ∙ ap₂ (putAt headed) (w .sends-at) sends-are)
+    (w .receipts-put ∙ ap₂ (putAt sent) (w .receipts-at) receipts-are)
 
 -- ---- an array of m entries put at a place of a buffer, and an entry behind it
 pub record Longer (before : List ℕ) (at m : ℕ) (f : ℕ → ℕ) (a b : ℕ) (between after : List ℕ) : Type 0 where
@@ -139,17 +139,18 @@ module _ {table : List ℕ} {m : ℕ} {sends receipts : List ℕ} (read : ReadMe
   copied-sends : copied m sends ≡ sendsOf (decode table .messages)
   copied-sends = rw (read .m-is, read .sends-are, decode-messages table) (sym (sends-numbers table))
 
-  copied-receipts : copied m receipts ≡ receiptsOf (decode table .messages)
+  pub copied-receipts : copied m receipts ≡ receiptsOf (decode table .messages)
   copied-receipts = rw (read .m-is, read .receipts-are, decode-messages table) (sym (receipts-numbers table))
 
   pub send-put : {n : ℕ} {counts : List ℕ} → Read table n m counts → (j i : ℕ) {y : ℕ} → y ≡ getD counts j 0 - 1
       → {a z : ℕ} {before headed sent after : List ℕ}
-      → Writes n (m + 1) (take n counts) (copied m sends ++ (j ∷ y ∷ [])) (copied m receipts ++ (i ∷ 0 ∷ [])) a z before headed sent after
+      → Writes n (m + 1) (take n counts) (u16s (copied m sends ++ (j ∷ y ∷ []))) (u16s (copied m receipts ++ (i ∷ 0 ∷ []))) a z before headed sent after
       → after ≡ putAt before 0 (encode (afterSend (decode table) j i))
   unfolding afterSend
   send-put r j i y-is w =
       let t = decode table in
       table-written w (afterSend t j i) (r .n-is ∙ sym (send-processes t j i)) (ap (λ (x : ℕ). x + 1) (r .m-is) ∙ sym (send-messages t j i))
       (front r)
-      (ap₂ (λ (s : List ℕ) (x : ℕ). s ++ (j ∷ x ∷ [])) copied-sends (y-is ∙ ap (λ (x : ℕ). x - 1) (count-read r j)) ∙ sym (sends-after t j i))
-      (ap (λ (s : List ℕ). s ++ (i ∷ 0 ∷ [])) copied-receipts ∙ sym (receipts-after t j i))
+      (ap u16s
+      (ap₂ (λ (s : List ℕ) (x : ℕ). s ++ (j ∷ x ∷ [])) copied-sends (y-is ∙ ap (λ (x : ℕ). x - 1) (count-read r j)) ∙ sym (sends-after t j i)))
+      (ap u16s (ap (λ (s : List ℕ). s ++ (i ∷ 0 ∷ [])) copied-receipts ∙ sym (receipts-after t j i)))

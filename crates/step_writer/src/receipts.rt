@@ -11,9 +11,24 @@ ghost use Prim.Native.Nat.{ℕ, _+_, _*_, _<_, _≤_};
 ghost use lib.ListN.{getD, length};
 ghost use Rattle.steps.specs.Steps.{afterCheckpoint, afterReceipt};
 ghost use Rattle.tables.specs.Format.{decode, encode, tableLength};
-ghost use Rattle.tables.specs.Numbers.{putAt, u16s};
+ghost use Rattle.tables.specs.Lists.{tabulate};
+ghost use Rattle.tables.specs.Numbers.{putAt, u16At, u16s};
 ghost use Rattle.tables.specs.Table.{messageCount, processCount};
-ghost use Rattle.step_writer.specs.Receipts.{CanReceive, afterReceiving, receiptNumbers};
+ghost use Rattle.step_writer.specs.Receipts.{CanReceive, afterReceiving, receiptsSet};
+
+// Sets the receipt number of each listed message, in place, in a part of receipts that has its entry.
+pub fn set_receipts(receipts: &mut [u8], list: &[u16], number: u16)
+    requires { ⌜ ((a : ℕ) → a < length (now list) → 4 * getD (now list) a 0 + 3 < length (now receipts)) ⌝ }
+    ensures { λ _. ⌜ now (receipts .exit)
+        ≡ receiptsSet (now (receipts .entry)) (now (list .entry)) number ⌝ }
+{
+    let mut a = 0;
+    while a < list.len() {
+        let k = list[a] as usize;
+        put_u16(receipts, 4 * k + 2, number);
+        a += 1;
+    }
+}
 
 // Writes the receipts of m messages, those at the listed positions with a new number, to a place of a
 // buffer that has room for them.
@@ -21,16 +36,13 @@ fn put_receipts(buffer: &mut [u8], at: usize, receipts: &[u8], m: usize, list: &
     requires { ⌜ length (now receipts) ≡ 4 * m ⌝ }
     requires { ⌜ ((a : ℕ) → a < length (now list) → getD (now list) a 0 < m) ⌝ }
     requires { ⌜ at + 4 * m ≤ length (now buffer) ⌝ }
-    ensures { λ _. ⌜ now (buffer .exit) ≡ putAt (now (buffer .entry)) at
-        (u16s (receiptNumbers m (now (receipts .entry)) (now (list .entry)) number)) ⌝ }
+    ensures { λ _. ⌜ now (buffer .exit)
+        ≡ putAt (now (buffer .entry)) at
+        (receiptsSet (u16s (tabulate (2 * m) (λ k. u16At (now (receipts .entry)) (2 * k)))) (now (list .entry)) number) ⌝ }
 {
     copy_numbers(buffer, at, receipts, 2 * m);
-    let mut a = 0;
-    while a < list.len() {
-        let k = list[a] as usize;
-        put_u16(buffer, at + 4 * k + 2, number);
-        a += 1;
-    }
+    let end = at + 4 * m;
+    set_receipts(&mut buffer[at..end], list, number);
 }
 
 // Writes the table after a known process received a list of messages that wait for it, with its count grown
