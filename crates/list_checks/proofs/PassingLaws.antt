@@ -1,13 +1,14 @@
--- The loop of `passes_over`, which goes over the messages up to the last one listed.
---     Passing, passing-none, passing-all    the loop's invariant; how it begins and ends
---     there                                 while it has a position to come to, it is at a message
---     Next, sender-within                   it is at one whose sender was read
---     passes-here, listed-here              that message is listed: what the mark of its sender says
---     skips-elsewhere, skips-received, skipped-here    it is not: what the tests say of it
+-- The loop of `skips_older`, which goes over the entries up to the last one listed.
+--     SkippedMarked, marked-none, marked-all    the loop's invariant; how it begins and ends
+--     there                                     while it has a position to come to, it is at an entry
+--     EntryRead, sender-within                  it is at one whose sender was read
+--     skips-here, listed-here                   that entry is listed: what the mark of its sender says
+--     leaves-elsewhere, leaves-received, skipped-here    it is not: what the tests say of it
+--     listed-entries, passes-is                 the entries of a table, and its messages
 -- Assumes nothing.
-use mathlib.Core.Bool.{Bool, true, false, _&&_, and-false}
+use mathlib.Core.Bool.{Bool, true, false, _&&_, and-assoc, and-false, and-true}
 use mathlib.Core.List.{List}
-use mathlib.Core.Path.{_≡_, refl, sym, ap, ap₂, _∙_, subst}
+use mathlib.Core.Path.{_≡_, refl, sym, ap, _∙_, subst}
 use Prim.Native.Nat.{ℕ, _+_, _*_, _≤_, _<_}
 use native.Mathlib.Decide.{decLt}
 use native.Mathlib.Numerals.{add-one}
@@ -16,121 +17,97 @@ use borrow.Author.Count.{below-more, below-none}
 use borrow.Author.Tests.{eq-eqb, ne-eqb}
 use lib.Dec.{eqb}
 use lib.ListN.{length, getD, set, replicate}
-use Rattle.steps.proofs.OrderLaws.{passes-is, skippedFrom, waitsFrom}
+use Rattle.list_checks.proofs.PositionLaws.{any-places}
+use Rattle.list_checks.specs.Entries.{ListedEntries, entrySkipped, entryWaits, skipsOlder}
 use Rattle.steps.proofs.StepLaws.{Waiting, good-position, rising}
 use Rattle.steps.specs.Steps.{badPosition, notRising, passesOver}
-use Rattle.tables.proofs.ListLaws.{any-none, any-some, anyBelow-found, getD-tabulate, none-of, set-tabulate, tabulate-ext}
-use Rattle.tables.proofs.ReadLaws.{ReadMessages, messages-few, messages-read, received-is, receiver-is, sender-is, sender-small}
+use Rattle.tables.proofs.ListLaws.{any-none, any-some, anyBelow-ext, anyBelow-found, getD-tabulate, none-of, set-tabulate, tabulate-ext}
+use Rattle.tables.proofs.ReadLaws.{ReadMessages, received-is, receiver-is, sender-is, sender-small}
 use Rattle.tables.proofs.TurnLaws.{waits-read}
-use Rattle.tables.specs.Checks.{tableRefusal}
-use Rattle.tables.specs.Format.{decode, receiptsPart, sendsPart}
+use Rattle.tables.specs.Checks.{sameChannel, waits}
+use Rattle.tables.specs.Format.{checkpointAt, decode, processAt}
 use Rattle.tables.specs.Lists.{any, anyBelow, tabulate}
 use Rattle.tables.specs.Numbers.{u16At}
-use Rattle.tables.specs.Table.{Table, messageCount, messageOf, mostMessages, mostProcesses}
+use Rattle.tables.specs.Table.{Table, messageOf, mostProcesses}
 
 -- ---- the loop
--- It has gone over the first k messages and the first a positions of the list.
-pub record Passing (table : List ℕ) (i : ℕ) (list sends receipts : List ℕ) (skipped : List Bool) (a k : ℕ) : Type 0 where
-  -- what was read, and what the list was found to be
-  pub read : ReadMessages table (messageCount (decode table)) sends receipts
-  pub few : messageCount (decode table) ≤ mostMessages
-  pub waiting : any (badPosition (decode table) i) list ≡ false
-  pub rises : notRising list ≡ false
+-- It has gone over the first k entries and the first a positions of the list.
+pub record SkippedMarked (sends receipts : List ℕ) (i : ℕ) (list : List ℕ) (skipped : List Bool) (a k : ℕ) : Type 0 where
+  pub given : ListedEntries sends receipts list
   -- those positions, and no others, are below k
   pub behind : (b : ℕ) → b < a → getD list b 0 < k
   pub ahead : (b : ℕ) → a ≤ b → b < length list → k ≤ getD list b 0
-  -- just the senders of skipped messages are marked
-  pub marks : skipped ≡ tabulate 32 (λ p. anyBelow k (skippedFrom (decode table) i list p))
-  -- none of those positions passes over a message
-  pub none : (b : ℕ) → b < a → passesOver (decode table) list (getD list b 0) ≡ false
+  -- just the senders of skipped entries are marked
+  pub marks : skipped ≡ tabulate 32 (λ p. anyBelow k (entrySkipped sends receipts i list p))
+  -- none of those positions has an older one that is skipped
+  pub none : (b : ℕ) → b < a → skipsOlder sends receipts i list (getD list b 0) ≡ false
 
-pub passing-none : {table : List ℕ} {i : ℕ} {list sends receipts : List ℕ} → tableRefusal table ≡ 0
-    → any (badPosition (decode table) i) list ≡ false → notRising list ≡ false → sends ≡ sendsPart table → receipts ≡ receiptsPart table
-    → Passing table i list sends receipts (replicate 32 false) 0 0
+pub marked-none : {sends receipts : List ℕ} {i : ℕ} {list : List ℕ} → ListedEntries sends receipts list
+    → SkippedMarked sends receipts i list (replicate 32 false) 0 0
 unfolding anyBelow tabulate
-passing-none {table} accepted waiting rises sends-are receipts-are = record {
-  read = messages-read accepted refl sends-are receipts-are;
-  few = messages-few table accepted;
-  waiting = waiting;
-  rises = rises;
-  behind = below-none _;
-  ahead = λ b l inside. omega arith;
-  marks = refl;
-  none = below-none _;
-}
+marked-none given =
+    record { given = given; behind = below-none _; ahead = λ b l inside. omega arith; marks = refl; none = below-none _ }
 
-module _ {table : List ℕ} {i : ℕ} {list sends receipts : List ℕ} {skipped : List Bool} {a k : ℕ}
-    (w : Passing table i list sends receipts skipped a k) where
-  abbrev t : Table
-  t = decode table
-
-  pub passing-all : length list ≤ a → false ≡ any (passesOver t list) list
-  passing-all l = sym (any-none (passesOver t list) list 0 (λ b inside. w .none b (omega arith)))
+module _ {sends receipts : List ℕ} {i : ℕ} {list : List ℕ} {skipped : List Bool} {a k : ℕ}
+    (w : SkippedMarked sends receipts i list skipped a k) where
+  pub marked-all : length list ≤ a → false ≡ any (skipsOlder sends receipts i list) list
+  marked-all l = sym (any-none (skipsOlder sends receipts i list) list 0 (λ b inside. w .none b (omega arith)))
 
   -- the position to come to
   module _ (more : a < length list) where
-    next-waits : Waiting t i (getD list a 0)
-    next-waits = good-position t i (getD list a 0) (none-of (badPosition t i) list 0 (w .waiting) a more)
-
-    pub there : k < messageCount t
-    there = omega (arith, w .ahead a (omega arith) more, next-waits .a-message)
+    pub there : 4 * k + 3 < length sends
+    there = omega (arith, w .ahead a (omega arith) more, w .given .there a more)
 
     beyond : (b : ℕ) → a + 1 ≤ b → b < length list → k + 1 ≤ getD list b 0
-    beyond b l inside = omega (arith, w .ahead a (omega arith) more, rising list (w .rises) a b (omega arith) inside)
+    beyond b l inside = omega (arith, w .ahead a (omega arith) more, rising list (w .given .rises) a b (omega arith) inside)
 
--- Message k, whose sender was read, with a position to come to.
-pub record Next (table : List ℕ) (i : ℕ) (list sends receipts : List ℕ) (skipped : List Bool) (a k j : ℕ) : Type 0 where
-  pub passing : Passing table i list sends receipts skipped a k
+-- Entry k, whose sender was read, with a position to come to.
+pub record EntryRead (sends receipts : List ℕ) (i : ℕ) (list : List ℕ) (skipped : List Bool) (a k j : ℕ) : Type 0 where
+  pub marked : SkippedMarked sends receipts i list skipped a k
   pub more : a < length list
   pub sender : j ≡ u16At sends (4 * k)
 
-module _ {table : List ℕ} {i : ℕ} {list sends receipts : List ℕ} {skipped : List Bool} {a k j : ℕ}
-    (x : Next table i list sends receipts skipped a k j) where
-  abbrev T : Table
-  T = decode table
+module _ {sends receipts : List ℕ} {i : ℕ} {list : List ℕ} {skipped : List Bool} {a k j : ℕ}
+    (x : EntryRead sends receipts i list skipped a k j) where
+  w : SkippedMarked sends receipts i list skipped a k
+  w = x .marked
 
-  w : Passing table i list sends receipts skipped a k
-  w = x .passing
-
-  here : k < messageCount T
-  here = there w (x .more)
-
-  is-sender : j ≡ messageOf T k .sender
-  is-sender = sender-is (w .read) here (x .sender)
+  is-sender : j ≡ processAt sends k
+  unfolding processAt
+  is-sender = x .sender
 
   pub sender-within : j < mostProcesses
-  sender-within = sender-small (w .read) here (x .sender)
+  sender-within = omega (arith, is-sender, w .given .senders-known k (there w (x .more)))
 
-  -- a message that is not skipped changes no mark
-  same : (p : ℕ) → skippedFrom T i list p k ≡ false → anyBelow k (skippedFrom T i list p) ≡ anyBelow (k + 1) (skippedFrom T i list p)
+  -- an entry that is not skipped changes no mark
+  same : (p : ℕ) → entrySkipped sends receipts i list p k ≡ false
+      → anyBelow k (entrySkipped sends receipts i list p) ≡ anyBelow (k + 1) (entrySkipped sends receipts i list p)
   unfolding anyBelow
   same p e = rw (add-one k, e)
 
-  same-marks : ((p : ℕ) → skippedFrom T i list p k ≡ false) → skipped ≡ tabulate 32 (λ p. anyBelow (k + 1) (skippedFrom T i list p))
+  same-marks : ((p : ℕ) → entrySkipped sends receipts i list p k ≡ false)
+      → skipped ≡ tabulate 32 (λ p. anyBelow (k + 1) (entrySkipped sends receipts i list p))
   same-marks none = w .marks ∙ tabulate-ext 32 _ _ (λ p _. same p (none p))
 
   -- ---- it is listed
   module _ (listed : k ≡ getD list a 0) where
-    -- the mark of its sender says whether it passes over a message
-    mark-is : passesOver T list (getD list a 0) ≡ getD skipped j false
+    -- the mark of its sender says whether it has an older one that is skipped
+    mark-is : skipsOlder sends receipts i list (getD list a 0) ≡ getD skipped j false
+    unfolding skipsOlder
     mark-is =
-        ap (passesOver T list) (sym listed) ∙ passes-is T list k
-        ∙ ap₂ (λ (p r : ℕ). anyBelow k (skippedFrom T r list p)) (sym is-sender)
-        (ap (λ (q : ℕ). messageOf T q .receiver) listed ∙ next-waits w (x .more) .to-process)
+        ap (skipsOlder sends receipts i list) (sym listed) ∙ ap (λ (p : ℕ). anyBelow k (entrySkipped sends receipts i list p)) (sym is-sender)
         ∙ sym (ap (λ (s : List Bool). getD s j false) (w .marks) ∙ getD-tabulate 32 _ j false sender-within)
 
-    pub passes-here : getD skipped j false ≡ true → true ≡ any (passesOver T list) list
-    passes-here e = sym (any-some (passesOver T list) list 0 a (x .more) (mark-is ∙ e))
+    pub skips-here : getD skipped j false ≡ true → true ≡ any (skipsOlder sends receipts i list) list
+    skips-here e = sym (any-some (skipsOlder sends receipts i list) list 0 a (x .more) (mark-is ∙ e))
 
-    pub listed-here : getD skipped j false ≡ false → Passing table i list sends receipts skipped (a + 1) (k + 1)
+    pub listed-here : getD skipped j false ≡ false → SkippedMarked sends receipts i list skipped (a + 1) (k + 1)
+    unfolding entrySkipped
     listed-here e = record {
-      read = w .read;
-      few = w .few;
-      waiting = w .waiting;
-      rises = w .rises;
+      given = w .given;
       behind = below-more _ a (λ b l. omega (arith, w .behind b l)) (omega arith);
       ahead = beyond w (x .more);
-      marks = same-marks (λ p. rw (any-some (eqb k) list 0 a (x .more) (eq-eqb k _ listed)) (and-false (waitsFrom T i p k)));
+      marks = same-marks (λ p. rw (any-some (eqb k) list 0 a (x .more) (eq-eqb k _ listed)) (and-false (eqb (processAt sends k) p && entryWaits receipts i k)));
       none = below-more _ a (w .none) (mark-is ∙ e);
     }
 
@@ -152,40 +129,69 @@ module _ {table : List ℕ} {i : ℕ} {list sends receipts : List ℕ} {skipped 
         by-place b inside e (yes c) = omega (arith, w .behind b c)
         by-place b inside e (no c) = omega (arith, ahead-here b (omega arith) inside)
 
-    goes-on : {marked : List Bool} → marked ≡ tabulate 32 (λ p. anyBelow (k + 1) (skippedFrom T i list p))
-        → Passing table i list sends receipts marked a (k + 1)
-    goes-on e = record {
-      read = w .read;
-      few = w .few;
-      waiting = w .waiting;
-      rises = w .rises;
-      behind = λ b l. omega (arith, w .behind b l);
-      ahead = ahead-here;
-      marks = e;
-      none = w .none;
-    }
+    goes-on : {marked : List Bool} → marked ≡ tabulate 32 (λ p. anyBelow (k + 1) (entrySkipped sends receipts i list p))
+        → SkippedMarked sends receipts i list marked a (k + 1)
+    goes-on e = record { given = w .given; behind = λ b l. omega (arith, w .behind b l); ahead = ahead-here; marks = e; none = w .none }
 
     module _ {r : ℕ} (receiver : r ≡ u16At receipts (4 * k)) where
-      to : r ≡ messageOf T k .receiver
-      to = receiver-is (w .read) here receiver
+      skipped-is : {s : ℕ} → s ≡ u16At receipts (4 * k + 2) → (p : ℕ) → entrySkipped sends receipts i list p k ≡ (eqb j p && (eqb r i && eqb s 0))
+      unfolding entrySkipped entryWaits processAt checkpointAt
+      skipped-is {s} received p =
+          rw (← receiver, ← received, ← x .sender, unlisted) (and-true (eqb j p && (eqb r i && eqb s 0)))
 
       -- it goes to another process
-      pub skips-elsewhere : (r ≡ i → ⊥) → Passing table i list sends receipts skipped a (k + 1)
-      skips-elsewhere e = goes-on (same-marks (λ p. rw (← to, ne-eqb r i e, and-false (eqb (messageOf T k .sender) p))))
+      pub leaves-elsewhere : (r ≡ i → ⊥) → SkippedMarked sends receipts i list skipped a (k + 1)
+      leaves-elsewhere e = goes-on (same-marks (λ p. skipped-is refl p ∙ rw (ne-eqb r i e) (and-false (eqb j p))))
 
       module _ {s : ℕ} (received : s ≡ u16At receipts (4 * k + 2)) where
-        waits-is : (p : ℕ) → waitsFrom T i p k ≡ ((eqb j p && eqb r i) && eqb s 0)
-        waits-is p = rw (waits-read (messageOf T k) (received-is (w .read) here received), ← is-sender, ← to)
-
         -- it was received
-        pub skips-received : (s ≡ 0 → ⊥) → Passing table i list sends receipts skipped a (k + 1)
-        skips-received e = goes-on (same-marks (λ p. rw (waits-is p, ne-eqb s 0 e, and-false (eqb j p && eqb r i))))
+        pub leaves-received : (s ≡ 0 → ⊥) → SkippedMarked sends receipts i list skipped a (k + 1)
+        leaves-received e = goes-on (same-marks (λ p. skipped-is received p ∙ rw (ne-eqb s 0 e, and-false (eqb r i)) (and-false (eqb j p))))
 
         -- it waits for the process
-        pub skipped-here : r ≡ i → s ≡ 0 → Passing table i list sends receipts (set skipped j true) a (k + 1)
+        pub skipped-here : r ≡ i → s ≡ 0 → SkippedMarked sends receipts i list (set skipped j true) a (k + 1)
         skipped-here e e′ =
-            let found : skippedFrom T i list j k ≡ true = rw (waits-is j, eq-eqb j j refl, eq-eqb r i e, eq-eqb s 0 e′, unlisted) in
+            let found : entrySkipped sends receipts i list j k ≡ true = skipped-is received j ∙ rw (eq-eqb j j refl, eq-eqb r i e, eq-eqb s 0 e′) in
             goes-on
             (ap (λ (marks : List Bool). set marks j true) (w .marks)
-            ∙ set-tabulate 32 _ _ j true sender-within (sym (anyBelow-found (skippedFrom T i list j) (k + 1) k (omega arith) found))
-            (λ p apart. same p (rw (waits-is p, ne-eqb j p (λ q. apart (sym q))))))
+            ∙ set-tabulate 32 _ _ j true sender-within (sym (anyBelow-found (entrySkipped sends receipts i list j) (k + 1) k (omega arith) found))
+            (λ p apart. same p (skipped-is received p ∙ rw (ne-eqb j p (λ q. apart (sym q))))))
+
+-- ---- the entries of a table
+module _ {table : List ℕ} {m : ℕ} {sends receipts : List ℕ} (read : ReadMessages table m sends receipts) (i : ℕ) (list : List ℕ)
+    (good : any (badPosition (decode table) i) list ≡ false) where
+  abbrev t : Table
+  t = decode table
+
+  waiting : (a : ℕ) → a < length list → Waiting t i (getD list a 0)
+  waiting a l = good-position t i (getD list a 0) (none-of (badPosition t i) list 0 good a l)
+
+  pub listed-entries : notRising list ≡ false → ListedEntries sends receipts list
+  unfolding processAt
+  listed-entries rises = record {
+    same-size = read .receipts-size ∙ sym (read .sends-size);
+    there = λ a l. omega (arith, waiting a l .a-message, read .m-is, read .sends-size);
+    senders-known = λ k l. sender-small read (omega (arith, read .sends-size)) refl;
+    rises = rises;
+  }
+
+  pub passes-is : any (skipsOlder sends receipts i list) list ≡ any (passesOver t list) list
+  unfolding skipsOlder passesOver entrySkipped entryWaits sameChannel processAt checkpointAt
+  passes-is =
+      any-places _ list
+      ∙ anyBelow-ext _ _ (length list) (λ a l.
+      let here = waiting a l in
+      let k : ℕ = getD list a 0 in
+      let inside : k < m = omega (arith, here .a-message, read .m-is) in
+      anyBelow-ext _ _ k (λ q before.
+      let b : q < m = omega arith in
+      let older = messageOf t q in
+      rw (
+        sender-is read b refl,
+        sender-is read inside refl,
+        receiver-is read b refl,
+        ← waits-read older (received-is read b refl),
+        here .to-process,
+        ← and-assoc (eqb (older .sender) (messageOf t k .sender)) (eqb (older .receiver) i) (waits older),
+      )))
+      ∙ sym (any-places _ list)

@@ -1,9 +1,9 @@
 // The refusals of the calls: the number of the first check before 16 that catches, or 0. The table's
 // checks come first, so what stands behind them judges an accepted table.
 use chosen_ceilings::above_counts;
-use list_checks::bad_position;
-use list_checks::not_rising;
-use list_checks::passes_over;
+use list_checks::passing::passes_over;
+use list_checks::positions::bad_position;
+use list_checks::positions::not_rising;
 use marks::marks_size;
 use named_checkpoints::not_below_counts;
 use named_checkpoints::unknown_process;

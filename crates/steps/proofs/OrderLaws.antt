@@ -1,7 +1,6 @@
 -- Laws of a list of positions: which older messages of a channel it passes over (check 24), and how it rises.
---     Passed, passes-over, passed-over        a list passes over an older message just where one waits that is not listed
+--     PassedOver, passes-over, passed-over    a list passes over an older message just where one waits that is not listed
 --     OlderListed, passes-none, none-passed   it passes over none just where each that waits is listed
---     waitsFrom, skippedFrom, passes-is       a message that the list leaves waiting; what it is to pass over one, by its sender and receiver
 --     neighbours-rise                         a list of which each entry rises above the one before it
 -- Assumes nothing.
 use mathlib.Core.Bool.{Bool, true, false, not, _&&_, true≢false}
@@ -16,12 +15,12 @@ use Rattle.steps.specs.Steps.{notRising, notRisingAfter, passesOver}
 use Rattle.tables.proofs.ListLaws.{and-left, and-right, anyBelow-found, found-below}
 use Rattle.tables.proofs.TurnLaws.{undelivered-waits, waits-undelivered}
 use Rattle.tables.specs.Checks.{sameChannel, waits}
-use Rattle.tables.specs.Lists.{any, anyBelow}
+use Rattle.tables.specs.Lists.{any}
 use Rattle.tables.specs.Table.{Table, messageOf}
 
 -- ---- check 24
 -- The older message at position q, of the channel of position k, waits and is not listed.
-pub record Passed (t : Table) (list : List ℕ) (k q : ℕ) : Type 0 where
+pub record PassedOver (t : Table) (list : List ℕ) (k q : ℕ) : Type 0 where
   pub older : q < k
   pub channel : sameChannel (messageOf t q) (messageOf t k) ≡ true
   pub undelivered : messageOf t q .received ≡ 0
@@ -33,7 +32,7 @@ OlderListed t list k =
     (q : ℕ) → q < k → sameChannel (messageOf t q) (messageOf t k) ≡ true → messageOf t q .received ≡ 0 → any (eqb q) list ≡ true
 
 module _ (t : Table) (list : List ℕ) (k : ℕ) where
-  pub passes-over : passesOver t list k ≡ true → (q : ℕ) × Passed t list k q
+  pub passes-over : passesOver t list k ≡ true → (q : ℕ) × PassedOver t list k q
   unfolding passesOver
   passes-over e =
       let found = found-below _ k e in
@@ -51,7 +50,7 @@ module _ (t : Table) (list : List ℕ) (k : ℕ) where
         },
       )
 
-  pub passed-over : (q : ℕ) → Passed t list k q → passesOver t list k ≡ true
+  pub passed-over : (q : ℕ) → PassedOver t list k q → passesOver t list k ≡ true
   unfolding passesOver
   passed-over q p =
       anyBelow-found _ k q (p .older) (rw (p .channel, undelivered-waits (messageOf t q) (p .undelivered), p .unlisted))
@@ -62,7 +61,7 @@ module _ (t : Table) (list : List ℕ) (k : ℕ) where
       go : (b : Bool) → any (eqb q) list ≡ b → b ≡ true
       go true e = refl
       go false e =
-          let p : Passed t list k q = record { older = older; channel = channel; undelivered = undelivered; unlisted = e } in
+          let p : PassedOver t list k q = record { older = older; channel = channel; undelivered = undelivered; unlisted = e } in
           absurd (true≢false (sym (passed-over q p) ∙ quiet))
 
   pub none-passed : OlderListed t list k → passesOver t list k ≡ false
@@ -73,21 +72,6 @@ module _ (t : Table) (list : List ℕ) (k : ℕ) where
           let p = passes-over e .1 in
           absurd (true≢false (sym (listed _ (p .older) (p .channel) (p .undelivered)) ∙ p .unlisted))
       go false e = refl
-
--- ---- the same, by the two processes of the channel
--- Message q, from process p, waits for process i.
-abbrev pub waitsFrom : Table → ℕ → ℕ → ℕ → Bool
-waitsFrom t i p q = (eqb (messageOf t q .sender) p && eqb (messageOf t q .receiver) i) && waits (messageOf t q)
-
--- It does, and the list does not have it.
-abbrev pub skippedFrom : Table → ℕ → List ℕ → ℕ → ℕ → Bool
-skippedFrom t i list p q = waitsFrom t i p q && not (any (eqb q) list)
-
--- the definition, in these terms
-pub passes-is : (t : Table) (list : List ℕ) (k : ℕ)
-    → passesOver t list k ≡ anyBelow k (skippedFrom t (messageOf t k .receiver) list (messageOf t k .sender))
-unfolding passesOver sameChannel
-passes-is t list k = refl
 
 -- ---- a list of which each entry rises above the one before it
 follows-none : (x : ℕ) (rest : List ℕ) → ((a : ℕ) → a < length rest → getD (x ∷ rest) a 0 < getD rest a 0) → notRisingAfter x rest ≡ false

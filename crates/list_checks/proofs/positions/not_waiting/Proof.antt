@@ -1,23 +1,21 @@
--- `receipts::bad_position` meets its contract: the loop leaves at the first position that is not good.
+-- `positions::not_waiting` meets its contract. The loop's invariant: no position before entry a of the list is bad; it leaves at the first
+-- that is. The measure is what is left of the list.
 -- Assumes nothing.
-use borrow.Author.Needs.{needs}
 use native.Mathlib.Omega.{arith}
 use Prim.Native.Nat.{_-_}
 use lib.ListN.{length}
-use Rattle.list_checks.proofs.PositionLaws.{Positions, bad-beyond, bad-received, bad-receiver, good-here, positions-all, positions-none}
-use Rattle.list_checks.proofs.bad_position.Statement.{statement}
-use Rattle.list_checks.proofs.bad_position.Tie as tie
+use Rattle.list_checks.proofs.PositionLaws.{WaitingSought, bad-beyond, bad-received, bad-receiver, good-here, waiting-all}
+use Rattle.list_checks.proofs.positions.not_waiting.Statement.{statement}
+use Rattle.list_checks.proofs.positions.not_waiting.Tie as tie
+use Rattle.tables.proofs.SearchedLaws.{searched-none}
 
 abbrev Inv-loop : tie.InvT-loop
-Inv-loop table process list m receipts a₀ a = Positions table process list m receipts a
+Inv-loop receipts m process list a₀ a = WaitingSought receipts m process list a
 
 abbrev μ-loop : tie.MeasureT-loop
-μ-loop table process list m receipts a₀ a = length list - a
+μ-loop receipts m process list a₀ a = length list - a
 
--- ---- the places: the entry; a turn of the loop, from where its position is below M; from where its message's receiver is the process
-abbrev entry : tie.After-receipts Inv-loop μ-loop → tie.Start Inv-loop μ-loop
-entry c = c .before .before .before .before
-
+-- ---- the places: a turn of the loop, from where its position is below m; from where its entry's receiver is the process
 abbrev turn : tie.Else1 Inv-loop μ-loop → tie.In-loop Inv-loop μ-loop
 turn c = c .before .before
 
@@ -25,25 +23,23 @@ abbrev below : tie.Else2 Inv-loop μ-loop → tie.Else1 Inv-loop μ-loop
 below c = c .before .before
 
 -- ---- the needs, in the code's course
-pub bad-position-spec : {M : Type 1} → statement M
-bad-position-spec =
+pub not-waiting-spec : {M : Type 1} → statement M
+not-waiting-spec =
     tie.close
     (tie.spec
     Inv-loop
     μ-loop
-    (λ c κs. search needs)
-    (λ c κs. search needs)
-    (λ c. positions-none (entry c .pre) (c .before .message-count .ensures) (c .receipts .ensures))
+    (λ c. record { sized = c .before .before .pre; searched = searched-none })
     -- the position
     (λ c. omega arith)
     (λ c. omega arith)
     (λ c. omega (arith, c .shared-slice-known3 .given (c .before .before .loop .a)))
     (λ c. omega arith)
-    -- it is M or above
+    -- it is m or above
     (λ c.
     let turn = c .before .before in
     bad-beyond (turn .before .loop .inv) (turn .loop-test .taken) (c .if1 .taken))
-    -- its message goes elsewhere
+    -- its entry goes elsewhere
     (λ c. omega arith)
     (λ c κs. omega arith)
     (λ c.
@@ -54,8 +50,10 @@ bad-position-spec =
     (λ c. omega arith)
     (λ c κs. omega arith)
     (λ c.
-    let here = below (c .before .before) in
-    bad-received (turn here .before .loop .inv) (turn here .loop-test .taken) (here .if1 .left) (c .before .u16-at2 .ensures) (c .if3 .taken))
+    let to = c .before .before in
+    let here = below to in
+    bad-received (turn here .before .loop .inv) (turn here .loop-test .taken) (here .if1 .left) (to .before .u16-at .ensures) (c .before .u16-at2 .ensures)
+    (c .if3 .taken))
     -- it waits
     (λ c. omega arith)
     (λ c.
@@ -64,4 +62,4 @@ bad-position-spec =
     good-here (turn here .before .loop .inv) (turn here .loop-test .taken) (here .if1 .left) (to .before .u16-at .ensures) (c .before .u16-at2 .ensures)
     (to .if2 .left) (c .if3 .left))
     -- all wait
-    (λ c. positions-all (c .before .loop .inv) (c .loop-test .left)))
+    (λ c. waiting-all (c .before .loop .inv) (c .loop-test .left)))

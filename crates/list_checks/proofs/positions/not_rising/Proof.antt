@@ -1,11 +1,12 @@
--- `receipts::not_rising` meets its contract: the loop leaves at the first neighbours that do not rise.
+-- `positions::not_rising` meets its contract. The loop's invariant: each entry before a rises above the one before it; it leaves at the first
+-- that does not. The measure is what is left of the list.
 -- Assumes nothing.
 use native.Mathlib.Omega.{arith}
 use Prim.Native.Nat.{_-_}
 use lib.ListN.{length}
 use Rattle.list_checks.proofs.PositionLaws.{Rising, falls-here, rises-all, rises-here, rising-none}
-use Rattle.list_checks.proofs.not_rising.Statement.{statement}
-use Rattle.list_checks.proofs.not_rising.Tie as tie
+use Rattle.list_checks.proofs.positions.not_rising.Statement.{statement}
+use Rattle.list_checks.proofs.positions.not_rising.Tie as tie
 
 abbrev Inv-loop : tie.InvT-loop
 Inv-loop list a₀ a = Rising list a
