@@ -1,5 +1,5 @@
 -- Laws of futures: what a list of steps keeps of the run that it starts from.
---     Grown, send-grown, receipt-grown, checkpoint-grown    all but a rollback keep every checkpoint and message, and receive late
+--     TableGrown, send-grown, receipt-grown, checkpoint-grown    all but a rollback keep every checkpoint and message, and receive late
 --     LosesNothing, by-step            a step that is no rollback loses nothing, and moves nothing; what holds of it, and of a rollback
 --     rolled-to, rolled-message        where a rollback moves a message, and what it makes of it
 --     moved-inside, moved-same, moved-order    the messages over one step
@@ -44,26 +44,26 @@ pub same-refl : (m : Message) → SameMessage m m
 same-refl m = record { sender-same = refl; sent-same = refl; receiver-same = refl }
 
 -- How a message goes on in a send, a receipt or a checkpoint: it is received at most once, and after every checkpoint that there was.
-pub record GoesOn (t : Table) (m m′ : Message) : Type 0 where
+pub record MessageGoesOn (t : Table) (m m′ : Message) : Type 0 where
   pub same : SameMessage m m′
   pub received-stay : 0 < m .received → m′ ≡ m
   pub received-late : m .received ≡ 0 → 0 < m′ .received → countOf t (m′ .receiver) ≤ m′ .received
 
 -- What these steps do: they keep every checkpoint, and every message at its position; new messages are undelivered.
-pub record Grown (t t′ : Table) : Type 0 where
+pub record TableGrown (t t′ : Table) : Type 0 where
   pub counts-grow : AtOrBelow (countOf t) (countOf t′)
   pub messages-grow : messageCount t ≤ messageCount t′
-  pub messages-go-on : (k : ℕ) → k < messageCount t → GoesOn t (messageOf t k) (messageOf t′ k)
+  pub messages-go-on : (k : ℕ) → k < messageCount t → MessageGoesOn t (messageOf t k) (messageOf t′ k)
   pub new-undelivered : (k : ℕ) → messageCount t ≤ k → messageOf t′ k .received ≡ 0
 
 module _ (t : Table) where
-  unchanged : (m : Message) → GoesOn t m m
+  unchanged : (m : Message) → MessageGoesOn t m m
   unchanged m = record { same = same-refl m; received-stay = λ _. refl; received-late = λ e d. absurd (omega arith) }
 
   pub beyond-undelivered : (k : ℕ) → messageCount t ≤ k → messageOf t k .received ≡ 0
   beyond-undelivered k l = ap (λ (m : Message). m .received) (message-beyond t k l)
 
-  table-grown : Grown t t
+  table-grown : TableGrown t t
   table-grown = record {
     counts-grow = λ p. le-refl (countOf t p);
     messages-grow = le-refl (messageCount t);
@@ -72,12 +72,12 @@ module _ (t : Table) where
   }
 
 module _ (t : Table) where
-  pub send-grown : (j i : ℕ) → Grown t (step t (send j i))
+  pub send-grown : (j i : ℕ) → TableGrown t (step t (send j i))
   unfolding step
-  send-grown j i = step-cases (sendChecks t j i) (afterSend t j i) t (Grown t) (λ _. record {
+  send-grown j i = step-cases (sendChecks t j i) (afterSend t j i) t (TableGrown t) (λ _. record {
     counts-grow = λ p. omega (arith, send-count t j i p);
     messages-grow = omega (arith, send-messages t j i);
-    messages-go-on = λ k l. subst⁻¹ (GoesOn t (messageOf t k)) (send-message-old t j i k l) (unchanged t (messageOf t k));
+    messages-go-on = λ k l. subst⁻¹ (MessageGoesOn t (messageOf t k)) (send-message-old t j i k l) (unchanged t (messageOf t k));
     new-undelivered = λ k l. new k l (ℕ-discrete k (messageCount t));
   }) (table-grown t)
     where
@@ -86,34 +86,34 @@ module _ (t : Table) where
       new k l (no e) = beyond-undelivered (afterSend t j i) k (omega (arith, send-messages t j i))
 
   -- a listed message is received at the count, which no checkpoint has reached
-  receives-grown : (i : ℕ) (list : List ℕ) (t′ : Table) → Receives t i list t′ → firstCaught (receiptChecks t i list) ≡ 0 → Grown t t′
+  receives-grown : (i : ℕ) (list : List ℕ) (t′ : Table) → Receives t i list t′ → firstCaught (receiptChecks t i list) ≡ 0 → TableGrown t t′
   receives-grown i list t′ r quiet = record {
     counts-grow = r .counts-grow;
     messages-grow = omega (arith, receives-messages r);
-    messages-go-on = λ k l. subst⁻¹ (GoesOn t (messageOf t k)) (receives-message r k l) (goes-on k (any (eqb k) list) refl);
+    messages-go-on = λ k l. subst⁻¹ (MessageGoesOn t (messageOf t k)) (receives-message r k l) (goes-on k (any (eqb k) list) refl);
     new-undelivered = λ k l. beyond-undelivered t′ k (omega (arith, receives-messages r));
   }
     where
-      goes-on : (k : ℕ) (listed : Bool) → any (eqb k) list ≡ listed → GoesOn t (messageOf t k) (receivedAt t i list k)
+      goes-on : (k : ℕ) (listed : Bool) → any (eqb k) list ≡ listed → MessageGoesOn t (messageOf t k) (receivedAt t i list k)
       goes-on k true e =
           let waits = receipt-waiting t i list quiet k e in
-          subst⁻¹ (GoesOn t (messageOf t k)) (receivedAt-listed t i list k e) (record {
+          subst⁻¹ (MessageGoesOn t (messageOf t k)) (receivedAt-listed t i list k e) (record {
             same = record { sender-same = refl; sent-same = refl; receiver-same = refl };
             received-stay = λ d. absurd (omega (arith, waits .undelivered));
             received-late = λ _ _. subst⁻¹ (λ (p : ℕ). countOf t p ≤ countOf t i) (waits .to-process) (le-refl (countOf t i));
           })
-      goes-on k false e = subst⁻¹ (GoesOn t (messageOf t k)) (receivedAt-unlisted t i list k e) (unchanged t (messageOf t k))
+      goes-on k false e = subst⁻¹ (MessageGoesOn t (messageOf t k)) (receivedAt-unlisted t i list k e) (unchanged t (messageOf t k))
 
-  pub receipt-grown : (i : ℕ) (list : List ℕ) → Grown t (step t (receive i list))
+  pub receipt-grown : (i : ℕ) (list : List ℕ) → TableGrown t (step t (receive i list))
   unfolding step
   receipt-grown i list =
-      step-cases (receiptChecks t i list) (afterReceipt t i list) t (Grown t)
+      step-cases (receiptChecks t i list) (afterReceipt t i list) t (TableGrown t)
       (receives-grown i list (afterReceipt t i list) (receipt-receives t i list)) (table-grown t)
 
-  pub checkpoint-grown : (i : ℕ) (list : List ℕ) → Grown t (step t (checkpoint i list))
+  pub checkpoint-grown : (i : ℕ) (list : List ℕ) → TableGrown t (step t (checkpoint i list))
   unfolding step
   checkpoint-grown i list =
-      step-cases (receiptChecks t i list) (afterCheckpoint t i list) t (Grown t)
+      step-cases (receiptChecks t i list) (afterCheckpoint t i list) t (TableGrown t)
       (receives-grown i list (afterCheckpoint t i list) (checkpoint-receives t i list)) (table-grown t)
 
 -- ---- where a step moves a message
@@ -126,7 +126,7 @@ same-position k n e = cc
 
 -- What a step that is no rollback does: it loses nothing, and moves nothing.
 pub record LosesNothing (t : Table) (s : Step) : Type 0 where
-  pub grown : Grown t (step t s)
+  pub grown : TableGrown t (step t s)
   pub checkpoints-stay : (i c : ℕ) → StepKeeps t s i c
   pub messages-stay : (k : ℕ) → MovedTo t s k k
 

@@ -18,7 +18,7 @@ use Rattle.consistency.proofs.CeilingLaws.{ceiling-at, counts-consistent, line-
 use Rattle.consistency.proofs.LineLaws.{latest-from, latest-same, latest-unique, max-consistent, min-consistent, orphan-free}
 use Rattle.consistency.specs.Ceilings.{Holders, ceilingOf, lineOf}
 use Rattle.consistency.specs.Lines.{AtOrBelow, Consistent, Latest, Line, Orphan, asLine}
-use Rattle.futures.proofs.FutureLaws.{Grown, beyond-undelivered}
+use Rattle.futures.proofs.FutureLaws.{TableGrown, beyond-undelivered}
 use Rattle.tables.proofs.FormatLaws.{known-process}
 use Rattle.consistency.specs.Ceilings.{holderLine}
 use Rattle.tables.specs.Checks.{WellFormed}
@@ -72,7 +72,7 @@ module _ (t : Table) (l : Line) (h : Held t l) where
       (one .0, one .1, one .3 ∙ sym (held-line p), λ q. omega (arith, held-line q, minimum .at-or-below (one .0) (one .1) (one .2) q))
 
 -- ---- held lines before a send, a receipt or a checkpoint
-module _ (t t′ : Table) (w : WellFormed t) (g : Grown t t′) (l : Line) (h : Held t′ l) where
+module _ (t t′ : Table) (w : WellFormed t) (g : TableGrown t t′) (l : Line) (h : Held t′ l) where
   -- what is consistent afterwards was so before
   consistent-before : (f : Line) → Consistent (t′ .messages) f → Consistent (t .messages) f
   unfolding messageOf

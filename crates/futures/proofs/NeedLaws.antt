@@ -15,7 +15,7 @@ use native.Mathlib.Decide.{decLt, ℕ-discrete}
 use native.Mathlib.Omega.{arith}
 use Rattle.consistency.specs.Ceilings.{recoveryLine, single}
 use Rattle.consistency.specs.Lines.{AtOrBelow, Line, asLine}
-use Rattle.futures.proofs.FutureLaws.{Grown, MovedTo, by-step, followed-first, followed-here, moved-inside, rolled-message, rolled-to, stayed-at}
+use Rattle.futures.proofs.FutureLaws.{TableGrown, MovedTo, by-step, followed-first, followed-here, moved-inside, rolled-message, rolled-to, stayed-at}
 use Rattle.futures.proofs.FutureLaws.{step-keeps-count}
 use Rattle.futures.proofs.HeldLaws.{Held, held-above, held-attained, held-before, set-held}
 use Rattle.keep_sheet.proofs.KeptLaws.{Across, HolderWith, keeps-checkpoint, keeps-message}
@@ -80,7 +80,7 @@ module _ (t : Table) where
         keeps-message t m .1 (inr (one .0, one .1, (omega (arith, a .across .0, one .3 (m .sender)), omega (arith, a .across .1, one .2))))
 
 -- ---- before a send, a receipt or a checkpoint
-module _ (t t′ : Table) (w : WellFormed t) (g : Grown t t′) where
+module _ (t t′ : Table) (w : WellFormed t) (g : TableGrown t t′) where
   grown-checkpoint : (i c : ℕ) → c < countOf t i → OnHeld t′ i c → OnHeld t i c
   grown-checkpoint i c b on = record {
     line = λ p. min (on .line p) (countOf t p);

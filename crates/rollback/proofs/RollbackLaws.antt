@@ -1,27 +1,27 @@
 -- What a rollback leaves, as the code finds it message by message.
 --     soFar                                   the messages that remain of the first k
 --     line-small, count-left, counts-front    the counts that it writes
---     found-staying, found-going              what its test says of a message
---     received-left                           the receipt number that it writes of one
---     Counting, counting-none .. counting-stays   a loop that counts what remains
---     Gathering, gathering-none .. gathering-stays    a loop that writes its entries
+--     ReadAtLine                              what both loops are given
+--     found-going .. in-place                 what their test says of a message
+--     received-left                           the receipt number that is written of one
+--     RemainingCounted, counted-none .. counted-stays    a loop that counts what remains
+--     RemainingFits, Gathering, gathering-none .. gathering-stays    a loop that writes its entries
 --     receipt-undone, receipt-kept            a receipt beside the line
 -- Assumes nothing.
 use mathlib.Core.Bool.{Bool, true, false, cond}
 use mathlib.Core.List.{List, [], _∷_, _++_, append-nil}
 use mathlib.Core.Path.{_≡_, refl, sym, ap, ap₂, _∙_}
-use Prim.Native.Nat.{ℕ, zero, suc, _+_, _*_, _≤_, _<_}
-use native.Mathlib.Nat.{le-of-suc-le-suc, not-suc-le-zero}
+use Prim.Native.Nat.{ℕ, suc, _+_, _*_, _≤_, _<_}
 use native.Mathlib.Numerals.{add-one}
 use native.Mathlib.Omega.{arith}
 use borrow.Author.Tests.{le-ltb, lt-ltb}
 use lib.Dec.{ltb}
 use lib.ListN.{length, getD, take, length-append}
-use lib.Seq.{take-all}
+use lib.Seq.{take-all, take-suc}
 use Rattle.consistency.specs.Ceilings.{recoveryLine}
 use Rattle.consistency.specs.Lines.{asLine}
-use Rattle.steps.proofs.StepLaws.{putBack-receiver, putBack-sender, putBack-sent, recovery-latest, recovery-length, rollback-count, rollback-fewer}
-use Rattle.steps.proofs.StepLaws.{rollback-place, rollback-processes}
+use Rattle.steps.proofs.StepLaws.{putBack-receiver, putBack-sender, putBack-sent, recovery-latest, recovery-length, remaining-append, rollback-count}
+use Rattle.steps.proofs.StepLaws.{rollback-fewer, rollback-place, rollback-processes}
 use Rattle.steps.specs.Steps.{afterRollback, putBack, remaining, stays}
 use Rattle.tables.proofs.AcceptLaws.{facts}
 use Rattle.tables.proofs.ArrayLaws.{array-at, array-front}
@@ -44,37 +44,16 @@ module _ (l : List ℕ) where
 
   remaining-more : (ms : List Message) (k : ℕ) → k < length ms → remaining l (take (suc k) ms) ≡ remaining l (take k ms) ++ one (getD ms k noMessage)
   unfolding remaining
-  remaining-more [] k h = absurd (not-suc-le-zero h)
-  remaining-more (m ∷ rest) zero h = refl
-  remaining-more (m ∷ rest) (suc k) h = go (stays l m) (remaining-more rest k (le-of-suc-le-suc h))
-    where
-      one-next : List Message
-      one-next = one (getD rest k noMessage)
-
-      go : (b : Bool) → remaining l (take (suc k) rest) ≡ remaining l (take k rest) ++ one-next
-          → cond b (putBack l m ∷ remaining l (take (suc k) rest)) (remaining l (take (suc k) rest))
-          ≡ cond b (putBack l m ∷ remaining l (take k rest)) (remaining l (take k rest)) ++ one-next
-      go true e = ap (λ (x : List Message). putBack l m ∷ x) e
-      go false e = e
+  remaining-more ms k h = ap (remaining l) (take-suc ms k noMessage h) ∙ remaining-append l (take k ms) (getD ms k noMessage ∷ [])
 
 -- The messages that remain of the first k.
 abbrev soFar : Table → ℕ → List Message
 soFar t k = remaining (recoveryLine t) (take k (t .messages))
 
 module _ (t : Table) (k : ℕ) where
-  module _ (h : k < messageCount t) where
-    so-far-more : soFar t (k + 1) ≡ soFar t k ++ one (recoveryLine t) (messageOf t k)
-    unfolding messageCount messageOf
-    so-far-more = ap (soFar t) (add-one k) ∙ remaining-more (recoveryLine t) (t .messages) k h
-
-    so-far-stays : stays (recoveryLine t) (messageOf t k) ≡ true → soFar t (k + 1) ≡ soFar t k ++ (putBack (recoveryLine t) (messageOf t k) ∷ [])
-    so-far-stays e = so-far-more ∙ rw e
-
-    so-far-longer : stays (recoveryLine t) (messageOf t k) ≡ true → length (soFar t (k + 1)) ≡ length (soFar t k) + 1
-    so-far-longer e = omega (arith, ap length (so-far-stays e), length-append (soFar t k) (putBack (recoveryLine t) (messageOf t k) ∷ []))
-
-    so-far-goes : stays (recoveryLine t) (messageOf t k) ≡ false → soFar t (k + 1) ≡ soFar t k
-    so-far-goes e = so-far-more ∙ rw e (append-nil (soFar t k))
+  so-far-more : k < messageCount t → soFar t (k + 1) ≡ soFar t k ++ one (recoveryLine t) (messageOf t k)
+  unfolding messageCount messageOf
+  so-far-more h = ap (soFar t) (add-one k) ∙ remaining-more (recoveryLine t) (t .messages) k h
 
   so-far-all : messageCount t ≤ k → soFar t k ≡ afterRollback t .messages
   unfolding messageCount afterRollback
@@ -118,86 +97,96 @@ module _ {table line : List ℕ} (here : AtLine table line) where
   counts-front {counts} {n} e same =
       array-front (afterRollback t .counts) counts n e (same ∙ sym (rollback-processes t)) (omega (arith, rollback-processes t, few))
 
-  -- message k, by the numbers that the code read of its entries
-  module _ {m : ℕ} {sends receipts : List ℕ} (read : ReadMessages table m sends receipts) {k : ℕ} (l : k < m) where
-    module _ {j y : ℕ} (read-j : j ≡ u16At sends (4 * k)) (read-y : y ≡ u16At sends (4 * k + 2)) where
-      stays-read : ltb y (getD line j 0) ≡ stays (recoveryLine t) (messageOf t k)
-      unfolding stays
-      stays-read = ap₂ ltb (sent-is read l read-y) (line-at j ∙ ap (asLine (recoveryLine t)) (sender-is read l read-j))
+-- ---- message k, by the numbers that the code read of its entries
+-- What both loops are given: a table at its recovery line, and its messages as they were read.
+pub record ReadAtLine (table line : List ℕ) (m : ℕ) (sends receipts : List ℕ) : Type 0 where
+  pub at-line : AtLine table line
+  pub read : ReadMessages table m sends receipts
 
-      found-staying : y < getD line j 0 → stays (recoveryLine t) (messageOf t k) ≡ true
-      found-staying b = sym stays-read ∙ lt-ltb y (getD line j 0) b
+module _ {table line : List ℕ} {m : ℕ} {sends receipts : List ℕ} (g : ReadAtLine table line m sends receipts) {k : ℕ} (l : k < m) where
+  abbrev T : Table
+  T = decode table
 
-      found-going : getD line j 0 ≤ y → stays (recoveryLine t) (messageOf t k) ≡ false
-      found-going b = sym stays-read ∙ le-ltb y (getD line j 0) b
+  abbrev this : Message
+  this = messageOf T k
 
-    received-left : {i r v : ℕ} → i ≡ u16At receipts (4 * k) → r ≡ u16At receipts (4 * k + 2) → v ≡ receiptLeft (getD line i 0) r
-        → v ≡ putBack (recoveryLine t) (messageOf t k) .received
-    unfolding putBack receiptLeft
-    received-left {i} read-i read-r is =
-        is ∙ ap₂ (λ (a b : ℕ). cond (ltb a b) 0 b) (line-at i ∙ ap (asLine (recoveryLine t)) (receiver-is read l read-i)) (received-is read l read-r)
-        ∙ go (ltb (asLine (recoveryLine t) (this .receiver)) (this .received))
-      where
-        this : Message
-        this = messageOf t k
+  there : k < messageCount T
+  there = omega (arith, g .read .m-is)
 
-        go : (b : Bool) → cond b 0 (this .received) ≡ cond b (withReceipt this 0) this .received
-        go true = refl
-        go false = refl
+  module _ {j y : ℕ} (read-j : j ≡ u16At sends (4 * k)) (read-y : y ≡ u16At sends (4 * k + 2)) where
+    stays-read : stays (recoveryLine T) this ≡ ltb y (getD line j 0)
+    unfolding stays
+    stays-read = sym (ap₂ ltb (sent-is (g .read) l read-y) (line-at (g .at-line) j ∙ ap (asLine (recoveryLine T)) (sender-is (g .read) l read-j)))
+
+    -- it goes
+    found-going : getD line j 0 ≤ y → soFar T (k + 1) ≡ soFar T k
+    found-going b = so-far-more T k there ∙ rw (stays-read, le-ltb y (getD line j 0) b) (append-nil (soFar T k))
+
+    -- it stays, behind those before it
+    module _ (b : y < getD line j 0) where
+      found-staying : stays (recoveryLine T) this ≡ true
+      found-staying = stays-read ∙ lt-ltb y (getD line j 0) b
+
+      one-more : soFar T (k + 1) ≡ soFar T k ++ (putBack (recoveryLine T) this ∷ [])
+      one-more = so-far-more T k there ∙ rw found-staying
+
+      one-longer : length (soFar T (k + 1)) ≡ length (soFar T k) + 1
+      one-longer = omega (arith, ap length one-more, length-append (soFar T k) (putBack (recoveryLine T) this ∷ []))
+
+      in-place : length (soFar T k) < messageCount (afterRollback T)
+      in-place = rollback-place T k there found-staying
+
+  received-left : {i r v : ℕ} → i ≡ u16At receipts (4 * k) → r ≡ u16At receipts (4 * k + 2) → v ≡ receiptLeft (getD line i 0) r
+      → v ≡ putBack (recoveryLine T) this .received
+  unfolding putBack receiptLeft
+  received-left {i} read-i read-r is =
+      is
+      ∙ ap₂ (λ (a b : ℕ). cond (ltb a b) 0 b) (line-at (g .at-line) i ∙ ap (asLine (recoveryLine T)) (receiver-is (g .read) l read-i))
+      (received-is (g .read) l read-r)
+      ∙ go (ltb (asLine (recoveryLine T) (this .receiver)) (this .received))
+    where
+      go : (b : Bool) → cond b 0 (this .received) ≡ cond b (withReceipt this 0) this .received
+      go true = refl
+      go false = refl
 
 -- ---- a loop that counts what remains of the first k messages
-pub record Counting (table line : List ℕ) (m : ℕ) (sends : List ℕ) (n k : ℕ) : Type 0 where
-  pub at-line : AtLine table line
-  pub read : ReadMessages table m sends (receiptsPart table)
+pub record RemainingCounted (table line : List ℕ) (m : ℕ) (sends : List ℕ) (n k : ℕ) : Type 0 where
+  pub given : ReadAtLine table line m sends (receiptsPart table)
   pub counted : n ≡ length (soFar (decode table) k)
 
-pub counting-none : {table line : List ℕ} {m : ℕ} {sends : List ℕ} → AtLine table line → m ≡ messageCount (decode table)
-    → sends ≡ sendsPart table
-    → Counting table line m sends 0 0
+pub counted-none : {table line : List ℕ} {m : ℕ} {sends : List ℕ} → AtLine table line → m ≡ messageCount (decode table) → sends ≡ sendsPart table
+    → RemainingCounted table line m sends 0 0
 unfolding remaining
-counting-none here m-is sends-are = record { at-line = here; read = messages-read (here .accepted) m-is sends-are refl; counted = refl }
+counted-none here m-is sends-are =
+    record { given = record { at-line = here; read = messages-read (here .accepted) m-is sends-are refl }; counted = refl }
 
-module _ {table line : List ℕ} {m : ℕ} {sends : List ℕ} {n k : ℕ} (w : Counting table line m sends n k) where
-  abbrev counts : Table
-  counts = decode table
-
-  pub counting-all : m ≤ k → n ≡ messageCount (afterRollback counts)
+module _ {table line : List ℕ} {m : ℕ} {sends : List ℕ} {n k : ℕ} (w : RemainingCounted table line m sends n k) where
+  pub counted-all : m ≤ k → n ≡ messageCount (afterRollback (decode table))
   unfolding messageCount
-  counting-all h = w .counted ∙ ap length (so-far-all counts k (omega (arith, w .read .m-is)))
+  counted-all h = w .counted ∙ ap length (so-far-all (decode table) k (omega (arith, w .given .read .m-is)))
 
   module _ (l : k < m) {j y : ℕ} (read-j : j ≡ u16At sends (4 * k)) (read-y : y ≡ u16At sends (4 * k + 2)) where
-    there : k < messageCount counts
-    there = omega (arith, w .read .m-is)
-
-    pub counting-goes : getD line j 0 ≤ y → Counting table line m sends n (k + 1)
-    counting-goes b = record {
-      at-line = w .at-line;
-      read = w .read;
-      counted = w .counted ∙ ap length (sym (so-far-goes counts k there (found-going (w .at-line) (w .read) l read-j read-y b)));
-    }
+    pub counted-goes : getD line j 0 ≤ y → RemainingCounted table line m sends n (k + 1)
+    counted-goes b = record { given = w .given; counted = w .counted ∙ ap length (sym (found-going (w .given) l read-j read-y b)) }
 
     module _ (b : y < getD line j 0) where
-      staying : stays (recoveryLine counts) (messageOf counts k) ≡ true
-      staying = found-staying (w .at-line) (w .read) l read-j read-y b
+      pub counted-fits : n < m
+      counted-fits = omega (arith, w .counted, w .given .read .m-is, in-place (w .given) l read-j read-y b, rollback-fewer (decode table))
 
-      pub counting-fits : n < m
-      counting-fits = omega (arith, w .counted, w .read .m-is, rollback-place counts k there staying, rollback-fewer counts)
-
-      pub counting-stays : Counting table line m sends (n + 1) (k + 1)
-      counting-stays = record {
-        at-line = w .at-line;
-        read = w .read;
-        counted = omega (arith, w .counted, so-far-longer counts k there staying);
-      }
+      pub counted-stays : RemainingCounted table line m sends (n + 1) (k + 1)
+      counted-stays = record { given = w .given; counted = omega (arith, w .counted, one-longer (w .given) l read-j read-y b) }
 
 -- ---- a loop that writes the entries of what remains of the first k messages
+-- What it is given: how many remain, and room for them.
+pub record RemainingFits (table line : List ℕ) (m start : ℕ) (before : List ℕ) (all : ℕ) (sends receipts : List ℕ) : Type 0 where
+  pub messages : ReadAtLine table line all sends receipts
+  pub remain : m ≡ messageCount (afterRollback (decode table))
+  pub room : start + 8 * m ≤ length before
+
 -- They stand from a start on, the next send goes to the place behind them, and the rest of the buffer is as it was.
 pub record Gathering (table line : List ℕ) (m start : ℕ) (before : List ℕ) (all : ℕ) (sends receipts : List ℕ) (k place : ℕ)
     (after : List ℕ) : Type 0 where
-  pub at-line : AtLine table line
-  pub read : ReadMessages table all sends receipts
-  pub remain : m ≡ messageCount (afterRollback (decode table))
-  pub room : start + 8 * m ≤ length before
+  pub given : RemainingFits table line m start before all sends receipts
   pub behind : place ≡ start + 4 * length (soFar (decode table) k)
   pub same-length : length after ≡ length before
   pub contents : after ≡ filled before start m (soFar (decode table) k)
@@ -208,10 +197,11 @@ module _ {table line : List ℕ} {m start : ℕ} {before : List ℕ} {all : ℕ}
       → Gathering table line m start before all sends receipts 0 start before
   unfolding remaining entriesOf bytesOfAll
   gathering-none here remain room all-is sends-are receipts-are = record {
-    at-line = here;
-    read = messages-read (here .accepted) all-is sends-are receipts-are;
-    remain = remain;
-    room = room;
+    given = record {
+      messages = record { at-line = here; read = messages-read (here .accepted) all-is sends-are receipts-are };
+      remain = remain;
+      room = room;
+    };
     behind = omega arith;
     same-length = refl;
     contents = sym (putAt-none (putAt before start []) (start + 4 * m) ∙ putAt-none before start);
@@ -221,50 +211,41 @@ module _ {table line : List ℕ} {m start : ℕ} {before : List ℕ} {all : ℕ}
     abbrev gathers : Table
     gathers = decode table
 
+    abbrev at : ReadAtLine table line all sends receipts
+    at = w .given .messages
+
     pub gathering-all : all ≤ k → after ≡ filled before start m (afterRollback gathers .messages)
-    gathering-all h = w .contents ∙ ap (filled before start m) (so-far-all gathers k (omega (arith, w .read .m-is)))
+    gathering-all h = w .contents ∙ ap (filled before start m) (so-far-all gathers k (omega (arith, at .read .m-is)))
 
     module _ (l : k < all) {j y : ℕ} (read-j : j ≡ u16At sends (4 * k)) (read-y : y ≡ u16At sends (4 * k + 2)) where
-      here-gathered : k < messageCount gathers
-      here-gathered = omega (arith, w .read .m-is)
-
       pub gathering-goes : getD line j 0 ≤ y → Gathering table line m start before all sends receipts (k + 1) place after
       gathering-goes b =
-          let same = sym (so-far-goes gathers k here-gathered (found-going (w .at-line) (w .read) l read-j read-y b)) in
+          let same = sym (found-going at l read-j read-y b) in
           record {
-            at-line = w .at-line;
-            read = w .read;
-            remain = w .remain;
-            room = w .room;
+            given = w .given;
             behind = w .behind ∙ ap (λ (ms : List Message). start + 4 * length ms) same;
             same-length = w .same-length;
             contents = w .contents ∙ ap (filled before start m) same;
           }
 
       module _ (b : y < getD line j 0) where
-        stays-here : stays (recoveryLine gathers) (messageOf gathers k) ≡ true
-        stays-here = found-staying (w .at-line) (w .read) l read-j read-y b
-
-        in-place : length (soFar gathers k) < m
-        in-place = omega (arith, w .remain, rollback-place gathers k here-gathered stays-here)
+        inside : length (soFar gathers k) < m
+        inside = omega (arith, w .given .remain, in-place at l read-j read-y b)
 
         pub gathering-room : place + 4 * m + 4 ≤ length after
-        gathering-room = omega (arith, w .room, w .behind, w .same-length, in-place)
+        gathering-room = omega (arith, w .given .room, w .behind, w .same-length, inside)
 
         abbrev next : Message
         next = putBack (recoveryLine gathers) (messageOf gathers k)
 
-        more : soFar gathers (k + 1) ≡ soFar gathers k ++ (next ∷ [])
-        more = so-far-stays gathers k here-gathered stays-here
-
         -- one entry more
-        grown : (f g : Message → ℕ) (a b : ℕ) → a ≡ f next → b ≡ g next
-            → u16s (entriesOf f g (soFar gathers k)) ++ u16s (a ∷ b ∷ []) ≡ u16s (entriesOf f g (soFar gathers (k + 1)))
+        grown : (f g : Message → ℕ) (a c : ℕ) → a ≡ f next → c ≡ g next
+            → u16s (entriesOf f g (soFar gathers k)) ++ u16s (a ∷ c ∷ []) ≡ u16s (entriesOf f g (soFar gathers (k + 1)))
         unfolding entriesOf
-        grown f g a b ea eb =
-            sym (u16s-append (entriesOf f g (soFar gathers k)) (a ∷ b ∷ []))
-            ∙ ap u16s (ap₂ (λ (x y : ℕ). entriesOf f g (soFar gathers k) ++ (x ∷ y ∷ [])) ea eb
-            ∙ sym (ap (entriesOf f g) more ∙ entries-append f g (soFar gathers k) (next ∷ [])))
+        grown f g a c ea ec =
+            sym (u16s-append (entriesOf f g (soFar gathers k)) (a ∷ c ∷ []))
+            ∙ ap u16s (ap₂ (λ (x z : ℕ). entriesOf f g (soFar gathers k) ++ (x ∷ z ∷ [])) ea ec
+            ∙ sym (ap (entriesOf f g) (one-more at l read-j read-y b) ∙ entries-append f g (soFar gathers k) (next ∷ [])))
 
         -- the send and the receipt were put at their places
         pub gathering-stays : {i r v : ℕ} {between later : List ℕ} → i ≡ u16At receipts (4 * k) → r ≡ u16At receipts (4 * k + 2)
@@ -272,23 +253,20 @@ module _ {table line : List ℕ} {m start : ℕ} {before : List ℕ} {all : ℕ}
             → later ≡ putAt between (place + 4 * m) (u16s (i ∷ v ∷ []))
             → Gathering table line m start before all sends receipts (k + 1) (place + 4) later
         gathering-stays {i} {r} {v} {between} {later} read-i read-r left put₁ put₂ = record {
-          at-line = w .at-line;
-          read = w .read;
-          remain = w .remain;
-          room = w .room;
+          given = w .given;
           behind = omega (arith, w .behind, longer);
-          same-length = ap length written ∙ same-after (soFar gathers (k + 1)) (omega (arith, longer, in-place));
+          same-length = ap length written ∙ same-after (soFar gathers (k + 1)) (omega (arith, longer, inside));
           contents = written;
         }
           where
             longer : length (soFar gathers (k + 1)) ≡ length (soFar gathers k) + 1
-            longer = so-far-longer gathers k here-gathered stays-here
+            longer = one-longer at l read-j read-y b
 
             same-after : (ms : List Message) → length ms ≤ m → length (filled before start m ms) ≡ length before
             same-after ms few =
-                let near = length-putAt before start (u16s (sendsOf ms)) (omega (arith, sends-size-of ms, w .room)) in
+                let near = length-putAt before start (u16s (sendsOf ms)) (omega (arith, sends-size-of ms, w .given .room)) in
                 length-putAt (putAt before start (u16s (sendsOf ms))) (start + 4 * m) (u16s (receiptsOf ms))
-                (omega (arith, near, receipts-size-of ms, w .room)) ∙ near
+                (omega (arith, near, receipts-size-of ms, w .given .room)) ∙ near
 
             near-place : place ≡ start + length (u16s (sendsOf (soFar gathers k)))
             near-place = omega (arith, w .behind, sends-size-of (soFar gathers k))
@@ -302,14 +280,14 @@ module _ {table line : List ℕ} {m start : ℕ} {before : List ℕ} {all : ℕ}
             -- the numbers put are those of the message as it remains
             sent : u16s (sendsOf (soFar gathers k)) ++ u16s (j ∷ y ∷ []) ≡ u16s (sendsOf (soFar gathers (k + 1)))
             sent =
-                grown (λ x. x .sender) (λ x. x .sent) j y (sender-is (w .read) l read-j ∙ sym (putBack-sender (recoveryLine gathers) (messageOf gathers k)))
-                (sent-is (w .read) l read-y ∙ sym (putBack-sent (recoveryLine gathers) (messageOf gathers k)))
+                grown (λ x. x .sender) (λ x. x .sent) j y (sender-is (at .read) l read-j ∙ sym (putBack-sender (recoveryLine gathers) (messageOf gathers k)))
+                (sent-is (at .read) l read-y ∙ sym (putBack-sent (recoveryLine gathers) (messageOf gathers k)))
 
             received : u16s (receiptsOf (soFar gathers k)) ++ u16s (i ∷ v ∷ []) ≡ u16s (receiptsOf (soFar gathers (k + 1)))
             received =
                 grown (λ x. x .receiver) (λ x. x .received) i v
-                (receiver-is (w .read) l read-i ∙ sym (putBack-receiver (recoveryLine gathers) (messageOf gathers k)))
-                (received-left (w .at-line) (w .read) l read-i read-r left)
+                (receiver-is (at .read) l read-i ∙ sym (putBack-receiver (recoveryLine gathers) (messageOf gathers k)))
+                (received-left at l read-i read-r left)
 
             first : between ≡ putAt (filled before start m (soFar gathers k)) (start + length (u16s (sendsOf (soFar gathers k)))) (u16s (j ∷ y ∷ []))
             first = put₁ ∙ ap₂ (λ (l : List ℕ) (n : ℕ). putAt l n (u16s (j ∷ y ∷ []))) (w .contents) near-place
@@ -319,8 +297,8 @@ module _ {table line : List ℕ} {m start : ℕ} {before : List ℕ} {all : ℕ}
                 put₂ ∙ ap₂ (λ (l : List ℕ) (n : ℕ). putAt l n (u16s (i ∷ v ∷ []))) first far-place
                 ∙ both-more before (u16s (sendsOf (soFar gathers k))) (u16s (receiptsOf (soFar gathers k))) (u16s (j ∷ y ∷ []))
                 (u16s (i ∷ v ∷ [])) start
-                (start + 4 * m) (omega (arith, sends-size-of (soFar gathers k), two j y, in-place))
-                (omega (arith, w .room, receipts-size-of (soFar gathers k), two i v, in-place))
+                (start + 4 * m) (omega (arith, sends-size-of (soFar gathers k), two j y, inside))
+                (omega (arith, w .given .room, receipts-size-of (soFar gathers k), two i v, inside))
                 ∙ ap₂ (λ (s z : List ℕ). putAt (putAt before start s) (start + 4 * m) z) sent received
 
 -- ---- a receipt number beside the line's

@@ -4,7 +4,7 @@
 --     quiet-send, send-quiet                           what it means that nothing catches a send
 --     Waiting, waits-for .. waiting-position           the positions that a receipt or a checkpoint may list
 --     rising                                           the order of a list that is rising
---     receivedAt-listed .. receivedAt-receiver         a message after it
+--     receivedAt-listed .. receivedAt-sent             a message after it
 --     receipt-known .. receipt-quiet                   what it means that nothing catches it: 10, 13 and 24
 --     nothing-quiet                                    nothing catches one of no messages
 --     Receives, receipt-receives, checkpoint-receives  what both leave: the listed messages received, at no lower counts
@@ -188,9 +188,6 @@ module _ (t : Table) (i : ℕ) (list : List ℕ) where
     pub receivedAt-sent : receivedAt t i list k .sent ≡ messageOf t k .sent
     receivedAt-sent = receivedAt-cases (λ m. m .sent ≡ messageOf t k .sent) (λ _. refl) refl
 
-    pub receivedAt-receiver : receivedAt t i list k .receiver ≡ messageOf t k .receiver
-    receivedAt-receiver = receivedAt-cases (λ m. m .receiver ≡ messageOf t k .receiver) (λ _. refl) refl
-
   module _ (quiet : firstCaught (receiptChecks t i list) ≡ 0) where
     quiet-list : (leb (processCount t) i ≡ false) × ((any (badPosition t i) list || notRising list) ≡ false) × (any (passesOver t list) list ≡ false)
     unfolding receiptChecks
@@ -334,7 +331,7 @@ module _ (l : List ℕ) (m : Message) (rest : List Message) where
   first-goes e = rw e
 
 module _ (l : List ℕ) where
-  remaining-append : (xs ys : List Message) → remaining l (xs ++ ys) ≡ remaining l xs ++ remaining l ys
+  pub remaining-append : (xs ys : List Message) → remaining l (xs ++ ys) ≡ remaining l xs ++ remaining l ys
   unfolding remaining
   remaining-append [] ys = refl
   remaining-append (m ∷ rest) ys = go (stays l m) (remaining-append rest ys)
@@ -548,16 +545,22 @@ module _ (t : Table) where
   rollback-step = refl
 
 -- ---- well formed tables
--- a good message among as many processes, where no count is lower
-still-good : (t t′ : Table) (m : Message) → processCount t′ ≡ processCount t → ((p : ℕ) → countOf t p ≤ countOf t′ p) → GoodMessage t m
-    → GoodMessage t′ m
-still-good t t′ m n c g = record {
+-- a good message among as many processes, with another receipt number
+good-again : (t t′ : Table) {m : Message} → processCount t′ ≡ processCount t → GoodMessage t m → m .sent < countOf t′ (m .sender) → (n : ℕ)
+    → n ≤ countOf t′ (m .receiver) → GoodMessage t′ (withReceipt m n)
+good-again t t′ same g sent n received = record {
   sender-known = omega (arith, g .sender-known);
   receiver-known = omega (arith, g .receiver-known);
   two-processes = g .two-processes;
-  sent-below = omega (arith, g .sent-below, c (m .sender));
-  received-within = omega (arith, g .received-within, c (m .receiver));
+  sent-below = sent;
+  received-within = received;
 }
+
+-- one where no count is lower
+still-good : (t t′ : Table) (m : Message) → processCount t′ ≡ processCount t → ((p : ℕ) → countOf t p ≤ countOf t′ p) → GoodMessage t m
+    → GoodMessage t′ m
+still-good t t′ m same c g =
+    good-again t t′ same g (omega (arith, g .sent-below, c (m .sender))) (m .received) (omega (arith, g .received-within, c (m .receiver)))
 
 send-well-formed : (t : Table) → WellFormed t → (j i : ℕ) → firstCaught (sendChecks t j i) ≡ 0 → WellFormed (afterSend t j i)
 send-well-formed t w j i quiet = record {
@@ -596,14 +599,9 @@ receives-well-formed t w i list t′ r quiet = record {
     good k l = still-good t t′ (messageOf t k) (r .same-processes) (r .counts-grow) (w .good-messages k l)
 
     listed : (k : ℕ) → k < messageCount t → any (eqb k) list ≡ true → GoodMessage t′ (withReceipt (messageOf t k) (countOf t i))
-    listed k l e = record {
-      sender-known = good k l .sender-known;
-      receiver-known = good k l .receiver-known;
-      two-processes = good k l .two-processes;
-      sent-below = good k l .sent-below;
-      received-within =
-          subst⁻¹ (λ (q : ℕ). countOf t i ≤ countOf t′ q) (receipt-waiting t i list quiet k e .to-process) (r .counts-grow i);
-    }
+    listed k l e =
+        good-again t t′ (r .same-processes) (w .good-messages k l) (good k l .sent-below) (countOf t i)
+        (subst⁻¹ (λ (q : ℕ). countOf t i ≤ countOf t′ q) (receipt-waiting t i list quiet k e .to-process) (r .counts-grow i))
 
 -- a message that remains was sent below the line, and is undelivered or was received at or below it
 rollback-well-formed : (t : Table) → WellFormed t → WellFormed (afterRollback t)
@@ -619,13 +617,9 @@ rollback-well-formed t w = record {
     good k l e n under =
         let m = messageOf t k in
         let g = w .good-messages k l in
-        record {
-          sender-known = omega (arith, g .sender-known, rollback-processes t);
-          receiver-known = omega (arith, g .receiver-known, rollback-processes t);
-          two-processes = g .two-processes;
-          sent-below = omega (arith, stays-sent (recoveryLine t) m e, rollback-count t (m .sender) (g .sender-known));
-          received-within = omega (arith, rollback-count t (m .receiver) (g .receiver-known));
-        }
+        good-again t (afterRollback t) (rollback-processes t) g
+        (omega (arith, stays-sent (recoveryLine t) m e, rollback-count t (m .sender) (g .sender-known))) n
+        (omega (arith, rollback-count t (m .receiver) (g .receiver-known)))
 
 pub step-well-formed : (t : Table) → WellFormed t → (s : Step) → WellFormed (step t s)
 step-well-formed t w = step-each t WellFormed (send-well-formed t w) (receives-well-formed t w) (rollback-well-formed t w) w

@@ -1,4 +1,5 @@
--- `counts_left` meets its contract: the loop fills the array from the front.
+-- `counts_left` meets its contract. The loop's invariant: the first p counts are those that are left, and the others are 0. The measure is
+-- how many processes are left.
 -- Assumes nothing.
 use native.Mathlib.Omega.{arith}
 use borrow.Author.Needs.{needs}

@@ -1,4 +1,5 @@
--- `put_messages` meets its contract: the loop writes one message after another.
+-- `put_messages` meets its contract. The loop's invariant: the entries of what remains of the first k messages stand in the buffer, sends
+-- and receipts each from their own start, and `place` is behind these sends. The measure is how many messages are left.
 -- Assumes nothing.
 use borrow.Author.Needs.{needs}
 use native.Mathlib.Omega.{arith}
@@ -65,7 +66,7 @@ put-messages-spec =
     (λ c. omega arith)
     (λ c. omega arith)
     (λ c. omega arith)
-    (λ c. sender-small (turn c .before .loop .inv .read) (turn c .loop-test .taken) (c .before .u16-at .ensures))
+    (λ c. sender-small (turn c .before .loop .inv .given .messages .read) (turn c .loop-test .taken) (c .before .u16-at .ensures))
     -- the message goes
     (λ c. omega arith)
     (λ c.
@@ -86,7 +87,7 @@ put-messages-spec =
     (λ c.
     let read = received (c .before .before .before) in
     let turn = turn (sent read) in
-    receiver-small (turn .before .loop .inv .read) (turn .loop-test .taken) (read .before .u16-at3 .ensures))
+    receiver-small (turn .before .loop .inv .given .messages .read) (turn .loop-test .taken) (read .before .u16-at3 .ensures))
     (λ c κs. tt)
     -- its receipt is put
     (λ c κs. omega (arith, room (received (c .before .before .before .before) .before .before)))
