@@ -22,7 +22,8 @@ use lib.ListN.{length, take}
 use Rattle.consistency.specs.Ceilings.{recoveryLine}
 use Rattle.consistency.specs.Lines.{AtOrBelow, asLine}
 use Rattle.steps.proofs.StepLaws.{Receives, checkpoint-receives, putBack-receiver, putBack-sender, putBack-sent, receipt-receives, receipt-waiting}
-use Rattle.steps.proofs.StepLaws.{receivedAt-listed, receivedAt-unlisted, receives-message, receives-messages, rollback-count, rollback-message, rollback-order}
+use Rattle.steps.proofs.StepLaws.{receivedAt-listed, receivedAt-unlisted, receives-message, receives-messages, rollback-count, rollback-message}
+use Rattle.steps.proofs.StepLaws.{rollback-order}
 use Rattle.steps.proofs.StepLaws.{rollback-place, send-count, send-message-new, send-message-old, send-messages, step-cases}
 use Rattle.futures.specs.Futures.{FollowedTo, Future, NeedsCheckpoint, NeedsMessage, Place, StepKeeps, StillThere, at-position, endOf, gone, moved}
 use Rattle.futures.specs.Futures.{placeOf}

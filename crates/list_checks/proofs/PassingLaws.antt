@@ -107,7 +107,7 @@ module _ {sends receipts : List ℕ} {i : ℕ} {list : List ℕ} {skipped : List
       given = w .given;
       behind = below-more _ a (λ b l. omega (arith, w .behind b l)) (omega arith);
       ahead = beyond w (x .more);
-      marks = same-marks (λ p. rw (any-some (eqb k) list 0 a (x .more) (eq-eqb k _ listed)) (and-false (eqb (processAt sends k) p && entryWaits receipts i k)));
+      marks = same-marks (λ p. rw (any-some (eqb k) list 0 a (x .more) (eq-eqb k _ listed)) (and-false (eqb (processAt sends k) p && _)));
       none = below-more _ a (w .none) (mark-is ∙ e);
     }
 

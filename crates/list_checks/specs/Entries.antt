@@ -1,4 +1,4 @@
--- Of the code: what the checks of a list ask of the sends and the receipts of messages, entry by entry. Assumes nothing.
+-- Of the code: what the checks of a list ask of the sends and the receipts, entry by entry. Assumes nothing.
 use mathlib.Core.Bool.{Bool, false, not, _&&_, _||_}
 use mathlib.Core.List.{List}
 use mathlib.Core.Path.{_≡_}

@@ -154,8 +154,8 @@ pub record RemainingCounted (table line : List ℕ) (m : ℕ) (sends : List ℕ)
   pub given : ReadAtLine table line m sends (receiptsPart table)
   pub counted : n ≡ length (soFar (decode table) k)
 
-pub counted-none : {table line : List ℕ} {m : ℕ} {sends : List ℕ} → AtLine table line → m ≡ messageCount (decode table) → sends ≡ sendsPart table
-    → RemainingCounted table line m sends 0 0
+pub counted-none : {table line : List ℕ} {m : ℕ} {sends : List ℕ} → AtLine table line → m ≡ messageCount (decode table)
+    → sends ≡ sendsPart table → RemainingCounted table line m sends 0 0
 unfolding remaining
 counted-none here m-is sends-are =
     record { given = record { at-line = here; read = messages-read (here .accepted) m-is sends-are refl }; counted = refl }
@@ -280,7 +280,8 @@ module _ {table line : List ℕ} {m start : ℕ} {before : List ℕ} {all : ℕ}
             -- the numbers put are those of the message as it remains
             sent : u16s (sendsOf (soFar gathers k)) ++ u16s (j ∷ y ∷ []) ≡ u16s (sendsOf (soFar gathers (k + 1)))
             sent =
-                grown (λ x. x .sender) (λ x. x .sent) j y (sender-is (at .read) l read-j ∙ sym (putBack-sender (recoveryLine gathers) (messageOf gathers k)))
+                grown (λ x. x .sender) (λ x. x .sent) j y
+                (sender-is (at .read) l read-j ∙ sym (putBack-sender (recoveryLine gathers) (messageOf gathers k)))
                 (sent-is (at .read) l read-y ∙ sym (putBack-sent (recoveryLine gathers) (messageOf gathers k)))
 
             received : u16s (receiptsOf (soFar gathers k)) ++ u16s (i ∷ v ∷ []) ≡ u16s (receiptsOf (soFar gathers (k + 1)))

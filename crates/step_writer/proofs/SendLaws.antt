@@ -144,13 +144,14 @@ module _ {table : List ℕ} {m : ℕ} {sends receipts : List ℕ} (read : ReadMe
 
   pub send-put : {n : ℕ} {counts : List ℕ} → Read table n m counts → (j i : ℕ) {y : ℕ} → y ≡ getD counts j 0 - 1
       → {a z : ℕ} {before headed sent after : List ℕ}
-      → Writes n (m + 1) (take n counts) (u16s (copied m sends ++ (j ∷ y ∷ []))) (u16s (copied m receipts ++ (i ∷ 0 ∷ []))) a z before headed sent after
+      → Writes n (m + 1) (take n counts) (u16s (copied m sends ++ (j ∷ y ∷ []))) (u16s (copied m receipts ++ (i ∷ 0 ∷ []))) a z before
+      headed sent after
       → after ≡ putAt before 0 (encode (afterSend (decode table) j i))
   unfolding afterSend
   send-put r j i y-is w =
       let t = decode table in
       table-written w (afterSend t j i) (r .n-is ∙ sym (send-processes t j i)) (ap (λ (x : ℕ). x + 1) (r .m-is) ∙ sym (send-messages t j i))
       (front r)
-      (ap u16s
-      (ap₂ (λ (s : List ℕ) (x : ℕ). s ++ (j ∷ x ∷ [])) copied-sends (y-is ∙ ap (λ (x : ℕ). x - 1) (count-read r j)) ∙ sym (sends-after t j i)))
+      (ap₂ (λ (s : List ℕ) (x : ℕ). u16s (s ++ (j ∷ x ∷ []))) copied-sends (y-is ∙ ap (λ (x : ℕ). x - 1) (count-read r j))
+      ∙ ap u16s (sym (sends-after t j i)))
       (ap u16s (ap (λ (s : List ℕ). s ++ (i ∷ 0 ∷ [])) copied-receipts ∙ sym (receipts-after t j i)))

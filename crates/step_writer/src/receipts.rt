@@ -38,7 +38,8 @@ fn put_receipts(buffer: &mut [u8], at: usize, receipts: &[u8], m: usize, list: &
     requires { ⌜ at + 4 * m ≤ length (now buffer) ⌝ }
     ensures { λ _. ⌜ now (buffer .exit)
         ≡ putAt (now (buffer .entry)) at
-        (receiptsSet (u16s (tabulate (2 * m) (λ k. u16At (now (receipts .entry)) (2 * k)))) (now (list .entry)) number) ⌝ }
+        (receiptsSet (u16s (tabulate (2 * m) (λ k. u16At (now (receipts .entry)) (2 * k))))
+        (now (list .entry)) number) ⌝ }
 {
     copy_numbers(buffer, at, receipts, 2 * m);
     let end = at + 4 * m;

@@ -693,8 +693,8 @@ send-in-turn t o j i q k before l = go (decLt k (messageCount t))
         let last : k ≡ messageCount t = omega (arith, send-messages t j i) in
         rw (send-message-old t j i q (omega arith), ap (messageOf after) last ∙ send-message-new t j i) (newest (omega arith))
 
-receives-in-turn : (t : Table) → Orderly t → (i : ℕ) (list : List ℕ) (t′ : Table) → Receives t i list t′ → firstCaught (receiptChecks t i list) ≡ 0
-    → ChannelsInTurn t′
+receives-in-turn : (t : Table) → Orderly t → (i : ℕ) (list : List ℕ) (t′ : Table) → Receives t i list t′
+    → firstCaught (receiptChecks t i list) ≡ 0 → ChannelsInTurn t′
 receives-in-turn t o i list t′ r quiet q k before l =
     let b : k < messageCount t = omega (arith, receives-messages r) in
     rw (receives-message r q (omega arith), receives-message r k b) (go (any (eqb q) list) (any (eqb k) list) refl refl b (o .in-turn q k before b))

@@ -20,14 +20,14 @@ use Rattle.tables.specs.Format.{checkpointAt, countAt, countsAt, countsP
 use Rattle.tables.specs.Format.{processAt, processesIn, receiptsAt, receiptsOf, receiptsPart, sendsAt, sendsOf, sendsPart, tableLength}
 use Rattle.tables.specs.Lists.{tabulate}
 use Rattle.tables.specs.Numbers.{bytesOf, bytesOfAll, numberAt, u16At, u16s}
-use Rattle.tables.specs.Table.{Message, Table, countOf, messageCount, messageOf, noMessage, processCount}
+use Rattle.tables.specs.Table.{Message, Table, countOf, messageCount, messageOf, noMessage, processCount, tableOf}
 
 pub message-path : (m m′ : Message) → m .sender ≡ m′ .sender → m .sent ≡ m′ .sent → m .receiver ≡ m′ .receiver
     → m .received ≡ m′ .received → m ≡ m′
 message-path m m′ a b c d = λ i. record { sender = a i; sent = b i; receiver = c i; received = d i }
 
 pub table-path : (t t′ : Table) → t .counts ≡ t′ .counts → t .messages ≡ t′ .messages → t ≡ t′
-table-path t t′ a b = λ i. record { counts = a i; messages = b i }
+table-path t t′ a b = λ i. tableOf (a i) (b i)
 
 -- the two numbers of entry k of an array
 module _ (f g : Message → ℕ) where

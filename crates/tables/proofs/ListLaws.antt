@@ -6,7 +6,6 @@
 --     set-tabulate                             one entry set
 --     sum-more, sum-same                       the sum of such a list: one entry more; entries that are all the same
 --     sum-lower                                a list that is nowhere higher than another, and somewhere lower
---     any-last                                 `any`, of a list with one entry more
 --     any-none, any-some, none-of              `any`, by the entries of the list
 --     anyBelow-more, anyBelow-found, anyBelow-none, none-below    `anyBelow`, as a loop finds it
 --     found-below                              an index that passes, where some index does
@@ -94,16 +93,6 @@ module _ {A : Type 0} where
   set-tabulate (suc n) f g zero v l here other = ap₂ _∷_ here (tabulate-ext n _ _ (λ p _. other (suc p) (λ e. omega arith)))
   set-tabulate (suc n) f g (suc i) v l here other =
       ap₂ _∷_ (other zero (λ e. omega arith)) (set-tabulate n _ _ i v (le-of-suc-le-suc l) here (λ p e. other (suc p) (λ e′. e (omega arith))))
-
-  pub any-last : (test : A → Bool) (xs : List A) (x : A) → any test (xs ++ (x ∷ [])) ≡ (any test xs || test x)
-  unfolding any
-  any-last test [] x = or-none (test x)
-  any-last test (y ∷ rest) x = go (test y) (any-last test rest x)
-    where
-      go : (b : Bool) → any test (rest ++ (x ∷ [])) ≡ (any test rest || test x)
-          → (b || any test (rest ++ (x ∷ []))) ≡ ((b || any test rest) || test x)
-      go true e = refl
-      go false e = e
 
   pub any-none : (test : A → Bool) (l : List A) (d : A) → ((k : ℕ) → k < length l → test (getD l k d) ≡ false) → any test l ≡ false
   unfolding any
