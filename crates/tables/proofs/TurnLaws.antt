@@ -6,9 +6,10 @@
 --     broken-ext, broken-on                the same messages are broken alike, and with further ones
 --     turns-read, turns-quiet              check 23 is quiet just where the messages of each channel are in turn
 -- Assumes nothing.
-use mathlib.Core.Bool.{Bool, true, false, not, _&&_, _||_, true≢false}
+use mathlib.Core.Bool.{Bool, true, false, not, _&&_, _||_, and-false, and-true}
 use mathlib.Core.Path.{_≡_, refl, sym, ap, ap₂, _∙_}
 use Prim.Native.Nat.{ℕ, _+_, _<_}
+use native.Mathlib.Decide.{ℕ-discrete}
 use native.Mathlib.Omega.{arith}
 use borrow.Author.Tests.{eq-eqb, eqb-false, eqb-true, le-ltb, ltb-false, ne-eqb}
 use lib.Dec.{eqb, ltb}
@@ -53,48 +54,38 @@ module _ (m : Message) where
   undelivered-waits e = eq-eqb (m .received) 0 e
 
 -- ---- in turn
--- the three tests of a pair, by whether each of the two waits
-quiet-pair : (w v s r : Bool) → (s || ((w && not v) || ((not w && not v) && r))) ≡ false
-    → (s ≡ false) × ((v ≡ false → w ≡ false) × (v ≡ false → r ≡ false))
-quiet-pair true true s r e = (or-false-left s false e, ((λ (f : true ≡ false). f), λ (f : true ≡ false). absurd (true≢false f)))
-quiet-pair true false s r e = absurd (true≢false (or-false-right s true e))
-quiet-pair false true s r e = (or-false-left s false e, ((λ _. refl), λ (f : true ≡ false). absurd (true≢false f)))
-quiet-pair false false s r e = (or-false-left s r e, ((λ _. refl), λ _. or-false-right s r e))
-
-pair-quiet : (w v s r : Bool) → s ≡ false → (v ≡ false → w ≡ false) → (v ≡ false → r ≡ false)
-    → (s || ((w && not v) || ((not w && not v) && r))) ≡ false
-pair-quiet w v s r is-s first rise = rw is-s (go w v first rise)
-  where
-    go : (w v : Bool) → (v ≡ false → w ≡ false) → (v ≡ false → r ≡ false) → ((w && not v) || ((not w && not v) && r)) ≡ false
-    go true true first rise = refl
-    go true false first rise = first refl
-    go false true first rise = refl
-    go false false first rise = rise refl
-
 module _ {m later : Message} where
   pub turn-read : outOfTurn m later ≡ false → InTurn m later
   unfolding outOfTurn waits
   turn-read e =
-      let quiet = quiet-pair (eqb (m .received) 0) (eqb (later .received) 0) (ltb (later .sent) (m .sent)) (ltb (later .received) (m .received)) e in
+      let quiet = or-false-right (ltb (later .sent) (m .sent)) _ e in
       let there : 0 < later .received → eqb (later .received) 0 ≡ false = λ l. ne-eqb (later .received) 0 (λ z. omega (arith, l, z)) in
+      let first : 0 < later .received → eqb (m .received) 0 ≡ false = λ l.
+      sym (and-true (eqb (m .received) 0)) ∙ (rw (there l) at (or-false-left (eqb (m .received) 0 && not (eqb (later .received) 0)) _ quiet)) in
       record {
-        sends-rise = ltb-false (later .sent) (m .sent) (quiet .0);
+        sends-rise = ltb-false (later .sent) (m .sent) (or-false-left (ltb (later .sent) (m .sent)) _ e);
         received-first = λ l.
-            let some : m .received ≡ 0 → ⊥ = eqb-false (m .received) 0 (quiet .1 .0 (there l)) in
+            let some : m .received ≡ 0 → ⊥ = eqb-false (m .received) 0 (first l) in
             omega (arith, some);
-        receipts-rise = λ l. ltb-false (later .received) (m .received) (quiet .1 .1 (there l));
+        receipts-rise = λ l.
+            ltb-false (later .received) (m .received)
+            (rw (there l, first l) at (or-false-right (eqb (m .received) 0 && not (eqb (later .received) 0)) _ quiet));
       }
 
   pub turn-quiet : InTurn m later → outOfTurn m later ≡ false
   unfolding outOfTurn waits
-  turn-quiet t =
-      let there : eqb (later .received) 0 ≡ false → 0 < later .received = λ e.
-      let some : later .received ≡ 0 → ⊥ = eqb-false (later .received) 0 e in
-      omega (arith, some) in
-      pair-quiet (eqb (m .received) 0) (eqb (later .received) 0) (ltb (later .sent) (m .sent)) (ltb (later .received) (m .received))
-      (le-ltb (later .sent) (m .sent) (t .sends-rise))
-      (λ e. ne-eqb (m .received) 0 (λ z. omega (arith, z, t .received-first (there e))))
-      (λ e. le-ltb (later .received) (m .received) (t .receipts-rise (there e)))
+  turn-quiet t = rw (le-ltb (later .sent) (m .sent) (t .sends-rise)) (go (ℕ-discrete (later .received) 0))
+    where
+      w : Bool
+      w = eqb (m .received) 0
+
+      go : Dec (later .received ≡ 0)
+          → ((w && not (eqb (later .received) 0)) || ((not w && not (eqb (later .received) 0)) && ltb (later .received) (m .received))) ≡ false
+      go (yes z) = rw (eq-eqb (later .received) 0 z, and-false w, and-false (not w))
+      go (no z) =
+          let l : 0 < later .received = omega (arith, z) in
+          rw (ne-eqb (later .received) 0 z, ne-eqb (m .received) 0 (λ y. omega (arith, y, t .received-first l)))
+          (le-ltb (later .received) (m .received) (t .receipts-rise l))
 
 -- in turn behind one that is in turn: send numbers do not fall, and neither do receipt numbers, if one that waits is taken for the highest
 pub turn-on : {a b c : Message} → InTurn a b → InTurn b c → InTurn a c
