@@ -13,7 +13,7 @@
 --     recovery-latest, recovery-length                 the recovery line
 --     putBack-after .. putBack-receiver, stays-sent      a message that is put back; one that stays
 --     rollback-processes .. rollback-fewer             the sizes and the counts after a rollback
---     rollback-from, rollback-each, rollback-pairs     each message comes from one that stays, and each two from two in their order
+--     rollback-each, rollback-pairs                    each message comes from one that stays, and each two from two in their order
 --     rollback-place, rollback-message, rollback-order    where one that stays goes, in order
 --     step-cases, step-each                            a step that is caught leaves the table as it is; what holds after every step
 --     receipt-of-nothing                               one of no messages leaves the table
@@ -446,20 +446,15 @@ module _ (t : Table) where
   unfolding afterRollback messageCount
   rollback-fewer = remaining-fewer (recoveryLine t) (t .messages)
 
-  pub rollback-from : (k′ : ℕ) → k′ < messageCount (afterRollback t)
-      → (k : ℕ) × (k < messageCount t) × (stays (recoveryLine t) (messageOf t k) ≡ true)
-      × (messageOf (afterRollback t) k′ ≡ putBack (recoveryLine t) (messageOf t k))
-  unfolding afterRollback messageCount messageOf
-  rollback-from = remaining-from (recoveryLine t) (t .messages)
-
-  -- it is undelivered again, or it was received before the line
+  -- each message comes from one that stays: it is undelivered again, or it was received before the line
   pub rollback-each : (P : Message → Type 0)
       → ((k : ℕ) → k < messageCount t → stays (recoveryLine t) (messageOf t k) ≡ true → P (withReceipt (messageOf t k) 0))
       → ((k : ℕ) → k < messageCount t → stays (recoveryLine t) (messageOf t k) ≡ true
       → messageOf t k .received ≤ asLine (recoveryLine t) (messageOf t k .receiver) → P (messageOf t k))
       → (k′ : ℕ) → k′ < messageCount (afterRollback t) → P (messageOf (afterRollback t) k′)
+  unfolding afterRollback messageCount messageOf
   rollback-each P after before k′ h =
-      let from = rollback-from k′ h in
+      let from = remaining-from (recoveryLine t) (t .messages) k′ h in
       let k = from .0 in
       subst⁻¹ P (from .3) (putBack-cases (recoveryLine t) (messageOf t k) P (after k (from .1) (from .2)) (before k (from .1) (from .2)))
 
