@@ -1,5 +1,5 @@
 -- Laws of a list of positions: which older messages of a channel it passes over (check 24), and how it rises.
---     OlderListed, passes-none, none-passed   a list passes over none just where each older one that waits is listed
+--     OlderListed, none-passed, passes-none   a list passes over none just where each older one that waits is listed
 --     neighbours-rise                         a list of which each entry rises above the one before it
 -- Assumes nothing.
 use mathlib.Core.Bool.{Bool, true, false, not, _&&_}
@@ -24,11 +24,6 @@ OlderListed t list k =
     (q : ℕ) → q < k → sameChannel (messageOf t q) (messageOf t k) ≡ true → messageOf t q .received ≡ 0 → any (eqb q) list ≡ true
 
 module _ (t : Table) (list : List ℕ) (k : ℕ) where
-  pub passes-none : passesOver t list k ≡ false → OlderListed t list k
-  unfolding passesOver
-  passes-none quiet q older channel undelivered =
-      not-false (any (eqb q) list) (rw (channel, undelivered-waits (messageOf t q) undelivered) at (none-below _ k quiet q older))
-
   pub none-passed : OlderListed t list k → passesOver t list k ≡ false
   unfolding passesOver
   none-passed listed = anyBelow-none _ k (λ q older. go q older (sameChannel (messageOf t q) (messageOf t k)) (waits (messageOf t q)) refl refl)
@@ -38,6 +33,11 @@ module _ (t : Table) (list : List ℕ) (k : ℕ) where
       go q older true true e f = rw (listed q older e (waits-undelivered (messageOf t q) f))
       go q older true false e f = refl
       go q older false waiting e f = refl
+
+  pub passes-none : passesOver t list k ≡ false → OlderListed t list k
+  unfolding passesOver
+  passes-none quiet q older channel undelivered =
+      not-false (any (eqb q) list) (rw (channel, undelivered-waits (messageOf t q) undelivered) at (none-below _ k quiet q older))
 
 -- ---- a list of which each entry rises above the one before it
 follows-none : (x : ℕ) (rest : List ℕ) → ((a : ℕ) → a < length rest → getD (x ∷ rest) a 0 < getD rest a 0) → notRisingAfter x rest ≡ false
