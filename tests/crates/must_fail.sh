@@ -87,6 +87,26 @@ cp "$copy/$laws" "$copy/crates/other/proofs"
 finds "two files of laws with one name"
 grep -q 'RollbackLaws.antt has that name too' "$work/must_fail.out" || { cat "$work/must_fail.out"; fail "found, but the other file is not named"; }
 
+# Records: in proofs, laws and definitions, of this crate and of another one; the one in specs/ is told as the other.
+other="$spec:[0-9]* has that name too"
+differs "$laws" 'pub record AtLine (n : ℕ) : Type 0 where' "the record AtLine: $other"
+differs "$proof" 'record AtLine (n : ℕ) : Type 0 where' "the record AtLine: $other"
+differs "$proof" '    pub record AtLine : Type 0 where' "the record AtLine: $other"
+differs "$spec" 'pub record AtLine (n : ℕ) : Type 0 where' "the record AtLine: $other"
+agrees "$laws" 'pub record AtLines (n : ℕ) : Type 0 where'
+agrees "$laws" '-- pub record AtLine (n : ℕ) : Type 0 where'
+agrees "$proof" 'x c =
+    record { few = c }
+y c =
+    record { few = c }'
+for folder in specs proofs; do
+    fresh
+    mkdir -p "$copy/crates/tables/$folder"
+    echo 'pub record AtLine (n : ℕ) : Type 0 where' >"$copy/crates/tables/$folder/Other.antt"
+    finds "two records with one name in two crates"
+    grep -q 'the record AtLine: .* has that name too' "$work/must_fail.out" || { cat "$work/must_fail.out"; fail "found, but the record is not named"; }
+done
+
 # Where there is nothing to look at, that is no agreement.
 fresh
 rm -r "$copy/crates"

@@ -3,9 +3,9 @@
 #
 # What a person has to follow in the crates (CONTRIBUTING.md, "A function's proof"): no line of more than 160 columns in
 # proofs, and of 120 in definitions and code; no chain of more than six `.before`, and no `.pre` read by place deeper
-# than two, however they are broken over lines; no two files of laws with one name. Columns are bytes, whatever awk is
-# at hand: what is within them is within them by characters too. Names every place that is not so, and stops where
-# nothing was looked at.
+# than two, however they are broken over lines; no two files of laws with one name, and no two records, of definitions,
+# laws and functions' proofs. Columns are bytes, whatever awk is at hand: what is within them is within them by
+# characters too. Names every place that is not so, and stops where nothing was looked at.
 
 root=${1:-$(dirname "$0")/../..}
 cd "$root" || exit 1
@@ -43,10 +43,24 @@ chains() {
         }' <"$1"
 }
 
+# Records with one name, in whatever crates: the later one is told, definitions first.
+records() {
+    grep -h '\.antt$' "$work/definitions" "$work/proofs" | xargs awk '
+        {
+            i = 1
+            while ($i ~ /^(pub|private|abbrev|unfoldable)$/) i++
+            name = $(i + 1)
+            if ($i != "record" || name == "" || name ~ /^[{(]/) next
+            if (name in first) print "readable: " FILENAME ":" FNR ": the record " name ": " first[name] " has that name too"
+            else first[name] = FILENAME ":" FNR
+        }'
+}
+
 {
     columns 160 "$work/proofs"
     columns 120 "$work/definitions"
     chains "$work/proofs"
+    records
     # Files of laws stand right under proofs/; every crate has its Lib.
     grep -E '^crates/[^/]*/proofs/[^/]*\.antt$' "$work/proofs" | grep -v '/Lib\.antt$' |
         awk -F/ '{ if ($4 in first) print "readable: " $0 ": " first[$4] " has that name too"; else first[$4] = $0 }'
