@@ -37,21 +37,12 @@ out-of-turn-spec =
     tie.close
     (tie.spec
     -- the sends
-    (λ c. omega arith)
-    (λ c. omega arith)
-    (λ c κs. omega arith)
-    (λ c. omega arith)
-    (λ c. omega arith)
-    (λ c κs. omega arith)
+    (λ c. omega arith) (λ c. omega arith) (λ c κs. omega arith) (λ c. omega arith) (λ c. omega arith) (λ c κs. omega arith)
     (λ c. sent-earlier _ _ (omega (arith, c .if1 .taken, c .before .before .u16-at .ensures, c .before .u16-at2 .ensures)))
     -- the later receipt
-    (λ c. omega arith)
-    (λ c. omega arith)
-    (λ c κs. omega arith)
+    (λ c. omega arith) (λ c. omega arith) (λ c κs. omega arith)
     (λ c. later-waits _ _ (rise (c .before .before)) (sym (c .before .u16-at3 .ensures) ∙ c .if2 .taken))
-    (λ c. omega arith)
-    (λ c. omega arith)
-    (λ c κs. omega arith)
+    (λ c. omega arith) (λ c. omega arith) (λ c κs. omega arith)
     (λ c.
     let later = c .before .before in
     overtakes _ _ (rise (rising later)) (some later) (sym (c .before .u16-at4 .ensures) ∙ c .if3 .taken))

@@ -34,17 +34,13 @@ above-counts-spec =
     (λ c κs. search needs)
     (λ c. record { read = counts-read (entry c .pre .0) (entry c .pre .1) (c .counts .ensures); searched = searched-none })
     -- the count and the ceiling
-    (λ c. omega arith)
-    (λ c κs. omega arith)
-    (λ c. omega arith)
-    (λ c. omega arith)
+    (λ c. omega arith) (λ c κs. omega arith) (λ c. omega arith) (λ c. omega arith)
     -- it is above
     (λ c.
     let here = turn (c .before) in
     above-here (here .before .loop .inv) (here .loop-test .taken) (c .before .before .u16-at .ensures) (c .if1 .taken))
     -- it is not
-    (λ c. omega arith)
-    (λ c. omega arith)
+    (λ c. omega arith) (λ c. omega arith)
     (λ c.
     let here = turn (c .before) in
     below-here (here .before .loop .inv) (here .loop-test .taken) (c .before .before .u16-at .ensures) (c .if1 .left))

@@ -22,9 +22,7 @@ put-line-under-spec =
     (λ c κs.
     let asked = c .before .before .before .pre in
     omega (arith, asked .1 .0, processes-few _ (asked .0)))
-    (λ c κs. search needs)
-    (λ c κs. search needs)
-    (λ c. search needs)
+    (λ c κs. search needs) (λ c κs. search needs) (λ c. search needs)
     (λ c.
     let put = c .before .before in
     let read = lined put .before in

@@ -40,8 +40,7 @@ fill-lines-spec =
     (tie.spec
     Inv-loop
     μ-loop
-    (λ c κs. search needs)
-    (λ c κs. search needs)
+    (λ c κs. search needs) (λ c κs. search needs)
     (λ c.
     let sized = c .before in
     let asked = entry sized .pre in
@@ -62,8 +61,7 @@ fill-lines-spec =
     (λ c.
     let turn = turn (lined (c .before .before)) in
     omega (arith, lining-room (turn .before .loop .inv) (turn .loop-test .taken), turn .before .loop .inv .written .same-length))
-    (λ c. omega arith)
-    (λ c. omega arith)
+    (λ c. omega arith) (λ c. omega arith)
     (λ c.
     let stored = c .before .before in
     let found = lined stored in

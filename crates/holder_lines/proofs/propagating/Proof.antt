@@ -22,10 +22,7 @@ pub propagating-spec : {M : Type 1} → statement M
 propagating-spec =
     tie.close
     (tie.spec
-    (λ c κs. search needs)
-    (λ c κs. search needs)
-    (λ c κs. search needs)
-    (λ c κs. search needs)
+    (λ c κs. search needs) (λ c κs. search needs) (λ c κs. search needs) (λ c κs. search needs)
     (λ c κs. parts-counted (read c) (c .before .before .counts .ensures))
     (λ c.
     let parts = c .before in

@@ -86,8 +86,7 @@ keeper-keep-sheet-spec =
       logged-is = long .before .before .count-messages .ensures;
       room = search needs;
     })
-    (λ c. search needs)
-    (λ c. search needs)
+    (λ c. search needs) (λ c. search needs)
     -- the answer
     (λ c.
     let put = c .before .before in

@@ -31,8 +31,7 @@ keeper-marked-line-spec =
     (λ c κs.
     let here = quiet (c .before .before .before .before) in
     (here .accepted, (marked-ceiling _ here, (marks-long _ _ _ here, search needs))))
-    (λ c. search needs)
-    (λ c. search needs)
+    (λ c. search needs) (λ c. search needs)
     -- the answer
     (λ c.
     let put = c .before .before .before .before in

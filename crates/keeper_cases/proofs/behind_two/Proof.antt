@@ -12,13 +12,10 @@ behind-two-spec =
     tie.close
     (tie.spec
     -- fewer than two
-    (λ c. search needs)
-    (λ c. search needs)
-    (λ c. search needs)
+    (λ c. search needs) (λ c. search needs) (λ c. search needs)
     (λ c.
     let none : c .before .before .args .count - 2 ≡ 0 = omega arith in
     rw none)
     -- two or more
-    (λ c. search needs)
-    (λ c. search needs)
+    (λ c. search needs) (λ c. search needs)
     (λ c. search needs))

@@ -16,8 +16,7 @@ pub ceiling-of-set-spec : {M : Type 1} → statement M
 ceiling-of-set-spec =
     tie.close
     (tie.spec
-    (λ c κs. search needs)
-    (λ c κs. search needs)
+    (λ c κs. search needs) (λ c κs. search needs)
     (λ c κs. counts-known _ (entry c .pre) (c .before .process-count .ensures) (c .counts .ensures))
     (λ c.
     let read = c .before in

@@ -11,8 +11,7 @@ pub line-of-set-spec : {M : Type 1} → statement M
 line-of-set-spec =
     tie.close
     (tie.spec
-    (λ c κs. search needs)
-    (λ c κs. search needs)
+    (λ c κs. search needs) (λ c κs. search needs)
     (λ c.
     let ceiling = c .before in
     c .line-under .ensures ∙ ap (lineUnder _) (ceiling .ceiling-of-set .ensures) ∙ set-read _ (ceiling .before .before .pre) _))

@@ -22,8 +22,6 @@ pub line-under-spec : {M : Type 1} → statement M
 line-under-spec =
     tie.close
     (tie.spec
-    (λ c κs. search needs)
-    (λ c κs. search needs)
-    (λ c κs. search needs)
+    (λ c κs. search needs) (λ c κs. search needs) (λ c κs. search needs)
     (λ c κs. messages-known (read c) (processes-few _ (entry c .pre)))
     (λ c. c .lower .ensures ∙ line-read (read (c .before)) _))

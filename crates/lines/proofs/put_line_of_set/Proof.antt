@@ -17,9 +17,7 @@ pub put-line-of-set-spec : {M : Type 1} → statement M
 put-line-of-set-spec =
     tie.close
     (tie.spec
-    (λ c κs. search needs)
-    (λ c κs. search needs)
-    (λ c. search needs)
+    (λ c κs. search needs) (λ c κs. search needs) (λ c. search needs)
     (λ c.
     let put = c .before .before in
     rw (set-front _ (entry (found put) .pre .0) _ _ (found put .line-of-set .ensures)) at (put .put-line .ensures)))

@@ -11,12 +11,7 @@ main-spec =
     tie.close
     (tie.spec
     -- the table
-    (λ c. search needs)
-    (λ c κs. search needs)
-    (λ c. search needs)
-    (λ c. search needs)
-    (λ c. search needs)
-    (λ c κs. search needs)
+    (λ c. search needs) (λ c κs. search needs) (λ c. search needs) (λ c. search needs) (λ c. search needs) (λ c κs. search needs)
     -- its listing
     (λ c.
     let listed = c .before .keeper-listing .ensures in

@@ -26,11 +26,7 @@ checkpoint-total-spec =
     μ-loop
     (λ c κs. c .before .pre)
     (λ c. (c .process-count .ensures, omega (arith, c .process-count .ensures, processes-few _ (c .before .before .pre)), summed-none _))
-    (λ c κs. omega arith)
-    (λ c. omega arith)
-    (λ c. omega arith)
-    (λ c. omega arith)
-    (λ c. omega arith)
+    (λ c κs. omega arith) (λ c. omega arith) (λ c. omega arith) (λ c. omega arith) (λ c. omega arith)
     (λ c.
     let inv = c .before .before .loop .inv in
     (inv .0, inv .1, summed-more _ _ _ (inv .2) (omega arith) _ (c .count .ensures) (omega arith)))

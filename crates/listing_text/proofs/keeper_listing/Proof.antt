@@ -39,14 +39,9 @@ pub keeper-listing-spec : {M : Type 1} → statement M
 keeper-listing-spec =
     tie.close
     (tie.spec
-    (λ c. search needs)
-    (λ c. search needs)
-    (λ c κs. search needs)
+    (λ c. search needs) (λ c. search needs) (λ c κs. search needs)
     -- the text is measured
-    (λ c. search needs)
-    (λ c. search needs)
-    (λ c. search needs)
-    (λ c. search needs)
+    (λ c. search needs) (λ c. search needs) (λ c. search needs) (λ c. search needs)
     (λ c κs.
     let here = c .before .before .before .before .before in
     (refusal-is here, answers here))
@@ -61,8 +56,7 @@ keeper-listing-spec =
       (λ none. absurd (omega (arith, none)), λ room. absurd (omega (arith, room, longer, few))),
     ))
     -- the text is put
-    (λ c. search needs)
-    (λ c. search needs)
+    (λ c. search needs) (λ c. search needs)
     (λ c κs.
     let here = sheet (measured (c .before .before .before)) in
     (refusal-is here, answers here))

@@ -56,8 +56,7 @@ put-listing-spec =
     (λ c κs. omega (arith, sheet-long _ _ _ (entry c .pre .1)))
     (λ c. search needs)
     (λ c κs. omega (arith, sheet-long _ _ _ (entry (c .before) .pre .1)))
-    (λ c. search needs)
-    (λ c κs. search needs)
+    (λ c. search needs) (λ c κs. search needs)
     -- the recovery line
     (λ c. line-room (reading (c .before)))
     (λ c. line-taken (reading (c .before .before)))

@@ -43,8 +43,7 @@ give-way-spec =
     ))
     (λ c. omega arith)
     (λ c. omega (arith, turn (c .before .before) .before .loop .inv .over .few))
-    (λ c. omega arith)
-    (λ c. omega arith)
+    (λ c. omega arith) (λ c. omega arith)
     (λ c.
     let found = c .before .before in
     giving-more (turn found .before .loop .inv) (turn found .loop-test .taken) (found .state-bit .ensures) (c .latest-unmarked .ensures))

@@ -15,8 +15,7 @@ pub is-root-or-marked-spec : {M : Type 1} → statement M
 is-root-or-marked-spec =
     tie.close
     (tie.spec
-    (λ c. omega arith)
-    (λ c. omega arith)
+    (λ c. omega arith) (λ c. omega arith)
     (λ c. at-root _ (c .if1 .taken))
     (λ c κs. search needs)
     (λ c κs. omega (arith, c .state-bit .ensures, entry c .pre .inside))

@@ -31,9 +31,7 @@ latest-unmarked-spec =
       no-later = le-refl _;
       set-behind = λ y l l′. absurd (omega arith);
     })
-    (λ c. omega arith)
-    (λ c. omega arith)
-    (λ c κs. omega arith)
+    (λ c. omega arith) (λ c. omega arith) (λ c κs. omega arith)
     (λ c. lands (c .before .before .loop .inv) (sym (c .before .is-marked .ensures) ∙ not-true _ (c .if1 .taken)))
     (λ c. omega (arith, descends-from (c .before .before .loop .inv) (sym (c .before .is-marked .ensures) ∙ not-false _ (c .if1 .left))))
     (λ c. omega (arith, descends-from (c .before .before .loop .inv) (sym (c .before .is-marked .ensures) ∙ not-false _ (c .if1 .left))))

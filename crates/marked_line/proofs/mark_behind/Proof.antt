@@ -47,8 +47,7 @@ mark-behind-spec =
       behind-room inv (here .loop-test .taken) (c .before .before .state-bit .ensures) (c .before .row-end .ensures),
       behind-onwards inv (here .loop-test .taken) (c .before .before .state-bit .ensures) (c .before .row-end .ensures),
     ))
-    (λ c. omega arith)
-    (λ c. omega arith)
+    (λ c. omega arith) (λ c. omega arith)
     (λ c.
     let marked = c .before .before in
     let found = marked .before .before in

@@ -14,8 +14,7 @@ pub next-round-spec : {M : Type 1} → statement M
 next-round-spec =
     tie.close
     (tie.spec
-    (λ c κs. search needs)
-    (λ c. search needs)
+    (λ c κs. search needs) (λ c. search needs)
     (λ c κs.
     let gave = c .before .before in
     (gave-lent (entry gave .pre) (gave .give-way .ensures), gave-ready (entry gave .pre) (gave .give-way .ensures)))

@@ -22,8 +22,7 @@ put-marked-line-spec =
     (λ c κs.
     let asked = entry (found c) .pre in
     (asked .0, asked .1 .1 .1))
-    (λ c. search needs)
-    (λ c. search needs)
+    (λ c. search needs) (λ c. search needs)
     (λ c.
     let line = found (c .before .before .before) in
     (record { roots = _; by-marking = line .marked-line .ensures .0; put = c .before .before .put-line .ensures }, line .marked-line .ensures .1)))

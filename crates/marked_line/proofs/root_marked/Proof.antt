@@ -41,8 +41,7 @@ root-marked-spec =
     let here = c .before .before in
     asked-found (turn here .before .loop .inv) (turn here .loop-test .taken) (here .state-bit .ensures) (sym (c .before .is-marked .ensures)
     ∙ c .if1 .taken))
-    (λ c. omega arith)
-    (λ c. omega arith)
+    (λ c. omega arith) (λ c. omega arith)
     (λ c.
     let here = c .before .before in
     asked-more (turn here .before .loop .inv) (turn here .loop-test .taken) (here .state-bit .ensures) (sym (c .before .is-marked .ensures) ∙ c .if1 .left))

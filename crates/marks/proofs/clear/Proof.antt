@@ -24,9 +24,7 @@ clear-spec =
     Inv-loop
     μ-loop
     (λ c. (omega arith, c .pre, filled-none))
-    (λ c. omega arith)
-    (λ c. omega arith)
-    (λ c. omega arith)
+    (λ c. omega arith) (λ c. omega arith) (λ c. omega arith)
     (λ c. let (within, fits, filled) = c .before .loop .inv in (omega arith, fits, filled-more filled refl refl))
     (λ c. c .before .loop .inv .2 .same-length)
     (λ c. let (within, fits, filled) = c .before .loop .inv in filled-cleared (filled-all filled within (c .loop-test .left)) fits))

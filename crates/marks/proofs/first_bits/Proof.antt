@@ -22,13 +22,7 @@ first-bits-spec =
     Inv-loop
     μ-loop
     (λ c. firsts-none (c .before .pre))
-    (λ c. omega arith)
-    (λ c. omega arith)
-    (λ c. omega arith)
-    (λ c. omega arith)
-    (λ c. omega arith)
-    (λ c. omega arith)
-    (λ c. omega arith)
+    (λ c. omega arith) (λ c. omega arith) (λ c. omega arith) (λ c. omega arith) (λ c. omega arith) (λ c. omega arith) (λ c. omega arith)
     (λ c. omega arith)
     (λ c. firsts-more (c .before .before .loop .inv) (c .before .loop-test .taken) (c .count .ensures) refl)
     (λ c. firsts-all (c .before .loop .inv) (c .loop-test .left)))

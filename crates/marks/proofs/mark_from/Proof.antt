@@ -39,8 +39,7 @@ mark-from-spec =
     (λ c κs.
     let here = turn (c .before .before) in
     row-inside (here .before .loop .inv) (here .loop-test .taken))
-    (λ c. omega arith)
-    (λ c. omega arith)
+    (λ c. omega arith) (λ c. omega arith)
     (λ c.
     let set = c .before .before in
     let here = turn (asked set) in

@@ -15,8 +15,7 @@ pub marks-size-spec : {M : Type 1} → statement M
 marks-size-spec =
     tie.close
     (tie.spec
-    (λ c κs. search needs)
-    (λ c κs. search needs)
+    (λ c κs. search needs) (λ c κs. search needs)
     (λ c. omega (arith, few _ (entry c .pre) (c .first-bits .ensures) (c .before .process-count .ensures)))
     (λ c. omega (arith, few _ (entry c .pre) (c .first-bits .ensures) (c .before .process-count .ensures)))
     (λ c. omega (arith, all-small _ (entry c .pre) (c .first-bits .ensures) (c .before .process-count .ensures)))

@@ -39,8 +39,7 @@ misses-named-spec =
     μ-loop
     (λ c. (c .pre, searched-none))
     -- the process and the number
-    (λ c. omega arith)
-    (λ c. omega arith)
+    (λ c. omega arith) (λ c. omega arith)
     (λ c. omega (arith, turn c .before .loop .inv .0 .known _ (turn c .loop-test .taken)))
     (λ c. omega (arith, turn c .before .loop .inv .0 .known _ (turn c .loop-test .taken)))
     (λ c. omega (arith, turn c .before .loop .inv .0 .known _ (turn c .loop-test .taken)))
@@ -51,8 +50,7 @@ misses-named-spec =
     let here = turn (named (c .before)) in
     searched-here (here .before .loop .inv .1) (here .loop-test .taken) (ap not (ne-eqb _ _ (c .if1 .taken))))
     -- it has this one
-    (λ c. omega arith)
-    (λ c. omega arith)
+    (λ c. omega arith) (λ c. omega arith)
     (λ c.
     let here = turn (named (c .before)) in
     (here .before .loop .inv .0, searched-more (here .before .loop .inv .1) (here .loop-test .taken) (ap not (eq-eqb _ _ (c .if1 .left)))))

@@ -44,16 +44,14 @@ named-ceiling-spec =
     (λ c κs. search needs)
     (λ c. put-none (record { accepted = entry c .pre .0; lists = entry c .pre .1 }) (c .count-array .ensures))
     -- the process and the number
-    (λ c. omega arith)
-    (λ c. omega arith)
+    (λ c. omega arith) (λ c. omega arith)
     (λ c. omega (arith, inside c))
     (λ c. omega arith)
     (λ c. omega (arith, turn (named c) .before .loop .inv .given .lists .for-each))
     (λ c. omega (arith, inside (named c)))
     (λ c. inside (named c))
     -- one more is put
-    (λ c. omega arith)
-    (λ c. omega arith)
+    (λ c. omega arith) (λ c. omega arith)
     (λ c.
     let here = turn (named c) in
     put-more (here .before .loop .inv) (here .loop-test .taken))

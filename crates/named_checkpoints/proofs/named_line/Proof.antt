@@ -15,8 +15,7 @@ pub named-line-spec : {M : Type 1} → statement M
 named-line-spec =
     tie.close
     (tie.spec
-    (λ c κs. search needs)
-    (λ c κs. search needs)
+    (λ c κs. search needs) (λ c κs. search needs)
     (λ c.
     let found = c .before in
     c .line-under .ensures ∙ line-put _ (entry found .pre .0) _ _ (found .named-ceiling .ensures)))

@@ -47,8 +47,7 @@ not-below-counts-spec =
     let asked = entry c .pre in
     record { given = record { accepted = asked .0; lists = asked .1 }; counts-are = c .count-array .ensures; searched = searched-none })
     -- the process, its count and the number
-    (λ c. omega arith)
-    (λ c. omega arith)
+    (λ c. omega arith) (λ c. omega arith)
     (λ c. omega (arith, inside c))
     (λ c. omega (arith, inside c))
     (λ c. inside c)
@@ -59,8 +58,7 @@ not-below-counts-spec =
     let here = turn (named (c .before)) in
     not-below-here (here .before .loop .inv) (here .loop-test .taken) (c .if1 .taken))
     -- it is below
-    (λ c. omega arith)
-    (λ c. omega arith)
+    (λ c. omega arith) (λ c. omega arith)
     (λ c.
     let here = turn (named (c .before)) in
     below-here (here .before .loop .inv) (here .loop-test .taken) (c .if1 .left))

@@ -29,16 +29,14 @@ unknown-process-spec =
     (λ c κs. search needs)
     (λ c. record { n-is = c .process-count .ensures; searched = searched-none })
     -- the process
-    (λ c. omega arith)
-    (λ c. omega arith)
+    (λ c. omega arith) (λ c. omega arith)
     (λ c. omega (arith, c .shared-slice-known3 .given (turn c .before .loop .k)))
     -- it is N or above
     (λ c.
     let here = turn (c .before) in
     unknown-here (here .before .loop .inv) (here .loop-test .taken) (c .if1 .taken))
     -- it is below N
-    (λ c. omega arith)
-    (λ c. omega arith)
+    (λ c. omega arith) (λ c. omega arith)
     (λ c.
     let here = turn (c .before) in
     known-here (here .before .loop .inv) (here .loop-test .taken) (c .if1 .left))

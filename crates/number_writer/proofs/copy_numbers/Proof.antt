@@ -26,12 +26,7 @@ copy-numbers-spec =
     Inv-loop
     μ-loop
     (λ c. written-none _ _ _ _ _ (omega arith))
-    (λ c. omega arith)
-    (λ c. omega arith)
-    (λ c. omega arith)
-    (λ c κs. omega arith)
-    (λ c κs. omega arith)
-    (λ c. omega arith)
+    (λ c. omega arith) (λ c. omega arith) (λ c. omega arith) (λ c κs. omega arith) (λ c κs. omega arith) (λ c. omega arith)
     (λ c. omega arith)
     (λ c.
     let put = c .before .before in

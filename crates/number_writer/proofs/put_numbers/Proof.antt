@@ -29,13 +29,7 @@ put-numbers-spec =
     Inv-loop
     μ-loop
     (λ c. written-none _ _ _ _ _ (omega arith))
-    (λ c. omega arith)
-    (λ c. omega arith)
-    (λ c. omega arith)
-    (λ c. omega arith)
-    (λ c κs. omega arith)
-    (λ c. omega arith)
-    (λ c. omega arith)
+    (λ c. omega arith) (λ c. omega arith) (λ c. omega arith) (λ c. omega arith) (λ c κs. omega arith) (λ c. omega arith) (λ c. omega arith)
     (λ c.
     let put = c .before .before in
     numbers-more 2 _ (turn put .before .loop .inv) (turn put .loop-test .taken) (put .put-u16 .ensures))

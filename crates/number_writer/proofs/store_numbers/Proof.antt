@@ -26,13 +26,7 @@ store-numbers-spec =
     Inv-loop
     μ-loop
     (λ c. written-none _ _ _ _ _ (omega arith))
-    (λ c. omega arith)
-    (λ c. omega arith)
-    (λ c. omega arith)
-    (λ c. omega arith)
-    (λ c. omega arith)
-    (λ c. omega arith)
-    (λ c. omega arith)
+    (λ c. omega arith) (λ c. omega arith) (λ c. omega arith) (λ c. omega arith) (λ c. omega arith) (λ c. omega arith) (λ c. omega arith)
     (λ c. stored-more _ (c .before .before .loop .inv) (c .before .loop-test .taken))
     (λ c. c .before .loop .inv .same-length)
     (λ c. stored-all _ (c .before .loop .inv) (c .loop-test .left) ∙ ap (putAt _ _) (tabulate-getD _ 0)))

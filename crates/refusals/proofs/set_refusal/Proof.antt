@@ -17,8 +17,7 @@ set-refusal-spec =
     (λ c κs. search needs)
     -- the table's
     (λ c. table-caught _ _ (c .before .check .ensures) (c .if1 .taken))
-    (λ c κs. search needs)
-    (λ c κs. search needs)
+    (λ c κs. search needs) (λ c κs. search needs)
     -- 12
     (λ c.
     let high = c .before .has-high-bit .ensures ∙ ap (highBit _) (c .before .before .process-count .ensures) in

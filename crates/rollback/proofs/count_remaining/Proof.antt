@@ -26,16 +26,10 @@ count-remaining-spec =
     (tie.spec
     Inv-loop
     μ-loop
-    (λ c κs. search needs)
-    (λ c κs. search needs)
+    (λ c κs. search needs) (λ c κs. search needs)
     (λ c. counted-none (c .before .before .before .pre) (c .before .message-count .ensures) (c .sends .ensures))
     -- the send
-    (λ c. omega arith)
-    (λ c κs. omega arith)
-    (λ c. omega arith)
-    (λ c. omega arith)
-    (λ c. omega arith)
-    (λ c κs. omega arith)
+    (λ c. omega arith) (λ c κs. omega arith) (λ c. omega arith) (λ c. omega arith) (λ c. omega arith) (λ c κs. omega arith)
     (λ c. omega arith)
     (λ c. omega (arith, sender-small (turn c .before .loop .inv .given .read) (turn c .loop-test .taken) (c .before .u16-at .ensures)))
     (λ c. sender-small (turn c .before .loop .inv .given .read) (turn c .loop-test .taken) (c .before .u16-at .ensures))

@@ -37,13 +37,9 @@ counts-left-spec =
     μ-loop
     (λ c κs. search needs)
     (λ c. (omega (arith, processes-few _ (c .before .before .pre .accepted), c .process-count .ensures), filling-none))
-    (λ c. omega arith)
-    (λ c. omega arith)
+    (λ c. omega arith) (λ c. omega arith)
     (λ c. omega (arith, line-small (sized c .before .before .pre) {p = c .before .loop .p} (omega arith)))
-    (λ c. omega arith)
-    (λ c. omega arith)
-    (λ c. omega arith)
-    (λ c. omega arith)
+    (λ c. omega arith) (λ c. omega arith) (λ c. omega arith) (λ c. omega arith)
     (λ c.
     let at-loop = c .before in
     let line = sized c .before .before .pre in

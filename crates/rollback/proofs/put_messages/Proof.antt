@@ -50,22 +50,14 @@ put-messages-spec =
     (tie.spec
     Inv-loop
     μ-loop
-    (λ c κs. search needs)
-    (λ c κs. search needs)
-    (λ c κs. search needs)
+    (λ c κs. search needs) (λ c κs. search needs) (λ c κs. search needs)
     (λ c.
     let all = c .before .before in
     let asked = entry all .pre in
     gathering-none (asked .0) (asked .1 .0) (asked .1 .1) (all .message-count .ensures) (c .before .sends .ensures) (c .receipts .ensures))
     -- the send
-    (λ c. omega arith)
-    (λ c κs. omega arith)
-    (λ c. omega arith)
-    (λ c. omega arith)
-    (λ c κs. omega arith)
-    (λ c. omega arith)
-    (λ c. omega arith)
-    (λ c. omega arith)
+    (λ c. omega arith) (λ c κs. omega arith) (λ c. omega arith) (λ c. omega arith) (λ c κs. omega arith) (λ c. omega arith)
+    (λ c. omega arith) (λ c. omega arith)
     (λ c. sender-small (turn c .before .loop .inv .given .messages .read) (turn c .loop-test .taken) (c .before .u16-at .ensures))
     -- the message goes
     (λ c. omega arith)
@@ -73,17 +65,12 @@ put-messages-spec =
     let sent = c .before in
     gathering-goes (turn sent .before .loop .inv) (turn sent .loop-test .taken) (sent .before .u16-at .ensures) (sent .u16-at2 .ensures) (c .if1 .taken))
     -- it stays: its receipt
-    (λ c. omega arith)
-    (λ c κs. omega arith)
-    (λ c. omega arith)
-    (λ c. omega arith)
-    (λ c κs. omega arith)
+    (λ c. omega arith) (λ c κs. omega arith) (λ c. omega arith) (λ c. omega arith) (λ c κs. omega arith)
     -- its send is put
     (λ c κs. omega (arith, room (c .before .before .before)))
     (λ c. omega (arith, room (received (c .before .before .before) .before .before)))
     (λ c. omega (arith, room (received (c .before .before .before) .before .before)))
-    (λ c. omega arith)
-    (λ c. omega arith)
+    (λ c. omega arith) (λ c. omega arith)
     (λ c.
     let read = received (c .before .before .before) in
     let turn = turn (sent read) in

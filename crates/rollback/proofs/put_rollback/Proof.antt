@@ -46,8 +46,7 @@ pub put-rollback-spec : {M : Type 1} → statement M
 put-rollback-spec =
     tie.close
     (tie.spec
-    (λ c κs. search needs)
-    (λ c κs. search needs)
+    (λ c κs. search needs) (λ c κs. search needs)
     -- the head
     (λ c. omega (arith, few (c .before), long (c .before)))
     (λ c. sym (front (c .before .before)))

@@ -16,8 +16,7 @@ pub count-checkpoints-spec : {M : Type 1} → statement M
 count-checkpoints-spec =
     tie.close
     (tie.spec
-    (λ c κs. search needs)
-    (λ c κs. search needs)
+    (λ c κs. search needs) (λ c κs. search needs)
     (λ c κs.
     let sized = c .before in
     let n = sized .process-count .ensures in

@@ -28,10 +28,7 @@ pub count-messages-spec : {M : Type 1} → statement M
 count-messages-spec =
     tie.close
     (tie.spec
-    (λ c κs. search needs)
-    (λ c κs. search needs)
-    (λ c κs. search needs)
-    (λ c κs. search needs)
+    (λ c κs. search needs) (λ c κs. search needs) (λ c κs. search needs) (λ c κs. search needs)
     (λ c κs.
     let n = sized c .process-count .ensures in
     (holds-lines (entry (sized c) .pre) n, messages-known (messages c) (omega (arith, n))))

@@ -22,11 +22,9 @@ checksum-spec =
     Inv-loop
     μ-loop
     (λ c. summing-none)
-    (λ c. search needs)
-    (λ c. search needs)
+    (λ c. search needs) (λ c. search needs)
     (λ c. omega (arith, c .shared-slice-known .given (c .before .before .loop .i)))
     (λ c. omega (arith, c .shared-slice-known .given (c .before .before .loop .i)))
-    (λ c. search needs)
-    (λ c. search needs)
+    (λ c. search needs) (λ c. search needs)
     (λ c. summing-more (c .before .before .loop .inv) (c .before .loop-test .taken))
     (λ c. summing-all (c .before .loop .inv) (c .loop-test .left)))

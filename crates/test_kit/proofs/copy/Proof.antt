@@ -28,10 +28,7 @@ copy-spec =
     Inv-loop
     μ-loop
     (λ c. (omega arith, filled-none))
-    (λ c. omega arith)
-    (λ c κs. search needs)
-    (λ c. omega arith)
-    (λ c. omega arith)
+    (λ c. omega arith) (λ c κs. search needs) (λ c. omega arith) (λ c. omega arith)
     (λ c.
     let put = c .before .before in
     (omega arith, filled-more (turn put .before .loop .inv .1) refl (put .byte .ensures)))

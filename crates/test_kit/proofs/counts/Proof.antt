@@ -26,9 +26,7 @@ counts-spec =
     Inv-loop
     μ-loop
     (λ c. changing-none)
-    (λ c κs. search needs)
-    (λ c. search needs)
-    (λ c. search needs)
+    (λ c κs. search needs) (λ c. search needs) (λ c. search needs)
     (λ c.
     let put = c .before .before in
     changing-more (turn put .before .loop .inv) (turn put .loop-test .taken) (omega arith) (put .count .ensures))

@@ -23,9 +23,7 @@ fill-spec =
     Inv-loop
     μ-loop
     (λ c. (omega arith, filled-none))
-    (λ c. omega arith)
-    (λ c. omega arith)
-    (λ c. omega arith)
+    (λ c. omega arith) (λ c. omega arith) (λ c. omega arith)
     (λ c. (omega arith, filled-more (c .before .loop .inv .1) refl refl))
     (λ c. c .before .loop .inv .1 .same-length)
     (λ c. filled-all (c .before .loop .inv .1) (c .before .loop .inv .0) (omega arith)))

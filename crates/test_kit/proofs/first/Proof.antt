@@ -12,7 +12,5 @@ first-spec =
     tie.close
     (tie.spec
     (λ c. sym (take-all _ _ (c .if1 .taken)))
-    (λ c. search needs)
-    (λ c. search needs)
-    (λ c. search needs)
+    (λ c. search needs) (λ c. search needs) (λ c. search needs)
     (λ c. rw sub-zero))

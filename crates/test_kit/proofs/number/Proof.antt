@@ -21,16 +21,12 @@ unfolding withNumber
 number-spec =
     tie.close
     (tie.spec
-    (λ c. search needs)
-    (λ c κs. search needs)
+    (λ c. search needs) (λ c κs. search needs)
     -- beyond the end
     (λ c. search needs)
     (λ c. rw (← low (c .before) .byte .ensures) (sym (set-out _ _ _ (omega (arith, c .if1 .taken)))))
     -- within
-    (λ c. search needs)
-    (λ c. search needs)
-    (λ c κs. search needs)
-    (λ c. search needs)
+    (λ c. search needs) (λ c. search needs) (λ c κs. search needs) (λ c. search needs)
     (λ c.
     let high = c .before .before in
     rw (low (inside high .before) .byte .ensures) at (high .byte2 .ensures)))

@@ -15,9 +15,7 @@ unfolding withSizes
 sizes-spec =
     tie.close
     (tie.spec
-    (λ c κs. search needs)
-    (λ c κs. search needs)
-    (λ c. search needs)
+    (λ c κs. search needs) (λ c κs. search needs) (λ c. search needs)
     (λ c.
     let counted = c .before .before in
     rw (sized counted .entry .ensures) at (counted .counts .ensures)))

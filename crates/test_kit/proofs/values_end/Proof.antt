@@ -30,7 +30,6 @@ values-end-spec =
     (λ c. omega arith)
     (λ c. tested-end (turn (c .before) .before .loop .inv) (λ _ _. c .if2 .taken))
     -- the same
-    (λ c. omega arith)
-    (λ c. omega arith)
+    (λ c. omega arith) (λ c. omega arith)
     (λ c. tested-more (turn (c .before) .before .loop .inv) (turn (c .before) .loop-test .taken) (c .if2 .left))
     (λ c. tested-end (c .before .loop .inv) (λ l _ _. omega (arith, c .loop-test .left))))

@@ -23,15 +23,9 @@ ceilings-of-spec =
     μ-loop
     (λ c. lending-none (c .pre .0) (c .pre .1))
     -- a number of the line
-    (λ c. omega arith)
-    (λ c. omega arith)
-    (λ c. omega arith)
-    (λ c. omega arith)
+    (λ c. omega arith) (λ c. omega arith) (λ c. omega arith) (λ c. omega arith)
     -- the ceiling
-    (λ c. omega arith)
-    (λ c. omega arith)
-    (λ c. omega arith)
-    (λ c. omega arith)
+    (λ c. omega arith) (λ c. omega arith) (λ c. omega arith) (λ c. omega arith)
     (λ c.
     let w = c .before .before .loop .inv in
     lending-more w (c .before .loop-test .taken)

@@ -13,10 +13,7 @@ pub line-at-spec : {M : Type 1} → statement M
 line-at-spec =
     tie.close
     (tie.spec
-    (λ c. search needs)
-    (λ c. search needs)
-    (λ c. search needs)
-    (λ c κs. search needs)
+    (λ c. search needs) (λ c. search needs) (λ c. search needs) (λ c κs. search needs)
     (λ c.
     let given = c .before .before .before .args in
     (c .up-to .ensures .0 ∙ line-there (now (given .script)) (given .at), omega (arith, simp (length-take, length-drop) at (c .up-to .ensures .1)))))

@@ -9,8 +9,7 @@ pub says-spec : {M : Type 1} → statement M
 says-spec =
     tie.close
     (tie.spec
-    (λ c κs. search needs)
-    (λ c κs. search needs)
+    (λ c κs. search needs) (λ c κs. search needs)
     (λ c.
     let said = c .before .up-to .ensures .0 in
     (λ yes. sym said ∙ c .same .ensures .0 yes, λ word. c .same .ensures .1 (said ∙ word))))

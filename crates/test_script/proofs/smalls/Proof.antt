@@ -24,10 +24,6 @@ smalls-spec =
     Inv-loop
     μ-loop
     (λ c. filled-none)
-    (λ c κs. search needs)
-    (λ c. search needs)
-    (λ c. search needs)
-    (λ c. search needs)
-    (λ c. search needs)
+    (λ c κs. search needs) (λ c. search needs) (λ c. search needs) (λ c. search needs) (λ c. search needs)
     (λ c. filled-more (c .before .before .loop .inv) (c .small .ensures) refl)
     (λ c. filled-list (c .before .loop .inv) (λ i a b. omega (arith, c .loop-test .left))))

@@ -12,8 +12,5 @@ pub up-to-spec : {M : Type 1} → statement M
 up-to-spec =
     tie.close
     (tie.spec
-    (λ c κs. search needs)
-    (λ c. search needs)
-    (λ c. search needs)
-    (λ c. search needs)
+    (λ c κs. search needs) (λ c. search needs) (λ c. search needs) (λ c. search needs)
     (λ c. (up-to-found _ _ (c .before .find .ensures .0), rw (sub-zero, length-take) (omega arith))))

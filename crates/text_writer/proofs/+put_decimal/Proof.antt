@@ -36,8 +36,7 @@ pub +put-decimal-spec : {M : Type 1} → statement M
     (put-decimal-at t)
     put-decimal.Post
     -- one digit
-    (λ c. omega arith)
-    (λ c. omega arith)
+    (λ c. omega arith) (λ c. omega arith)
     (λ c κs. part-room (one-digit {before = []} (c .before .if1 .taken) (c .before .before .before .pre .1)))
     (λ c. laid-length (c .before .before .put-byte .ensures))
     (λ c.
@@ -49,8 +48,7 @@ pub +put-decimal-spec : {M : Type 1} → statement M
     let asked = large .before .before .pre in
     (omega (arith, asked .0, large .if1 .left), part-room (more-digits {before = []} (large .if1 .left) (asked .1))))
     -- and the last
-    (λ c. omega arith)
-    (λ c. omega arith)
+    (λ c. omega arith) (λ c. omega arith)
     (λ c κs.
     let tenth = c .before .before .before in
     let large = tenth .before .before in

@@ -28,14 +28,12 @@ put-fields-spec =
     Inv-loop
     μ-loop
     (λ c. laying-none (sym (each-rows field 0 _)) (c .before .before .pre))
-    (λ c. omega arith)
-    (λ c. omega arith)
+    (λ c. omega arith) (λ c. omega arith)
     (λ c. omega (arith, c .shared-slice-known2 .given (c .before .before .before .loop .i)))
     (λ c κs.
     let turn = c .before .before in
     laying-room (turn .before .loop .inv) refl (turn .loop-test .taken))
-    (λ c. omega arith)
-    (λ c. omega arith)
+    (λ c. omega arith) (λ c. omega arith)
     (λ c.
     let put = c .before .before in
     laying-more (turn put .before .loop .inv) refl (turn put .loop-test .taken) (put .put-field .ensures))

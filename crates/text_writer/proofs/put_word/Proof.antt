@@ -32,8 +32,7 @@ put-word-spec =
     (λ c κs.
     let turn = c .before .before in
     laying-room (turn .before .loop .inv) refl (turn .loop-test .taken))
-    (λ c. omega arith)
-    (λ c. omega arith)
+    (λ c. omega arith) (λ c. omega arith)
     (λ c.
     let put = c .before .before in
     laying-more (turn put .before .loop .inv) refl (turn put .loop-test .taken) (put .put-byte .ensures))

@@ -49,12 +49,7 @@ propagating-spec =
     μ-loop
     (λ c. seen-none (entry c .pre))
     -- the send
-    (λ c. omega arith)
-    (λ c. omega arith)
-    (λ c κs. omega arith)
-    (λ c. search needs)
-    (λ c. omega arith)
-    (λ c. omega arith)
+    (λ c. omega arith) (λ c. omega arith) (λ c κs. omega arith) (λ c. search needs) (λ c. omega arith) (λ c. omega arith)
     (λ c κs. omega arith)
     -- the count of the sender
     (λ c. omega (arith, known (c .before)))
@@ -64,9 +59,7 @@ propagating-spec =
     (λ c. omega arith)
     (λ c. skips-sent-before (next (c .before)) (c .if1 .taken))
     -- the receipt
-    (λ c. omega arith)
-    (λ c. omega arith)
-    (λ c κs. omega arith)
+    (λ c. omega arith) (λ c. omega arith) (λ c κs. omega arith)
     -- it is undelivered
     (λ c. omega arith)
     (λ c.

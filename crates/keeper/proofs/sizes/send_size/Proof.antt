@@ -15,8 +15,7 @@ pub send-size-spec : {M : Type 1} → statement M
 send-size-spec =
     tie.close
     (tie.spec
-    (λ c κs. search needs)
-    (λ c κs. search needs)
+    (λ c κs. search needs) (λ c κs. search needs)
     (λ c. omega (arith, messages-few _ (entry c .pre)))
     (λ c κs. omega (arith, processes-few _ (entry c .pre), messages-few _ (entry c .pre)))
     (λ c. search needs))

@@ -31,15 +31,10 @@ ceiling-spec =
     μ-loop
     (λ c. (c .before .pre, filling-none))
     -- the count, and whether the process holds
-    (λ c. omega arith)
-    (λ c κs. omega arith)
-    (λ c κs. omega arith)
+    (λ c. omega arith) (λ c κs. omega arith) (λ c κs. omega arith)
     (λ c κs. omega (arith, turn c .before .loop .inv .0 .positive _ (turn c .loop-test .taken)))
     -- its height
-    (λ c. omega arith)
-    (λ c. omega arith)
-    (λ c. omega arith)
-    (λ c. omega arith)
+    (λ c. omega arith) (λ c. omega arith) (λ c. omega arith) (λ c. omega arith)
     (λ c.
     let looked-up = c .before in
     let here = turn looked-up in

@@ -25,8 +25,7 @@ pub passes-over-spec : {M : Type 1} → statement M
 passes-over-spec =
     tie.close
     (tie.spec
-    (λ c κs. search needs)
-    (λ c κs. search needs)
+    (λ c κs. search needs) (λ c κs. search needs)
     (λ c κs. listed-entries (messages c) _ _ (entry c .pre .1 .0) (entry c .pre .1 .1))
     (λ c.
     let read = c .before in

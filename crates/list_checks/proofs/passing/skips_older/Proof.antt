@@ -53,8 +53,7 @@ skips-older-spec =
     (λ c κs. omega (arith, inside c))
     (λ c. search needs)
     -- the position
-    (λ c. omega arith)
-    (λ c. omega arith)
+    (λ c. omega arith) (λ c. omega arith)
     (λ c. omega (arith, c .shared-slice-known4 .given (turn c .before .loop .a)))
     -- the entry is listed, and its sender marked
     (λ c. sender-within (next (c .before)))

@@ -16,8 +16,7 @@ pub bad-position-spec : {M : Type 1} → statement M
 bad-position-spec =
     tie.close
     (tie.spec
-    (λ c κs. search needs)
-    (λ c κs. search needs)
+    (λ c κs. search needs) (λ c κs. search needs)
     (λ c κs. messages-read (entry c .pre) (c .before .message-count .ensures) refl (c .receipts .ensures) .receipts-size)
     (λ c.
     let read = c .before in

@@ -26,13 +26,8 @@ not-rising-spec =
     Inv-loop
     μ-loop
     (λ c. rising-none _)
-    (λ c. omega arith)
-    (λ c. omega arith)
-    (λ c. omega arith)
-    (λ c. omega arith)
-    (λ c. omega arith)
+    (λ c. omega arith) (λ c. omega arith) (λ c. omega arith) (λ c. omega arith) (λ c. omega arith)
     (λ c. falls-here (turn (c .before) .before .loop .inv) (turn (c .before) .loop-test .taken) (c .if1 .taken))
-    (λ c. omega arith)
-    (λ c. omega arith)
+    (λ c. omega arith) (λ c. omega arith)
     (λ c. rises-here (turn (c .before) .before .loop .inv) (turn (c .before) .loop-test .taken) (c .if1 .left))
     (λ c. rises-all (c .before .loop .inv) (c .loop-test .left)))

@@ -31,8 +31,7 @@ not-waiting-spec =
     μ-loop
     (λ c. record { sized = c .before .before .pre; searched = searched-none })
     -- the position
-    (λ c. omega arith)
-    (λ c. omega arith)
+    (λ c. omega arith) (λ c. omega arith)
     (λ c. omega (arith, c .shared-slice-known3 .given (c .before .before .loop .a)))
     (λ c. omega arith)
     -- it is m or above
@@ -40,15 +39,12 @@ not-waiting-spec =
     let turn = c .before .before in
     bad-beyond (turn .before .loop .inv) (turn .loop-test .taken) (c .if1 .taken))
     -- its entry goes elsewhere
-    (λ c. omega arith)
-    (λ c κs. omega arith)
+    (λ c. omega arith) (λ c κs. omega arith)
     (λ c.
     let here = c .before .before in
     bad-receiver (turn here .before .loop .inv) (turn here .loop-test .taken) (here .if1 .left) (c .before .u16-at .ensures) (c .if2 .taken))
     -- it was received
-    (λ c. omega arith)
-    (λ c. omega arith)
-    (λ c κs. omega arith)
+    (λ c. omega arith) (λ c. omega arith) (λ c κs. omega arith)
     (λ c.
     let to = c .before .before in
     let here = below to in

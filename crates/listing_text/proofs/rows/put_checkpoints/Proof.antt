@@ -36,23 +36,13 @@ put-checkpoints-spec =
     μ-loop
     (λ c. laying-none refl (c .before .before .pre .1))
     -- entry e of the two arrays
-    (λ c. omega arith)
-    (λ c. omega arith)
-    (λ c κs. omega arith)
-    (λ c. omega arith)
-    (λ c. omega arith)
-    (λ c. omega arith)
-    (λ c. omega arith)
-    (λ c κs. omega arith)
-    (λ c. search needs)
-    (λ c. omega arith)
-    (λ c. search needs)
+    (λ c. omega arith) (λ c. omega arith) (λ c κs. omega arith) (λ c. omega arith) (λ c. omega arith) (λ c. omega arith) (λ c. omega arith)
+    (λ c κs. omega arith) (λ c. search needs) (λ c. omega arith) (λ c. search needs)
     (λ c κs.
     let this = c .before .before .before in
     laying-room (turn this .before .loop .inv) (checkpoint-read _ _ _ (this .before .u16-at .ensures) (this .u16-at2 .ensures))
     (turn this .loop-test .taken))
-    (λ c. omega arith)
-    (λ c. omega arith)
+    (λ c. omega arith) (λ c. omega arith)
     (λ c.
     let put = c .before .before in
     let this = read put in

@@ -38,17 +38,14 @@ put-holds-spec =
     -- line k of the scratch
     (λ c. omega (arith, line-in _ _ (c .loop-test .taken)))
     (λ c. omega (arith, line-in _ _ (c .loop-test .taken)))
-    (λ c. search needs)
-    (λ c. omega arith)
+    (λ c. search needs) (λ c. omega arith)
     (λ c. omega (arith, line-in _ _ (c .before .before .loop-test .taken)))
-    (λ c. omega arith)
-    (λ c. omega arith)
+    (λ c. omega arith) (λ c. omega arith)
     (λ c. omega (arith, line-in _ _ (c .before .before .loop-test .taken)))
     (λ c κs.
     let turn = c .before .before .before in
     laying-room (turn .before .loop .inv .1) (ap (holdRow _) (line-part _ _ _)) (turn .loop-test .taken))
-    (λ c. omega arith)
-    (λ c. omega arith)
+    (λ c. omega arith) (λ c. omega arith)
     (λ c.
     let put = c .before .before in
     let inv = turn put .before .loop .inv in

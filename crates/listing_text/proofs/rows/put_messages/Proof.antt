@@ -33,18 +33,11 @@ put-messages-spec =
     μ-loop
     (λ c. laying-none refl (c .before .before .pre .1))
     -- entry e of the positions
-    (λ c. omega arith)
-    (λ c. omega arith)
-    (λ c. omega arith)
-    (λ c. omega arith)
-    (λ c κs. omega arith)
-    (λ c. search needs)
-    (λ c. omega arith)
+    (λ c. omega arith) (λ c. omega arith) (λ c. omega arith) (λ c. omega arith) (λ c κs. omega arith) (λ c. search needs) (λ c. omega arith)
     (λ c κs.
     let this = c .before .before in
     laying-room (this .before .before .loop .inv) (ap messageRow (this .u16-at .ensures)) (this .before .loop-test .taken))
-    (λ c. omega arith)
-    (λ c. omega arith)
+    (λ c. omega arith) (λ c. omega arith)
     (λ c.
     let put = c .before .before in
     let this = read put in

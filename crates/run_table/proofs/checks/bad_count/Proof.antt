@@ -27,8 +27,7 @@ bad-count-spec =
     Inv-loop
     μ-loop
     (λ c. searched-none)
-    (λ c. omega arith)
-    (λ c κs. omega arith)
+    (λ c. omega arith) (λ c κs. omega arith)
     -- it is 0
     (λ c.
     let read = c .before in
@@ -38,8 +37,7 @@ bad-count-spec =
     let read = c .before .before in
     searched-here (turn read .before .loop .inv) (turn read .loop-test .taken) (bad-is _ _ (read .u16-at .ensures) (outside-above _ _ (c .if2 .taken))))
     -- it is neither
-    (λ c. omega arith)
-    (λ c. omega arith)
+    (λ c. omega arith) (λ c. omega arith)
     (λ c.
     let read = c .before .before in
     let good = inside _ _ (c .before .if1 .left) (c .if2 .left) in

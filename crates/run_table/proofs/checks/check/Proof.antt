@@ -49,10 +49,7 @@ check-spec =
     (tie.spec
     -- 1
     (λ c. refused-short _ (c .if1 .taken))
-    (λ c κs. search needs)
-    (λ c. search needs)
-    (λ c κs. search needs)
-    (λ c. search needs)
+    (λ c κs. search needs) (λ c. search needs) (λ c κs. search needs) (λ c. search needs)
     -- 2
     (λ c. refused-processes (sizes (c .before)) (long (c .before) .if1 .left) (outside-zero _ _ (c .if2 .taken)))
     (λ c.
@@ -69,18 +66,8 @@ check-spec =
     let read = read (some few) in
     refused-length (sizes read) (long read .if1 .left) (limited (some few)) (few .if4 .left) (c .before .table-length .ensures) (c .if5 .taken))
     -- the parts, as they are lent on
-    (λ c κs. search needs)
-    (λ c κs. search needs)
-    (λ c. search needs)
-    (λ c. search needs)
-    (λ c. search needs)
-    (λ c. search needs)
-    (λ c. search needs)
-    (λ c. search needs)
-    (λ c. search needs)
-    (λ c. search needs)
-    (λ c. search needs)
-    (λ c κs. search needs)
+    (λ c κs. search needs) (λ c κs. search needs) (λ c. search needs) (λ c. search needs) (λ c. search needs) (λ c. search needs)
+    (λ c. search needs) (λ c. search needs) (λ c. search needs) (λ c. search needs) (λ c. search needs) (λ c κs. search needs)
     -- 5 to 9, and 23
     (λ c.
     let placed = placed c in

@@ -14,9 +14,7 @@ count-for-spec =
     tie.close
     (tie.spec
     -- the entry of the part
-    (λ c. search needs)
-    (λ c κs. search needs)
-    (λ c. search needs)
+    (λ c. search needs) (λ c κs. search needs) (λ c. search needs)
     -- the count of its process
     (λ c. search needs)
     (λ c κs. omega (arith, process-known _ _ _ (c .before .before .before .pre .1 .1)))

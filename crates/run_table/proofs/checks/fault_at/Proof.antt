@@ -63,9 +63,7 @@ fault-at-spec =
     (λ c κs. search needs)
     (λ c. past-stops (past-2 (c .before .before)) refl (sym (c .before .to-itself-at .ensures) ∙ c .if3 .taken))
     -- the send
-    (λ c. omega arith)
-    (λ c. omega arith)
-    (λ c κs. omega arith)
+    (λ c. omega arith) (λ c. omega arith) (λ c κs. omega arith)
     (λ c κs.
     let known = sender (receiver (c .before)) in
     (omega arith, (omega arith, sym (known .before .unknown-at .ensures) ∙ known .if1 .left)))
@@ -73,9 +71,7 @@ fault-at-spec =
     let read = c .before .before in
     past-stops (past-3 (read .before)) refl (not-below _ _ _ (c .before .count-for .ensures) (read .u16-at .ensures) (c .if4 .taken)))
     -- the receipt
-    (λ c. omega arith)
-    (λ c. omega arith)
-    (λ c κs. omega arith)
+    (λ c. omega arith) (λ c. omega arith) (λ c κs. omega arith)
     (λ c κs.
     let known = receiver (two (c .before)) in
     (omega arith, (omega arith, sym (known .before .unknown-at2 .ensures) ∙ known .if2 .left)))

@@ -31,8 +31,7 @@ first-fault-spec =
     (λ c.
     let first = entry c .pre .1 in
     record { within = first .within; found = first .quiet })
-    (λ c κs. omega arith)
-    (λ c. omega arith)
+    (λ c κs. omega arith) (λ c. omega arith)
     -- the first place stays, or is the message's
     (λ c. omega arith)
     (λ c.

@@ -13,8 +13,5 @@ unfolding toItselfAt processAt
 to-itself-at-spec =
     tie.close
     (tie.spec
-    (λ c. search needs)
-    (λ c κs. search needs)
-    (λ c. search needs)
-    (λ c κs. search needs)
+    (λ c. search needs) (λ c κs. search needs) (λ c. search needs) (λ c κs. search needs)
     (λ c. ap₂ eqb (c .before .u16-at .ensures) (c .u16-at2 .ensures)))

@@ -25,15 +25,12 @@ count-kept-spec =
     Inv-loop
     μ-loop
     (λ c. totalling-none)
-    (λ c. omega arith)
-    (λ c κs. omega arith)
-    (λ c κs. omega arith)
+    (λ c. omega arith) (λ c κs. omega arith) (λ c κs. omega arith)
     -- one more process
     (λ c.
     let read = c .before in
     omega (arith, totalling-adds (turn read .before .loop .inv) (read .u16-at .ensures) (c .count-kept-of .ensures)))
-    (λ c. omega arith)
-    (λ c. omega arith)
+    (λ c. omega arith) (λ c. omega arith)
     (λ c.
     let read = c .before in
     totalling-more (turn read .before .loop .inv) (read .u16-at .ensures) (c .count-kept-of .ensures) (turn read .loop-test .taken) (omega arith))

@@ -27,9 +27,7 @@ count-kept-of-spec =
     (λ c. tallying-first (c .next-kept .ensures))
     -- one more
     (λ c. omega (arith, tallied-small (c .before .loop .inv .tallied)))
-    (λ c. omega arith)
-    (λ c κs. omega arith)
-    (λ c. omega arith)
+    (λ c. omega arith) (λ c κs. omega arith) (λ c. omega arith)
     (λ c.
     let turn = c .before in
     tallying-next (turn .before .loop .inv) (turn .loop-test .taken) (c .next-kept2 .ensures))

@@ -28,8 +28,7 @@ next-kept-spec =
     Inv-loop
     μ-loop
     (λ c. search-begins (c .before .pre .1 .1))
-    (λ c κs. omega arith)
-    (λ c. omega arith)
+    (λ c κs. omega arith) (λ c. omega arith)
     -- a number before the start
     (λ c. omega arith)
     (λ c.

@@ -38,10 +38,7 @@ count-kept-spec =
     let given = entry c .pre in
     (record { holds = given .0; known = given .1; lowest-is = c .lowest-line .ensures }, tallied-none))
     -- the message
-    (λ c. omega arith)
-    (λ c κs. omega arith)
-    (λ c. search needs)
-    (λ c. search needs)
+    (λ c. omega arith) (λ c κs. omega arith) (λ c. search needs) (λ c. search needs)
     (λ c. receiver-small (c .before .before .loop .inv .0) (c .before .loop-test .taken) (c .u16-at .ensures))
     (λ c κs. may-ask (c .before .before .loop .inv .0) (c .before .loop-test .taken) (c .u16-at .ensures))
     (λ c. omega arith)

@@ -35,15 +35,12 @@ crosses-line-spec =
     μ-loop
     (λ c. searched-none)
     -- received at or before the line
-    (λ c. omega arith)
-    (λ c κs. omega arith)
-    (λ c. omega arith)
+    (λ c. omega arith) (λ c κs. omega arith) (λ c. omega arith)
     (λ c.
     let read = c .before in
     searched-more (turn read .before .loop .inv) (turn read .loop-test .taken) (received-before _ _ (read .number-in-line .ensures) (omega arith)))
     -- sent after it
-    (λ c κs. omega arith)
-    (λ c. omega arith)
+    (λ c κs. omega arith) (λ c. omega arith)
     (λ c.
     let sent = c .before in
     let read = received sent in

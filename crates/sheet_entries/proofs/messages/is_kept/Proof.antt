@@ -21,24 +21,14 @@ is-kept-spec =
     tie.close
     (tie.spec
     -- the receipt
-    (λ c. search needs)
-    (λ c κs. search needs)
-    (λ c. search needs)
-    (λ c. search needs)
-    (λ c. search needs)
-    (λ c κs. search needs)
+    (λ c. search needs) (λ c κs. search needs) (λ c. search needs) (λ c. search needs) (λ c. search needs) (λ c κs. search needs)
     -- undelivered; received at or before the lowest line
     (λ c. undelivered-kept (entry (c .before) .pre) (c .before .u16-at2 .ensures) (c .if1 .taken))
     (λ c.
     let read = c .before .before in
     old-kept (entry read .pre) (read .u16-at2 .ensures) (c .before .if1 .left) (c .if2 .taken))
     -- the send
-    (λ c. search needs)
-    (λ c κs. search needs)
-    (λ c. search needs)
-    (λ c. search needs)
-    (λ c. search needs)
-    (λ c κs. search needs)
+    (λ c. search needs) (λ c κs. search needs) (λ c. search needs) (λ c. search needs) (λ c. search needs) (λ c κs. search needs)
     -- by the lines
     (λ c κs. omega arith)
     (λ c.

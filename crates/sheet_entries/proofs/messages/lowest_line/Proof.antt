@@ -30,11 +30,7 @@ lowest-line-spec =
     Inv-loop
     μ-loop
     (λ c. (c .before .pre, filling-none))
-    (λ c κs. omega arith)
-    (λ c. omega arith)
-    (λ c. omega arith)
-    (λ c. omega arith)
-    (λ c. omega arith)
+    (λ c κs. omega arith) (λ c. omega arith) (λ c. omega arith) (λ c. omega arith) (λ c. omega arith)
     (λ c.
     let inv = c .before .before .loop .inv in
     let l = c .before .loop-test .taken in

@@ -40,14 +40,12 @@ put-column-spec =
     let given = c .before .before .before .pre in
     (given .0, given .1 .0, rows-none _ (given .1 .1)))
     -- the numbers of a process
-    (λ c. omega arith)
-    (λ c κs. omega arith)
+    (λ c. omega arith) (λ c κs. omega arith)
     (λ c κs.
     let inv = turn c .before .loop .inv in
     let l = turn c .loop-test .taken in
     (inv .0, (l, rw (c .u16-at .ensures) (row-room _ (inv .2) l))))
-    (λ c. omega arith)
-    (λ c. omega arith)
+    (λ c. omega arith) (λ c. omega arith)
     (λ c.
     let put = c .before .before in
     let turn = turn (counted put) in

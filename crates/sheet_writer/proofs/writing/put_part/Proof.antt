@@ -42,8 +42,7 @@ put-part-spec =
     let told = c .before .before in
     rw (← sizes-are (told .part .given .1)) at (entry (of-sizes told) .pre .room))
     -- an array of the kept checkpoints
-    (λ c. search needs)
-    (λ c κs. search needs)
+    (λ c. search needs) (λ c κs. search needs)
     (λ c κs.
     let n = of-column c .process-count .ensures in
     let ready = entry (of-column c) .pre in
@@ -51,10 +50,7 @@ put-part-spec =
     let numbers = column-is (ready .given) n (c .counts .ensures) (c .before .before .before .part2 .given .1) in
     (holds-lines (ready .given) n, (counts, rw numbers (ready .room))))
     -- the positions
-    (λ c. search needs)
-    (λ c κs. search needs)
-    (λ c κs. search needs)
-    (λ c κs. search needs)
+    (λ c. search needs) (λ c κs. search needs) (λ c κs. search needs) (λ c κs. search needs)
     (λ c κs.
     let sends = c .before .before in
     let n = of-positions sends .process-count .ensures in

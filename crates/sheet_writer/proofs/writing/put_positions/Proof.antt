@@ -42,10 +42,7 @@ put-positions-spec =
     let given = entry c .pre in
     (record { holds = given .0; known = given .1 .0; lowest-is = c .lowest-line .ensures }, select-none _ (given .1 .1)))
     -- the message
-    (λ c. omega arith)
-    (λ c κs. omega arith)
-    (λ c. search needs)
-    (λ c. search needs)
+    (λ c. omega arith) (λ c κs. omega arith) (λ c. search needs) (λ c. search needs)
     (λ c. receiver-small (c .before .before .loop .inv .0) (c .before .loop-test .taken) (c .u16-at .ensures))
     (λ c κs. may-ask (c .before .before .loop .inv .0) (c .before .loop-test .taken) (c .u16-at .ensures))
     (λ c. omega arith)

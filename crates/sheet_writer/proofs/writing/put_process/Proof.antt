@@ -37,13 +37,10 @@ put-process-spec =
     (λ c κs. omega arith)
     (λ c. laying-first (c .next-kept .ensures) (entry c .pre .1 .1))
     -- the number
-    (λ c. omega arith)
-    (λ c κs. omega arith)
+    (λ c. omega arith) (λ c κs. omega arith)
     (λ c κs. laying-room (turn c .before .loop .inv) (turn c .loop-test .taken))
     -- the next checkpoint
-    (λ c. omega arith)
-    (λ c κs. omega arith)
-    (λ c. omega arith)
+    (λ c. omega arith) (λ c κs. omega arith) (λ c. omega arith)
     (λ c.
     let number = put c .before in
     laying-more (turn number .before .loop .inv) (turn number .loop-test .taken) (number .number-of .ensures) (put c .put-number .ensures)

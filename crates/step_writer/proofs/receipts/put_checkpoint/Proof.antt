@@ -9,6 +9,5 @@ pub put-checkpoint-spec : {M : Type 1} → statement M
 put-checkpoint-spec =
     tie.close
     (tie.spec
-    (λ c κs. search needs)
-    (λ c. search needs)
+    (λ c κs. search needs) (λ c. search needs)
     (λ c. checkpoint-put _ _ _ _ (c .before .before .put-received .ensures)))

@@ -9,6 +9,5 @@ pub put-receipt-spec : {M : Type 1} → statement M
 put-receipt-spec =
     tie.close
     (tie.spec
-    (λ c κs. search needs)
-    (λ c. search needs)
+    (λ c κs. search needs) (λ c. search needs)
     (λ c. receipt-put _ _ _ _ (c .before .before .put-received .ensures)))

@@ -20,14 +20,9 @@ put-receipts-spec =
     tie.close
     (tie.spec
     -- the copy
-    (λ c. search needs)
-    (λ c κs. search needs)
+    (λ c. search needs) (λ c κs. search needs)
     -- its place is lent
-    (λ c. search needs)
-    (λ c. search needs)
-    (λ c. search needs)
-    (λ c. search needs)
-    (λ c. search needs)
+    (λ c. search needs) (λ c. search needs) (λ c. search needs) (λ c. search needs) (λ c. search needs)
     (λ c κs a l. rw (length-take, length-drop) (omega (arith, entry (copied c) .pre .1 .0 a l, copied c .copy-numbers .kept)))
     -- all are set
     (λ c. search needs)

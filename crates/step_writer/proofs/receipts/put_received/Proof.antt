@@ -54,9 +54,7 @@ pub put-received-spec : {M : Type 1} → statement M
 put-received-spec =
     tie.close
     (tie.spec
-    (λ c κs. search needs)
-    (λ c κs. search needs)
-    (λ c κs. search needs)
+    (λ c κs. search needs) (λ c κs. search needs) (λ c κs. search needs)
     -- the count that grows
     (λ c. search needs)
     (λ c. omega (arith, known c .n-is, known c .n-few))
@@ -71,8 +69,7 @@ put-received-spec =
     omega (arith, room here, front here, known here .n-few, known here .m-few))
     -- the sends
     (λ c κs. omega (arith, known (read (c .before .before .before)) .n-few))
-    (λ c κs. search needs)
-    (λ c. search needs)
+    (λ c κs. search needs) (λ c. search needs)
     (λ c κs.
     let here = read (head (c .before)) in
     omega (arith, ap length (c .sends .ensures), known here .sends-size, room here))

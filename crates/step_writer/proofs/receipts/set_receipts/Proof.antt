@@ -28,15 +28,13 @@ set-receipts-spec =
     μ-loop
     (λ c. setting-none (c .before .before .pre))
     -- the position
-    (λ c. search needs)
-    (λ c. search needs)
+    (λ c. search needs) (λ c. search needs)
     (λ c. omega (arith, c .shared-slice-known2 .given (c .before .before .loop .a)))
     -- its receipt
     (λ c. omega (arith, turn c .before .loop .inv .listed _ (turn c .loop-test .taken)))
     (λ c. omega (arith, turn c .before .loop .inv .listed _ (turn c .loop-test .taken)))
     (λ c κs. omega (arith, turn c .before .loop .inv .listed _ (turn c .loop-test .taken)))
-    (λ c. omega arith)
-    (λ c. omega arith)
+    (λ c. omega arith) (λ c. omega arith)
     (λ c.
     let put = c .before .before in
     let here = turn (put .before) in

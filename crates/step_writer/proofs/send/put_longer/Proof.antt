@@ -14,12 +14,7 @@ pub put-longer-spec : {M : Type 1} → statement M
 put-longer-spec =
     tie.close
     (tie.spec
-    (λ c. search needs)
-    (λ c κs. search needs)
-    (λ c. search needs)
-    (λ c. search needs)
-    (λ c κs. search needs)
-    (λ c. search needs)
+    (λ c. search needs) (λ c κs. search needs) (λ c. search needs) (λ c. search needs) (λ c κs. search needs) (λ c. search needs)
     (λ c.
     let added = c .before .before in
     longer-put (record { room = search needs; array = copied added .copy-numbers .ensures; entry = added .put-entry .ensures })))

@@ -44,9 +44,7 @@ pub put-send-spec : {M : Type 1} → statement M
 put-send-spec =
     tie.close
     (tie.spec
-    (λ c κs. search needs)
-    (λ c κs. search needs)
-    (λ c κs. search needs)
+    (λ c κs. search needs) (λ c κs. search needs) (λ c κs. search needs)
     -- the checkpoint that it is sent after
     (λ c. search needs)
     (λ c. omega (arith, known c .n-is, known c .n-few))

@@ -14,9 +14,7 @@ u16-or-zero-spec =
     -- beyond the end
     (λ c. sym (numberAt-beyond 2 _ _ (c .if1 .taken)))
     -- at its last byte
-    (λ c. search needs)
-    (λ c. search needs)
-    (λ c κs. search needs)
+    (λ c. search needs) (λ c. search needs) (λ c κs. search needs)
     (λ c. c .u16-of .ensures ∙ sym (u16At-last _ _ (omega arith)))
     -- within
     (λ c κs. search needs)

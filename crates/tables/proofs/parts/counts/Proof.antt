@@ -17,8 +17,7 @@ counts-spec =
     (tie.spec
     (λ c κs. search needs)
     (λ c κs. omega (arith, processes-few _ (entry c .pre)))
-    (λ c. search needs)
-    (λ c. search needs)
+    (λ c. search needs) (λ c. search needs)
     (λ c. omega (arith, whole _ (entry (c .before) .pre)))
     (λ c.
     let read = c .before .before in

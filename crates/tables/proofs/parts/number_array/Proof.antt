@@ -29,12 +29,7 @@ number-array-spec =
     μ-loop
     (λ c. (c .pre, filling-none))
     -- the number
-    (λ c. omega arith)
-    (λ c. omega arith)
-    (λ c. omega arith)
-    (λ c. omega arith)
-    (λ c. omega arith)
-    (λ c. omega arith)
+    (λ c. omega arith) (λ c. omega arith) (λ c. omega arith) (λ c. omega arith) (λ c. omega arith) (λ c. omega arith)
     (λ c.
     let here = turn c in
     (here .before .loop .inv .0, filling-more (here .before .loop .inv .1) (here .loop-test .taken) refl))

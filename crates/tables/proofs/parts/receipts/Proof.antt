@@ -15,8 +15,7 @@ pub receipts-spec : {M : Type 1} → statement M
 receipts-spec =
     tie.close
     (tie.spec
-    (λ c κs. search needs)
-    (λ c κs. search needs)
+    (λ c κs. search needs) (λ c κs. search needs)
     (λ c κs. omega (arith, processes-few _ (entry c .pre), messages-few _ (entry c .pre)))
     (λ c. omega (arith, whole _ (entry (c .before) .pre)))
     (λ c. omega (arith, whole _ (entry (c .before) .pre)))

@@ -24,8 +24,7 @@ sends-spec =
     (λ c κs.
     let accepted = entry (sized c) .pre in
     omega (arith, processes-few _ accepted, messages-few _ accepted))
-    (λ c. search needs)
-    (λ c. search needs)
+    (λ c. search needs) (λ c. search needs)
     (λ c. omega (arith, whole _ (entry (sized (c .before)) .pre)))
     (λ c.
     let read = c .before .before in

@@ -33,7 +33,6 @@ pub is-guarded-spec : {M : Type 1} → statement M
 is-guarded-spec =
     tie.close
     (tie.spec
-    (λ c κs. search needs)
-    (λ c κs. search needs)
+    (λ c κs. search needs) (λ c κs. search needs)
     (λ c. both (c .before .before .all-are .ensures) (c .before .if1 .taken) (c .all-are2 .ensures))
     (λ c. first-changed (c .before .all-are .ensures) (c .if1 .left)))
