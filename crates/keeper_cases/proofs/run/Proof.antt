@@ -1,4 +1,4 @@
--- `run` ends: each line starts beyond the one before it.
+-- `run` ends. The invariant: the buffers keep their lengths. The measure is what is left of the script: each line starts beyond the one before it.
 -- Assumes nothing.
 use borrow.Author.Needs.{needs}
 use mathlib.Core.Path.{_≡_}

@@ -1,4 +1,5 @@
--- `checksum` meets its contract: the loop adds one byte after another, and stays below its modulus.
+-- `checksum` meets its contract. The invariant: the sum is that of the first i bytes, below its modulus (`Summing`). The measure is the number of bytes that
+-- are left.
 -- Assumes nothing.
 use borrow.Author.Needs.{needs}
 use native.Mathlib.Omega.{arith}

@@ -1,4 +1,4 @@
--- `copy` meets its contract: the loop writes one byte after another.
+-- `copy` meets its contract. The invariant: the first i bytes are copied and the others as they were. The measure is the number of bytes that are left.
 -- Assumes nothing.
 use borrow.Author.Needs.{needs}
 use mathlib.Core.Path.{refl}

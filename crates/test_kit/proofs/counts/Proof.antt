@@ -1,4 +1,5 @@
--- `counts` meets its contract: the loop writes one count after another.
+-- `counts` meets its contract. The invariant: the first p counts are written, one after another (`Changing`). The measure is the number of those that are
+-- left.
 -- Assumes nothing.
 use borrow.Author.Needs.{needs}
 use native.Mathlib.Omega.{arith}

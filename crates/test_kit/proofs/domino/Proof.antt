@@ -1,4 +1,4 @@
--- `domino` meets its contract: the loop writes one message after another.
+-- `domino` meets its contract. The invariant: the first k messages are written, one after another (`Changing`). The measure is the number of those left.
 -- Assumes nothing.
 use borrow.Author.Needs.{needs}
 use native.Mathlib.Omega.{arith}

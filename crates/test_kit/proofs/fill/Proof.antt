@@ -1,4 +1,4 @@
--- `fill` meets its contract: the loop writes one byte after another.
+-- `fill` meets its contract. The invariant: the first i bytes are written and the others as they were. The measure is the number of bytes that are left.
 -- Assumes nothing.
 use mathlib.Core.Path.{refl}
 use Prim.Native.Nat.{_-_, _≤_}

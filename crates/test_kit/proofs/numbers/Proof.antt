@@ -1,4 +1,4 @@
--- `numbers` goes on two bytes at a time.
+-- `numbers` ends. The invariant: it stands at most one byte beyond the end, since it goes on two at a time. The measure is the number of bytes that are left.
 -- Assumes nothing.
 use borrow.Author.Needs.{needs}
 use Prim.Native.Nat.{_+_, _-_, _≤_}

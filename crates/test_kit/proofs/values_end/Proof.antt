@@ -1,4 +1,5 @@
--- `values_end` meets its contract: the loop leaves at the first other value, and at the end of the buffer.
+-- `values_end` meets its contract. The invariant: the bytes from the start up to i have the value (`Tested`). The measure is the number of bytes up to the
+-- end.
 -- Assumes nothing.
 use native.Mathlib.Omega.{arith}
 use Prim.Native.Nat.{_-_}

@@ -1,4 +1,5 @@
--- `ceilings_of` meets its contract: the loop takes one ceiling after another.
+-- `ceilings_of` meets its contract. The invariant: the first k ceilings are taken, and the next one is known where the line has no further number
+-- (`Lending`). The measure is the number of ceilings that are left.
 -- Assumes nothing.
 use borrow.Author.Needs.{needs}
 use native.Mathlib.Omega.{arith}

@@ -1,4 +1,4 @@
--- `number_at` stays within the text.
+-- `number_at` meets its contract. The invariant: it stands within the text. The measure is the number of bytes that are left.
 -- Assumes nothing.
 use borrow.Author.Needs.{needs}
 use Prim.Native.Nat.{_-_, _≤_}

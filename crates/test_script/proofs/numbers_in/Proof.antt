@@ -1,4 +1,4 @@
--- `numbers_in` stays within the text, and takes sixteen numbers at most.
+-- `numbers_in` meets its contract. The invariant: it stands within the text, and has taken sixteen numbers at most. The measure is the number of bytes left.
 -- Assumes nothing.
 use borrow.Author.Needs.{needs}
 use mathlib.Core.Path.{_≡_}

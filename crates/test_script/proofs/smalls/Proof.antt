@@ -1,4 +1,4 @@
--- `smalls` meets its contract: the loop takes one number after another.
+-- `smalls` meets its contract. The invariant: the first i numbers are taken. The measure is the number of those that are left.
 -- Assumes nothing.
 use borrow.Author.Needs.{needs}
 use mathlib.Core.Path.{refl}
