@@ -63,15 +63,21 @@ program: need-rt
 	    { line[++n] = $$0 } \
 	    /^rt: .* proved \([0-9]/ { print >"/dev/stderr" }'
 
-# What needs neither the archives nor a program is tested while the archives are proved, on the other core; then what needs them.
+# Two lanes, a core each, and rt ci alone behind them. What needs neither the archives nor a program is tested while the
+# archives are proved; then what needs them, in two lanes of about the same length, of which one alone calls rt.
 APART = format version-tests refusal-tests reference-tests report-tests
-TESTS = rust-lint binding-tests tools-tests examples-tests differential-tests fuzz-replay corpus-tests c-tests install-test
+LANE = differential-tests c-tests
+TESTS = rust-lint binding-tests tools-tests examples-tests fuzz-replay corpus-tests install-test
+# $(call beside,log,targets,others): the targets, with their output in a log, beside the others; both have to pass.
+define beside
+@mkdir -p target/tests
+@$(THIS_MAKE) --no-print-directory $(2) >target/tests/$(1).log 2>&1 & beside=$$!; \
+    $(THIS_MAKE) --no-print-directory $(3); others=$$?; \
+    wait $$beside; beside=$$?; cat target/tests/$(1).log; test $$others -eq 0 && test $$beside -eq 0
+endef
 test: need-rt need-gcc need-cargo
-	@mkdir -p target/tests
-	@$(THIS_MAKE) --no-print-directory $(APART) >target/tests/apart.log 2>&1 & apart=$$!; \
-	    $(THIS_MAKE) --no-print-directory archives; archives=$$?; \
-	    wait $$apart; apart=$$?; cat target/tests/apart.log; test $$archives -eq 0 && test $$apart -eq 0
-	@$(THIS_MAKE) --no-print-directory $(TESTS)
+	$(call beside,apart,$(APART),archives)
+	$(call beside,lane,$(LANE),$(TESTS))
 	@rt ci
 
 check: need-rt

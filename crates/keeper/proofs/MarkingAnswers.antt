@@ -11,17 +11,17 @@ use borrow.Author.Tests.{le-ltb}
 use lib.ListN.{length}
 use Rattle.consistency.specs.Ceilings.{Ceiling}
 use Rattle.consistency.specs.Lowering.{lineUnder}
-use Rattle.keeper.proofs.AnswerLaws.{answer-past, call-answered, call-refused, call-short, sixteen}
-use Rattle.keeper.proofs.LineAnswers.{ceilings-accepted, line-judged}
-use Rattle.keeper.specs.Answers.{Yields}
-use Rattle.keeper.specs.Calls.{HoldsLatest, YieldsByMarking, lineAnswer, lineUnderAnswer, markedLineAnswer, marksAfter}
+use Rattle.calls.proofs.AnswerLaws.{answer-past, call-answered, call-refused, call-short, sixteen}
+use Rattle.calls.proofs.LineAnswers.{ceilings-accepted, line-judged, marks-unchanged}
+use Rattle.calls.specs.Answers.{Yields}
+use Rattle.calls.specs.Calls.{HoldsLatest, YieldsByMarking, lineAnswer, lineUnderAnswer, markedLineAnswer, marksAfter}
 use Rattle.marked_line.specs.Marking.{PutByMarking}
 use Rattle.marking.proofs.SameLine.{same-line}
 use Rattle.marking.specs.Procedure.{EndsWith}
 use Rattle.marking.specs.SameLine.{SameLine}
 use Rattle.marks.specs.Room.{cleared, marksSize}
-use Rattle.refusals.proofs.RefusalLaws.{QuietCall, quiet-ceilings}
-use Rattle.refusals.specs.CallChecks.{lineUnderChecks, markedLineChecks}
+use Rattle.call_checks.proofs.RefusalLaws.{QuietCall, quiet-ceilings}
+use Rattle.call_checks.specs.CallChecks.{lineUnderChecks, markedLineChecks}
 use Rattle.tables.proofs.AcceptLaws.{facts}
 use Rattle.tables.proofs.CheckLaws.{areRefusals, passed, quiet-none}
 use Rattle.tables.specs.Checks.{firstCaught}
@@ -37,19 +37,13 @@ MeetsByMarking table ceilings room number marks marks′ buffer buffer′ writte
     × (Yields (markedLineAnswer table ceilings (length marks) room) number buffer buffer′ written written′
     × (number ≡ 0 → HoldsLatest table ceilings buffer′)))
 
--- under a refusal the marks are as they were
-unchanged : (r : ℕ) (table marks : List ℕ) → (r ≡ 0 → ⊥) → marks ≡ marksAfter r table marks
-unfolding marksAfter
-unchanged zero table marks nonzero = absurd (nonzero refl)
-unchanged (suc n) table marks nonzero = refl
-
 module _ (table ceilings : List ℕ) (room : ℕ) (marks : List ℕ) {r : ℕ} {buffer : List ℕ} {written : ℕ} where
   pub marked-refused : r ≡ firstCaught (markedLineChecks table ceilings (length marks)) → (r ≡ 0 → ⊥)
       → MeetsByMarking table ceilings room r marks marks buffer buffer written written
   unfolding markedLineAnswer lineAnswer
   marked-refused e nonzero =
       let line = call-refused _ _ room e nonzero in
-      (record { roots = _; by-marking = λ none. absurd (nonzero (e ∙ none)); yields = line .0 }, (unchanged _ table marks nonzero, line))
+      (record { roots = _; by-marking = λ none. absurd (nonzero (e ∙ none)); yields = line .0 }, (marks-unchanged _ table marks nonzero, line))
 
 -- none of them catches
 pub marked-ceiling : {table ceilings : List ℕ} (bytes : ℕ) → QuietCall table (markedLineChecks table ceilings bytes) → Ceiling (decode table) ceilings
@@ -67,7 +61,7 @@ module _ {table ceilings : List ℕ} (marks : List ℕ) (q : QuietCall table (ma
   unfolding markedLineAnswer lineAnswer
   marked-short found short =
       let line = call-short (line-judged q (marked-ceiling _ q)) found short in
-      (record { roots = _; by-marking = λ _. ends; yields = line .0 }, (unchanged 16 table marks sixteen, line))
+      (record { roots = _; by-marking = λ _. ends; yields = line .0 }, (marks-unchanged 16 table marks sixteen, line))
 
   pub marked-answered : {size : ℕ} → size ≡ 2 * processCount (decode table) → {room : ℕ} {marks′ buffer buffer′ : List ℕ} {written : ℕ}
       → size ≤ room → marks′ ≡ cleared (marksSize (decode table)) marks → PutByMarking (decode table) ceilings buffer buffer′

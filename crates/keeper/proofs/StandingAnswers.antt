@@ -16,14 +16,14 @@ use Rattle.consistency.specs.Ceilings.{Ceiling}
 use Rattle.consistency.specs.Lines.{AtOrBelow, Line, asLine}
 use Rattle.steps.proofs.StepLaws.{rising}
 use Rattle.steps.specs.Steps.{notRising}
-use Rattle.keeper.proofs.AnswerLaws.{Judged, answer-past, answered, call-answered, call-short, put-in-front, refused, sixteen}
-use Rattle.keeper.proofs.LineAnswers.{line-judged, linePromise, numbers-read, under-past}
-use Rattle.keeper.specs.Answers.{Yields}
-use Rattle.keeper.specs.Calls.{HoldsStanding, TellsTogether, lineAnswer, lineUnderAnswer, standTogetherAnswer, standingBytes}
+use Rattle.calls.proofs.AnswerLaws.{Judged, answer-past, answered, call-answered, call-short, put-in-front, refused, sixteen}
+use Rattle.calls.proofs.LineAnswers.{line-judged, linePromise, numbers-read, under-past}
+use Rattle.calls.specs.Answers.{Yields}
+use Rattle.calls.specs.Calls.{HoldsStanding, TellsTogether, lineAnswer, lineUnderAnswer, standTogetherAnswer, standingBytes}
 use Rattle.named_checkpoints.proofs.NamedLaws.{line-found, misses-found, parallel, place-inside}
 use Rattle.named_checkpoints.specs.Lists.{Parallel}
-use Rattle.refusals.proofs.RefusalLaws.{QuietCall, own-left, quiet-by}
-use Rattle.refusals.specs.CallChecks.{standTogetherChecks}
+use Rattle.call_checks.proofs.RefusalLaws.{QuietCall, own-left, quiet-by}
+use Rattle.call_checks.specs.CallChecks.{standTogetherChecks}
 use Rattle.tables.proofs.AcceptLaws.{facts}
 use Rattle.tables.proofs.CheckLaws.{areRefusals, caughtBy}
 use Rattle.tables.proofs.ListLaws.{or-false-left, or-false-right}

@@ -15,10 +15,10 @@ use Rattle.steps.proofs.StepLaws.{receipt-of-nothing, receipt-positions, receip
 use Rattle.steps.proofs.StepLaws.{rollback-processes, rollback-step, send-limits, send-messages, send-processes, send-step, step-orderly}
 use Rattle.steps.specs.Steps.{Step, afterCheckpoint, afterReceipt, afterRollback, afterSend, checkpoint, receiptChecks, receive, rollback, send}
 use Rattle.steps.specs.Steps.{sendChecks, step}
-use Rattle.keeper.proofs.AnswerLaws.{Judged, Promise, put-in-front}
-use Rattle.refusals.proofs.RefusalLaws.{Quiet, QuietCall, quiet-by, quiet-receipt}
-use Rattle.keeper.specs.Calls.{HoldsTable}
-use Rattle.refusals.specs.CallChecks.{checkpointCallChecks, receiptCallChecks, sendCallChecks}
+use Rattle.calls.proofs.AnswerLaws.{Judged, Promise, put-in-front}
+use Rattle.call_checks.proofs.RefusalLaws.{Quiet, QuietCall, quiet-by, quiet-receipt}
+use Rattle.calls.specs.Calls.{HoldsTable}
+use Rattle.call_checks.specs.CallChecks.{checkpointCallChecks, receiptCallChecks, sendCallChecks}
 use Rattle.tables.proofs.AcceptLaws.{accepted-encode, facts, orderly, reread, rewritten}
 use Rattle.tables.proofs.CheckLaws.{caughtBy, passed, quiet-none}
 use Rattle.tables.proofs.CodingLaws.{AreBytes}

@@ -22,13 +22,13 @@ use Rattle.holder_lines.specs.Scratch.{HoldsLines, linesIn}
 use Rattle.keep_sheet.proofs.FewLaws.{kept-few, sheet-length}
 use Rattle.keep_sheet.specs.Sheet.{Checkpoint, keptCheckpoints, keptMessages, sheet}
 use Rattle.consistency.specs.Ceilings.{holderLine, holderLines}
-use Rattle.keeper.proofs.AnswerLaws.{answered, put-in-front, refused, too-short}
-use Rattle.refusals.proofs.RefusalLaws.{Quiet, long-scratch, table-caught}
-use Rattle.keeper.proofs.SheetBytes.{read-checkpoint, read-kept, read-logged, read-position, read-process}
-use Rattle.keeper.proofs.SheetAnswer.{scratch-filled}
-use Rattle.keeper.specs.Answers.{Yields, answer, bufferAfter, lengthAfter, numberOf, unless}
-use Rattle.keeper.specs.Calls.{keepSheetAnswer, scratchAfter}
-use Rattle.refusals.specs.CallChecks.{keepSheetChecks}
+use Rattle.calls.proofs.AnswerLaws.{answered, put-in-front, refused, too-short}
+use Rattle.call_checks.proofs.RefusalLaws.{Quiet, long-scratch, table-caught}
+use Rattle.calls.proofs.SheetBytes.{read-checkpoint, read-kept, read-logged, read-position, read-process}
+use Rattle.calls.proofs.SheetAnswer.{scratch-filled}
+use Rattle.calls.specs.Answers.{Yields, answer, bufferAfter, lengthAfter, numberOf, unless}
+use Rattle.calls.specs.Calls.{keepSheetAnswer, scratchAfter}
+use Rattle.call_checks.specs.CallChecks.{keepSheetChecks}
 use Rattle.listing_text.proofs.RowLaws.{line-in}
 use Rattle.listing_text.proofs.ShareLaws.{share-rounded}
 use Rattle.listing_text.proofs.SizeLaws.{listing-few}

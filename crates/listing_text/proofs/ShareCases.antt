@@ -6,7 +6,8 @@ use Rattle.consistency.specs.Ceilings.{ceilingOf, lineOf, single}
 use Rattle.consistency.specs.Lowering.{isOrphan, lineUnder, lower, pass, passes}
 use Rattle.consistency.specs.Ceilings.{holderLine}
 use Rattle.keep_sheet.specs.Sheet.{keepsCheckpoint, keptCheckpoints}
-use Rattle.keeper.specs.Cases.{caseTable, likeA, tableB, tableC, tableD}
+use Rattle.call_checks.specs.OrderCases.{caseTable}
+use Rattle.calls.specs.Cases.{likeA, tableB, tableC, tableD}
 use Rattle.listing_text.specs.Listing.{share}
 use Rattle.rounding.specs.Rounding.{evenOf, roundedQuotient}
 use Rattle.listing_text.specs.ShareCases.{allPortions, allShares, portions, shareCases}

@@ -6,7 +6,7 @@ use lib.ListN.{length}
 use Rattle.consistency.specs.Ceilings.{recoveryLine}
 use Rattle.keep_sheet.specs.Sheet.{Checkpoint, keptCheckpoints, keptMessages}
 use Rattle.consistency.specs.Ceilings.{holderLine}
-use Rattle.keeper.specs.Answers.{Answer, answer}
+use Rattle.calls.specs.Answers.{Answer, answer}
 use Rattle.rounding.specs.Rounding.{Rounded, roundedQuotient}
 use Rattle.text_writer.specs.Text.{each, row}
 use Rattle.tables.specs.Checks.{tableRefusal}

@@ -3,7 +3,8 @@ use mathlib.Core.Bool.{Bool, true, _&&_}
 use mathlib.Core.List.{List, [], _∷_}
 use Prim.Native.Nat.{ℕ, _*_}
 use lib.Dec.{eqb}
-use Rattle.keeper.specs.Cases.{caseTable, tableA, tableB, tableC, tableD}
+use Rattle.call_checks.specs.OrderCases.{caseTable}
+use Rattle.calls.specs.Cases.{tableA, tableB, tableC, tableD}
 use Rattle.listing_text.specs.Listing.{share}
 use Rattle.rounding.specs.Rounding.{roundedQuotient}
 use Rattle.tables.specs.Format.{decode}

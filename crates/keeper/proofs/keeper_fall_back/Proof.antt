@@ -3,10 +3,10 @@
 use borrow.Author.Needs.{needs}
 use native.Mathlib.Omega.{arith}
 use denote.Ref.{now}
-use Rattle.keeper.proofs.AnswerLaws.{call-answered, call-refused, call-short}
-use Rattle.refusals.proofs.RefusalLaws.{QuietCall, quiet-table}
+use Rattle.calls.proofs.AnswerLaws.{call-answered, call-refused, call-short}
+use Rattle.call_checks.proofs.RefusalLaws.{QuietCall, quiet-table}
 use Rattle.keeper.proofs.StepAnswers.{rollback-judged}
-use Rattle.keeper.specs.Calls.{rollbackAnswer}
+use Rattle.calls.specs.Calls.{rollbackAnswer}
 use Rattle.rollback.specs.Rollback.{AtLine}
 use Rattle.steps.proofs.StepLaws.{rollback-fewer}
 use Rattle.tables.proofs.ReadLaws.{messages-few}

@@ -9,11 +9,11 @@ use lib.ListN.{length}
 use Rattle.holder_lines.proofs.ScratchLaws.{lines-stand}
 use Rattle.holder_lines.specs.Scratch.{LinesOf}
 use Rattle.keep_sheet.proofs.FewLaws.{kept-few}
-use Rattle.keeper.proofs.AnswerLaws.{Judged, call-answered, call-refused, call-short}
-use Rattle.refusals.proofs.RefusalLaws.{QuietCall, quiet-sheet, scratch-long}
-use Rattle.keeper.proofs.SheetAnswer.{scratch-filled, scratch-kept, sheet-judged, sheetPromise}
-use Rattle.keeper.specs.Calls.{keepSheetAnswer}
-use Rattle.refusals.specs.CallChecks.{keepSheetChecks}
+use Rattle.calls.proofs.AnswerLaws.{Judged, call-answered, call-refused, call-short}
+use Rattle.call_checks.proofs.RefusalLaws.{QuietCall, quiet-sheet, scratch-long}
+use Rattle.calls.proofs.SheetAnswer.{scratch-filled, scratch-kept, sheet-judged, sheetPromise}
+use Rattle.calls.specs.Calls.{keepSheetAnswer}
+use Rattle.call_checks.specs.CallChecks.{keepSheetChecks}
 use Rattle.keeper.proofs.keeper_keep_sheet.Statement.{statement}
 use Rattle.keeper.proofs.keeper_keep_sheet.Tie as tie
 

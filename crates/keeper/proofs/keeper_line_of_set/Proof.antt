@@ -4,11 +4,11 @@ use borrow.Author.Needs.{needs}
 use denote.Ref.{now}
 use Rattle.consistency.proofs.CeilingLaws.{set-ceiling}
 use Rattle.consistency.specs.Ceilings.{lineOf}
-use Rattle.keeper.proofs.AnswerLaws.{call-answered, call-refused, call-short}
-use Rattle.keeper.proofs.LineAnswers.{line-judged}
-use Rattle.keeper.specs.Calls.{lineAnswer, lineOfSetAnswer}
-use Rattle.refusals.proofs.RefusalLaws.{QuietCall, quiet-set}
-use Rattle.refusals.specs.CallChecks.{lineOfSetChecks}
+use Rattle.calls.proofs.AnswerLaws.{call-answered, call-refused, call-short}
+use Rattle.calls.proofs.LineAnswers.{line-judged}
+use Rattle.calls.specs.Calls.{lineAnswer, lineOfSetAnswer}
+use Rattle.call_checks.proofs.RefusalLaws.{QuietCall, quiet-set}
+use Rattle.call_checks.specs.CallChecks.{lineOfSetChecks}
 use Rattle.keeper.proofs.keeper_line_of_set.Statement.{statement}
 use Rattle.keeper.proofs.keeper_line_of_set.Tie as tie
 

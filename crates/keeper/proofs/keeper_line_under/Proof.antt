@@ -2,11 +2,11 @@
 -- Assumes nothing.
 use borrow.Author.Needs.{needs}
 use denote.Ref.{now}
-use Rattle.keeper.proofs.AnswerLaws.{call-answered, call-refused, call-short}
-use Rattle.keeper.proofs.LineAnswers.{ceilings-accepted, line-judged}
-use Rattle.keeper.specs.Calls.{lineAnswer, lineUnderAnswer}
-use Rattle.refusals.proofs.RefusalLaws.{QuietCall, quiet-under}
-use Rattle.refusals.specs.CallChecks.{lineUnderChecks}
+use Rattle.calls.proofs.AnswerLaws.{call-answered, call-refused, call-short}
+use Rattle.calls.proofs.LineAnswers.{ceilings-accepted, line-judged}
+use Rattle.calls.specs.Calls.{lineAnswer, lineUnderAnswer}
+use Rattle.call_checks.proofs.RefusalLaws.{QuietCall, quiet-under}
+use Rattle.call_checks.specs.CallChecks.{lineUnderChecks}
 use Rattle.keeper.proofs.keeper_line_under.Statement.{statement}
 use Rattle.keeper.proofs.keeper_line_under.Tie as tie
 

@@ -4,8 +4,8 @@ use borrow.Author.Needs.{needs}
 use denote.Ref.{now}
 use lib.ListN.{length}
 use Rattle.keeper.proofs.MarkingAnswers.{marked-answered, marked-ceiling, marked-refused, marked-short}
-use Rattle.refusals.proofs.RefusalLaws.{QuietCall, marks-long, quiet-marking}
-use Rattle.refusals.specs.CallChecks.{markedLineChecks}
+use Rattle.call_checks.proofs.RefusalLaws.{QuietCall, marks-long, quiet-marking}
+use Rattle.call_checks.specs.CallChecks.{markedLineChecks}
 use Rattle.keeper.proofs.keeper_marked_line.Statement.{statement}
 use Rattle.keeper.proofs.keeper_marked_line.Tie as tie
 

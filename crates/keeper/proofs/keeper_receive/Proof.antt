@@ -2,11 +2,11 @@
 -- Assumes nothing.
 use borrow.Author.Needs.{needs}
 use denote.Ref.{now}
-use Rattle.keeper.proofs.AnswerLaws.{call-answered, call-refused, call-short}
+use Rattle.calls.proofs.AnswerLaws.{call-answered, call-refused, call-short}
 use Rattle.keeper.proofs.StepAnswers.{can-receive, receipt-judged}
-use Rattle.keeper.specs.Calls.{receiptAnswer}
-use Rattle.refusals.proofs.RefusalLaws.{QuietCall, quiet-receive}
-use Rattle.refusals.specs.CallChecks.{receiptCallChecks}
+use Rattle.calls.specs.Calls.{receiptAnswer}
+use Rattle.call_checks.proofs.RefusalLaws.{QuietCall, quiet-receive}
+use Rattle.call_checks.specs.CallChecks.{receiptCallChecks}
 use Rattle.keeper.proofs.keeper_receive.Statement.{statement}
 use Rattle.keeper.proofs.keeper_receive.Tie as tie
 

@@ -4,11 +4,12 @@ use borrow.Author.Needs.{needs}
 use denote.Ref.{now}
 use Rattle.consistency.proofs.CeilingLaws.{set-ceiling}
 use Rattle.consistency.specs.Ceilings.{lineOf, recoveryLine}
-use Rattle.keeper.proofs.AnswerLaws.{call-answered, call-refused, call-short}
-use Rattle.keeper.proofs.LineAnswers.{line-judged, recovery-put}
-use Rattle.keeper.specs.Calls.{lineAnswer, recoveryLineAnswer}
+use Rattle.calls.proofs.AnswerLaws.{call-answered, call-refused, call-short}
+use Rattle.calls.proofs.LineAnswers.{line-judged}
+use Rattle.lines.proofs.LineReads.{all-hold}
+use Rattle.calls.specs.Calls.{lineAnswer, recoveryLineAnswer}
 use Rattle.process_set.specs.Sets.{allProcesses}
-use Rattle.refusals.proofs.RefusalLaws.{QuietCall, quiet-table}
+use Rattle.call_checks.proofs.RefusalLaws.{QuietCall, quiet-table}
 use Rattle.tables.specs.Checks.{tableChecks, tableRefusal}
 use Rattle.keeper.proofs.keeper_recovery_line.Statement.{statement}
 use Rattle.keeper.proofs.keeper_recovery_line.Tie as tie
@@ -40,4 +41,4 @@ keeper-recovery-line-spec =
     let put = c .before .before in
     let size = put .before .before .before in
     call-answered (line-judged (quiet (size .before)) (set-ceiling _ _)) (size .line-size .ensures) (put .before .before .if2 .left)
-    (recovery-put _ (quiet (size .before) .accepted) _ (put .put-line-of-set .ensures))))
+    (rw (all-hold _ (quiet (size .before) .accepted)) at (put .put-line-of-set .ensures))))

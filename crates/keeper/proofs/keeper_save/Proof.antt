@@ -2,11 +2,11 @@
 -- Assumes nothing.
 use borrow.Author.Needs.{needs}
 use denote.Ref.{now}
-use Rattle.keeper.proofs.AnswerLaws.{call-answered, call-refused, call-short}
+use Rattle.calls.proofs.AnswerLaws.{call-answered, call-refused, call-short}
 use Rattle.keeper.proofs.StepAnswers.{can-receive, checkpoint-judged}
-use Rattle.keeper.specs.Calls.{checkpointAnswer}
-use Rattle.refusals.proofs.RefusalLaws.{QuietCall, quiet-receipt, quiet-save}
-use Rattle.refusals.specs.CallChecks.{checkpointCallChecks}
+use Rattle.calls.specs.Calls.{checkpointAnswer}
+use Rattle.call_checks.proofs.RefusalLaws.{QuietCall, quiet-receipt, quiet-save}
+use Rattle.call_checks.specs.CallChecks.{checkpointCallChecks}
 use Rattle.keeper.proofs.keeper_save.Statement.{statement}
 use Rattle.keeper.proofs.keeper_save.Tie as tie
 

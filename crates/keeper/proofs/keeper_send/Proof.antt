@@ -2,11 +2,11 @@
 -- Assumes nothing.
 use borrow.Author.Needs.{needs}
 use denote.Ref.{now}
-use Rattle.keeper.proofs.AnswerLaws.{call-answered, call-refused, call-short}
+use Rattle.calls.proofs.AnswerLaws.{call-answered, call-refused, call-short}
 use Rattle.keeper.proofs.StepAnswers.{send-judged, sender-known}
-use Rattle.keeper.specs.Calls.{sendAnswer}
-use Rattle.refusals.proofs.RefusalLaws.{QuietCall, quiet-send}
-use Rattle.refusals.specs.CallChecks.{sendCallChecks}
+use Rattle.calls.specs.Calls.{sendAnswer}
+use Rattle.call_checks.proofs.RefusalLaws.{QuietCall, quiet-send}
+use Rattle.call_checks.specs.CallChecks.{sendCallChecks}
 use Rattle.keeper.proofs.keeper_send.Statement.{statement}
 use Rattle.keeper.proofs.keeper_send.Tie as tie
 

@@ -5,8 +5,8 @@ use mathlib.Core.Bool.{false}
 use mathlib.Core.Path.{_≡_}
 use denote.Ref.{now}
 use Rattle.keeper.proofs.StandingAnswers.{names-few, names-parallel, standing-no, standing-refused, standing-short, standing-yes, told}
-use Rattle.refusals.proofs.RefusalLaws.{QuietCall, quiet-names}
-use Rattle.refusals.specs.CallChecks.{standTogetherChecks}
+use Rattle.call_checks.proofs.RefusalLaws.{QuietCall, quiet-names}
+use Rattle.call_checks.specs.CallChecks.{standTogetherChecks}
 use Rattle.tables.specs.Format.{decode}
 use Rattle.zigzag.specs.Together.{misses, namedLine}
 use Rattle.keeper.proofs.keeper_stand_together.Statement.{statement}

@@ -4,8 +4,8 @@ use borrow.Author.Needs.{needs}
 use borrow.Author.Tests.{eq-eqb, ne-eqb}
 use mathlib.Core.Bool.{not}
 use mathlib.Core.Path.{sym, ap, _∙_}
-use Rattle.refusals.proofs.RefusalLaws.{catches, next, none-left, own-left, table-caught}
-use Rattle.refusals.specs.CallChecks.{lineUnderChecks}
+use Rattle.call_checks.proofs.RefusalLaws.{catches, next, none-left, own-left, table-caught}
+use Rattle.call_checks.specs.CallChecks.{lineUnderChecks}
 use Rattle.refusals.proofs.ceilings_refusal.Statement.{statement}
 use Rattle.refusals.proofs.ceilings_refusal.Tie as tie
 

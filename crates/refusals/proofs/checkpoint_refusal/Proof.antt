@@ -2,8 +2,8 @@
 -- Assumes nothing.
 use borrow.Author.Needs.{needs}
 use mathlib.Core.Path.{sym, _∙_}
-use Rattle.refusals.proofs.RefusalLaws.{catches, more-left, next, none-left, quiet-receive}
-use Rattle.refusals.specs.CallChecks.{checkpointCallChecks}
+use Rattle.call_checks.proofs.RefusalLaws.{catches, more-left, next, none-left, quiet-receive}
+use Rattle.call_checks.specs.CallChecks.{checkpointCallChecks}
 use Rattle.tables.proofs.CheckLaws.{caught-first}
 use Rattle.refusals.proofs.checkpoint_refusal.Statement.{statement}
 use Rattle.refusals.proofs.checkpoint_refusal.Tie as tie

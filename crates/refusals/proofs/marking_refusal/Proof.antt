@@ -4,8 +4,8 @@ use borrow.Author.Needs.{needs}
 use borrow.Author.Tests.{le-ltb, lt-ltb}
 use mathlib.Core.Path.{sym, ap, _∙_}
 use lib.Dec.{ltb}
-use Rattle.refusals.proofs.RefusalLaws.{catches, more-left, next, none-left, quiet-under}
-use Rattle.refusals.specs.CallChecks.{markedLineChecks}
+use Rattle.call_checks.proofs.RefusalLaws.{catches, more-left, next, none-left, quiet-under}
+use Rattle.call_checks.specs.CallChecks.{markedLineChecks}
 use Rattle.tables.proofs.CheckLaws.{caught-first}
 use Rattle.refusals.proofs.marking_refusal.Statement.{statement}
 use Rattle.refusals.proofs.marking_refusal.Tie as tie

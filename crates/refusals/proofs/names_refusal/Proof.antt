@@ -5,8 +5,8 @@ use borrow.Author.Tests.{eq-eqb, ne-eqb}
 use mathlib.Core.Bool.{not}
 use mathlib.Core.Path.{sym, ap, _∙_}
 use Rattle.named_checkpoints.proofs.NamedLaws.{parallel}
-use Rattle.refusals.proofs.RefusalLaws.{catches, first-of, neither, next, none-left, own-left, second-of, table-caught}
-use Rattle.refusals.specs.CallChecks.{standTogetherChecks}
+use Rattle.call_checks.proofs.RefusalLaws.{catches, first-of, neither, next, none-left, own-left, second-of, table-caught}
+use Rattle.call_checks.specs.CallChecks.{standTogetherChecks}
 use Rattle.refusals.proofs.names_refusal.Statement.{statement}
 use Rattle.refusals.proofs.names_refusal.Tie as tie
 

@@ -3,8 +3,8 @@
 use borrow.Author.Needs.{needs}
 use mathlib.Core.Path.{sym, _∙_}
 use Rattle.steps.specs.Steps.{receiptChecks}
-use Rattle.refusals.proofs.RefusalLaws.{catches, first-of, neither, next, none-left, own-left, second-of, table-caught}
-use Rattle.refusals.specs.CallChecks.{receiptCallChecks}
+use Rattle.call_checks.proofs.RefusalLaws.{catches, first-of, neither, next, none-left, own-left, second-of, table-caught}
+use Rattle.call_checks.specs.CallChecks.{receiptCallChecks}
 use Rattle.refusals.proofs.receipt_refusal.Statement.{statement}
 use Rattle.refusals.proofs.receipt_refusal.Tie as tie
 

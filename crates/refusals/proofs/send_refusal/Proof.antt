@@ -4,8 +4,8 @@ use borrow.Author.Needs.{needs}
 use borrow.Author.Tests.{eq-eqb, ne-eqb}
 use mathlib.Core.Path.{sym, _∙_}
 use Rattle.steps.specs.Steps.{sendChecks}
-use Rattle.refusals.proofs.RefusalLaws.{catches, first-of, neither, next, none-left, own-left, second-of, table-caught}
-use Rattle.refusals.specs.CallChecks.{sendCallChecks}
+use Rattle.call_checks.proofs.RefusalLaws.{catches, first-of, neither, next, none-left, own-left, second-of, table-caught}
+use Rattle.call_checks.specs.CallChecks.{sendCallChecks}
 use Rattle.refusals.proofs.send_refusal.Statement.{statement}
 use Rattle.refusals.proofs.send_refusal.Tie as tie
 

@@ -3,8 +3,8 @@
 use borrow.Author.Needs.{needs}
 use mathlib.Core.Path.{sym, ap, _∙_}
 use Rattle.process_set.specs.Sets.{highBit}
-use Rattle.refusals.proofs.RefusalLaws.{catches, next, none-left, own-left, table-caught}
-use Rattle.refusals.specs.CallChecks.{lineOfSetChecks}
+use Rattle.call_checks.proofs.RefusalLaws.{catches, next, none-left, own-left, table-caught}
+use Rattle.call_checks.specs.CallChecks.{lineOfSetChecks}
 use Rattle.refusals.proofs.set_refusal.Statement.{statement}
 use Rattle.refusals.proofs.set_refusal.Tie as tie
 

@@ -2,8 +2,8 @@
 -- Assumes nothing.
 use borrow.Author.Needs.{needs}
 use mathlib.Core.Path.{sym, _∙_}
-use Rattle.refusals.proofs.RefusalLaws.{catches, next, none-left, own-left, table-caught}
-use Rattle.refusals.specs.CallChecks.{keepSheetChecks}
+use Rattle.call_checks.proofs.RefusalLaws.{catches, next, none-left, own-left, table-caught}
+use Rattle.call_checks.specs.CallChecks.{keepSheetChecks}
 use Rattle.refusals.proofs.sheet_refusal.Statement.{statement}
 use Rattle.refusals.proofs.sheet_refusal.Tie as tie
 

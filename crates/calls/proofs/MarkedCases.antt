@@ -24,18 +24,19 @@ use Rattle.steps.specs.Steps.{afterCheckpoint, afterReceipt, afterRollback, bad
 use Rattle.steps.specs.Steps.{receiptChecks, receivedAt, remaining, stays, waitsFor}
 use Rattle.keep_sheet.specs.Sheet.{crosses, keepsCheckpoint, keepsMessage, keptCheckpoints, keptMessages, sheet}
 use Rattle.consistency.specs.Ceilings.{holderLine}
-use Rattle.keeper.specs.Answers.{answer, unless}
-use Rattle.keeper.specs.Calls.{checkpointAnswer, keepSheetAnswer, lineAnswer, lineOfSetAnswer, lineUnderAnswer, markedLineAnswer, receiptAnswer}
-use Rattle.keeper.specs.Calls.{recoveryLineAnswer, rollbackAnswer, standTogetherAnswer, standingBytes}
+use Rattle.calls.specs.Answers.{answer, unless}
+use Rattle.calls.specs.Calls.{checkpointAnswer, keepSheetAnswer, lineAnswer, lineOfSetAnswer, lineUnderAnswer, markedLineAnswer, receiptAnswer}
+use Rattle.calls.specs.Calls.{recoveryLineAnswer, rollbackAnswer, standTogetherAnswer, standingBytes}
 use Rattle.marks.specs.Room.{marksSize}
-use Rattle.refusals.specs.CallChecks.{checkpointCallChecks, keepSheetChecks, lineOfSetChecks, lineUnderChecks, markedLineChecks, receiptCallChecks}
-use Rattle.refusals.specs.CallChecks.{standTogetherChecks}
+use Rattle.call_checks.specs.CallChecks.{checkpointCallChecks, keepSheetChecks, lineOfSetChecks, lineUnderChecks, markedLineChecks, receiptCallChecks}
+use Rattle.call_checks.specs.CallChecks.{standTogetherChecks}
 use Rattle.zigzag.specs.Names.{notBelowCounts, unknownNamed}
 use Rattle.zigzag.specs.Paths.{first, receivedIn, then}
 use Rattle.zigzag.specs.Together.{misses, namedCeiling, namedLine, putNamed}
-use Rattle.keeper.specs.Cases.{MarkingExample, allHold, answerOf, caseTable, ceilingCases, likeA, markedCases, markingCases, nineMarks, sameAnswer}
-use Rattle.keeper.specs.Cases.{ZigzagExample, channelCases, channelWith, figureOne, fullReceiver, oneInterval, standingCases}
-use Rattle.keeper.specs.Cases.{crossing, full, oneMessage, receiptCases, sameBytes, tableA, tableB, tableC, tableD, tenMarks}
+use Rattle.calls.specs.Cases.{MarkingExample, ZigzagExample, allHold, answerOf, ceilingCases, channelCases, channelWith, crossing}
+use Rattle.calls.specs.Cases.{figureOne, full, fullReceiver, likeA, markedCases, markingCases, nineMarks, oneInterval, oneMessage, receiptCases}
+use Rattle.call_checks.specs.OrderCases.{caseTable}
+use Rattle.calls.specs.Cases.{sameAnswer, sameBytes, standingCases, tableA, tableB, tableC, tableD, tenMarks}
 
 -- each table of cases, by what all of them compute
 all-cases : (allHold markedCases ≡ true) × (allHold ceilingCases ≡ true) × (allHold markingCases ≡ true) × (allHold receiptCases ≡ true)

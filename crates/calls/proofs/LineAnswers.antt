@@ -2,15 +2,15 @@
 --     numbers-read       the numbers of an answer are the line's
 --     line-holds         they are the latest consistent line under a ceiling
 --     linePromise, line-judged    what a line call promises, and where no check before 16 catches
---     recovery-put       the line of all 32 bits is that under the ceiling of all processes
 --     ceilings-accepted  where no check of the call catches, the ceilings that were lent are a ceiling
 --     under-past         where they are one, the answer is by the table's checks alone
 --     set-under          where 12 catches nothing, the line of a set is the line under the set's ceiling, byte for byte, and refused alike
+--     marks-unchanged    under a refusal of the line by marking the marks are as they were
 -- Assumes nothing.
 use mathlib.Core.Bool.{false, not}
 use mathlib.Core.List.{List}
 use mathlib.Core.Path.{_≡_, refl, sym, ap, _∙_, subst⁻¹}
-use Prim.Native.Nat.{ℕ, _*_, _<_}
+use Prim.Native.Nat.{ℕ, zero, suc, _*_, _<_}
 use native.Mathlib.Omega.{arith}
 use borrow.Author.Tests.{eq-eqb, eqb-true, not-false}
 use lib.ListN.{length, getD, drop}
@@ -20,12 +20,11 @@ use Rattle.consistency.proofs.LoweringLaws.{line-latest}
 use Rattle.consistency.specs.Ceilings.{Ceiling, ceilingOf, lineOf, recoveryLine}
 use Rattle.consistency.specs.Lines.{Latest, asLine}
 use Rattle.consistency.specs.Lowering.{lineUnder}
-use Rattle.keeper.proofs.AnswerLaws.{Judged, Promise, answer-past, put-in-front}
-use Rattle.keeper.specs.Calls.{HoldsLatest, lineAnswer, lineOfSetAnswer, lineUnderAnswer}
-use Rattle.lines.proofs.LineReads.{all-hold}
+use Rattle.calls.proofs.AnswerLaws.{Judged, Promise, answer-past, put-in-front}
+use Rattle.calls.specs.Calls.{HoldsLatest, lineAnswer, lineOfSetAnswer, lineUnderAnswer, marksAfter}
 use Rattle.process_set.specs.Sets.{allProcesses, highBit, member}
-use Rattle.refusals.proofs.RefusalLaws.{QuietCall, quiet-by}
-use Rattle.refusals.specs.CallChecks.{lineOfSetChecks, lineUnderChecks}
+use Rattle.call_checks.proofs.RefusalLaws.{QuietCall, quiet-by}
+use Rattle.call_checks.specs.CallChecks.{lineOfSetChecks, lineUnderChecks}
 use Rattle.tables.proofs.AcceptLaws.{facts}
 use Rattle.tables.proofs.CheckLaws.{areRefusals, caughtBy, passed, quiet-none}
 use Rattle.tables.proofs.ListLaws.{getD-tabulate, length-tabulate}
@@ -64,10 +63,6 @@ module _ (table : List ℕ) (accepted : tableRefusal table ≡ 0) where
     unfolding HoldsLatest
     line-holds = subst⁻¹ (λ (l : List ℕ). Latest (t .messages) (asLine ceiling) (asLine l)) numbers-read (line-latest (t .messages) ceiling)
 
-  pub recovery-put : (buffer : List ℕ) {buffer′ : List ℕ} → buffer′ ≡ putAt buffer 0 (u16s (lineOf t (member allProcesses)))
-      → buffer′ ≡ putAt buffer 0 (u16s (recoveryLine t))
-  recovery-put buffer put = put ∙ ap (λ (l : List ℕ). putAt buffer 0 (u16s l)) (all-hold table accepted)
-
 -- ---- what a line call promises
 abbrev pub linePromise : List Check → List ℕ → List ℕ → Promise
 linePromise checks table ceiling = record {
@@ -103,3 +98,9 @@ pub set-under : (table : List ℕ) (set : ℕ) → highBit set (processCount (de
 unfolding lineOfSetAnswer lineAnswer lineOfSetChecks areRefusals
 set-under table set quiet room =
     answer-past (tableChecks table) _ refl (passed _ _ 0 quiet quiet-none) _ room ∙ sym (under-past table (set-ceiling (decode table) (member set)) room)
+
+-- under a refusal the marks are as they were
+pub marks-unchanged : (r : ℕ) (table marks : List ℕ) → (r ≡ 0 → ⊥) → marks ≡ marksAfter r table marks
+unfolding marksAfter
+marks-unchanged zero table marks nonzero = absurd (nonzero refl)
+marks-unchanged (suc n) table marks nonzero = refl

@@ -4,19 +4,16 @@ use mathlib.Core.Bool.{Bool, true, false, _&&_}
 use mathlib.Core.List.{List, [], _∷_, _++_}
 use Prim.Native.Nat.{ℕ}
 use lib.Dec.{eqb}
-use Rattle.keeper.specs.Answers.{Answer, answered, refused, unless}
-use Rattle.keeper.specs.Calls.{checkpointAnswer, keepSheetAnswer, lineOfSetAnswer, lineUnderAnswer}
-use Rattle.keeper.specs.Calls.{markedLineAnswer, receiptAnswer, recoveryLineAnswer, rollbackAnswer}
-use Rattle.keeper.specs.Calls.{standTogetherAnswer}
+use Rattle.call_checks.specs.OrderCases.{caseTable}
+use Rattle.calls.specs.Answers.{Answer, answered, refused, unless}
+use Rattle.calls.specs.Calls.{checkpointAnswer, keepSheetAnswer, lineOfSetAnswer, lineUnderAnswer}
+use Rattle.calls.specs.Calls.{markedLineAnswer, receiptAnswer, recoveryLineAnswer, rollbackAnswer}
+use Rattle.calls.specs.Calls.{standTogetherAnswer}
 use Rattle.marking.specs.Procedure.{EndsWith}
 use Rattle.tables.specs.Checks.{tableRefusal}
 use Rattle.tables.specs.Format.{decode}
 use Rattle.tables.specs.Numbers.{u16s}
 use Rattle.zigzag.specs.Paths.{Zigzag}
-
--- ---- the tables, by their numbers: N, M; the counts; the sends; the receipts
-unfoldable pub caseTable : ℕ → ℕ → List ℕ → List ℕ → List ℕ → List ℕ
-caseTable n m counts sends receipts = u16s (n ∷ m ∷ (counts ++ (sends ++ receipts)))
 
 -- A, but for the count of process 0 and the send number and the receipt number of the last message.
 unfoldable pub likeA : ℕ → ℕ → ℕ → List ℕ

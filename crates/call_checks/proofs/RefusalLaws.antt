@@ -19,8 +19,8 @@ use Prim.Native.Nat.{ℕ, _*_, _≤_}
 use borrow.Author.Tests.{le-ltb, ltb-false}
 use Rattle.marks.specs.Room.{marksSize}
 use Rattle.steps.specs.Steps.{receiptChecks, sendChecks}
-use Rattle.refusals.specs.CallChecks.{checkpointCallChecks, keepSheetChecks, lineOfSetChecks, lineUnderChecks, markedLineChecks, onTable}
-use Rattle.refusals.specs.CallChecks.{receiptCallChecks, sendCallChecks, standTogetherChecks}
+use Rattle.call_checks.specs.CallChecks.{checkpointCallChecks, keepSheetChecks, lineOfSetChecks, lineUnderChecks, markedLineChecks, onTable}
+use Rattle.call_checks.specs.CallChecks.{receiptCallChecks, sendCallChecks, standTogetherChecks}
 use Rattle.tables.proofs.CheckLaws.{append-passed, areRefusals, caught-first, caughtBy, passed, quiet-front, quiet-none, quiet-number}
 use Rattle.tables.proofs.CheckLaws.{stopped, table-refusals}
 use Rattle.tables.specs.Checks.{Check, firstCaught, tableChecks, tableRefusal}

@@ -17,8 +17,8 @@ use Rattle.futures.specs.Demand3.{Demand3}
 use Rattle.tables.specs.Lists.{Listed}
 use Rattle.futures.specs.Futures.{CheckpointNeeded, MessageNeeded}
 use Rattle.keep_sheet.specs.Sheet.{Checkpoint, keptCheckpoints, keptMessages, sheet}
-use Rattle.keeper.proofs.AnswerLaws.{put-in-front}
-use Rattle.keeper.specs.Calls.{HoldsSheet, ListsCheckpoint, ListsMessage}
+use Rattle.calls.proofs.AnswerLaws.{put-in-front}
+use Rattle.calls.specs.Calls.{HoldsSheet, ListsCheckpoint, ListsMessage}
 use Rattle.tables.proofs.AcceptLaws.{facts}
 use Rattle.tables.proofs.NumberLaws.{u16At-u16s}
 use Rattle.tables.proofs.ReadLaws.{messages-few, processes-few}

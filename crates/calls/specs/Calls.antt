@@ -13,12 +13,13 @@ use Rattle.futures.specs.Futures.{CheckpointNeeded, MessageNeeded}
 use Rattle.consistency.specs.Ceilings.{holderLines}
 use Rattle.keep_sheet.specs.Sheet.{sheet}
 use Rattle.steps.specs.Steps.{afterCheckpoint, afterReceipt, afterRollback, afterSend}
-use Rattle.keeper.specs.Answers.{Answer, Yields, answer}
+use Rattle.calls.specs.Answers.{Answer, Yields, answer}
 use Rattle.marking.specs.Procedure.{EndsWith}
 use Rattle.marks.specs.Room.{cleared, marksSize}
 use Rattle.process_set.specs.Sets.{member}
-use Rattle.refusals.specs.CallChecks.{checkpointCallChecks, keepSheetChecks, lineOfSetChecks, lineUnderChecks}
-use Rattle.refusals.specs.CallChecks.{markedLineChecks, receiptCallChecks, sendCallChecks, standTogetherChecks}
+use Rattle.call_checks.specs.CallChecks.{checkpointCallChecks, keepSheetChecks, lineOfSetChecks}
+use Rattle.call_checks.specs.CallChecks.{lineUnderChecks, markedLineChecks, receiptCallChecks, sendCallChecks}
+use Rattle.call_checks.specs.CallChecks.{standTogetherChecks}
 use Rattle.tables.specs.Checks.{Accepted, Check, firstCaught, tableChecks}
 use Rattle.tables.specs.Format.{decode, encode}
 use Rattle.tables.specs.Lists.{tabulate}

@@ -10,11 +10,11 @@ use lib.ListN.{length}
 use Rattle.consistency.specs.Ceilings.{holderLines}
 use Rattle.keep_sheet.proofs.FewLaws.{sheet-length}
 use Rattle.keep_sheet.specs.Sheet.{keptCheckpoints, keptMessages, sheet}
-use Rattle.keeper.proofs.AnswerLaws.{Judged, Promise, put-in-front}
-use Rattle.keeper.proofs.SheetBytes.{sheet-holds}
-use Rattle.keeper.specs.Calls.{HoldsSheet, linesUnless, scratchAfter}
-use Rattle.refusals.proofs.RefusalLaws.{Quiet, QuietCall}
-use Rattle.refusals.specs.CallChecks.{keepSheetChecks}
+use Rattle.calls.proofs.AnswerLaws.{Judged, Promise, put-in-front}
+use Rattle.calls.proofs.SheetBytes.{sheet-holds}
+use Rattle.calls.specs.Calls.{HoldsSheet, linesUnless, scratchAfter}
+use Rattle.call_checks.proofs.RefusalLaws.{Quiet, QuietCall}
+use Rattle.call_checks.specs.CallChecks.{keepSheetChecks}
 use Rattle.tables.specs.Checks.{firstCaught}
 use Rattle.tables.specs.Format.{decode}
 use Rattle.tables.specs.Numbers.{putAt}

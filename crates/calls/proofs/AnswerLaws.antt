@@ -15,8 +15,8 @@ use native.Mathlib.Omega.{arith}
 use borrow.Author.Tests.{le-ltb, lt-ltb}
 use lib.Dec.{ltb}
 use lib.ListN.{length, drop}
-use Rattle.keeper.specs.Answers.{Yields, answer, bufferAfter, lengthAfter, numberOf, unless}
-use Rattle.refusals.proofs.RefusalLaws.{Quiet}
+use Rattle.calls.specs.Answers.{Yields, answer, bufferAfter, lengthAfter, numberOf, unless}
+use Rattle.call_checks.proofs.RefusalLaws.{Quiet}
 use Rattle.tables.proofs.CheckLaws.{append-alike, append-passed, areRefusals, caught-first, passed, quiet-none, stopped}
 use Rattle.tables.specs.Checks.{Check, firstCaught}
 use Rattle.tables.specs.Numbers.{putAt}

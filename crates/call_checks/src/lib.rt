@@ -1,0 +1,1 @@
+// The checks of each call: definitions and laws, and no code.

@@ -1,0 +1,1 @@
+// What each call answers: definitions and laws, and no code.
