@@ -3,8 +3,9 @@ use mathlib.Core.Bool.{Bool, true, _&&_}
 use mathlib.Core.List.{List, [], _∷_, _++_}
 use Prim.Native.Nat.{ℕ}
 use lib.Dec.{eqb}
-use Rattle.call_checks.specs.CallChecks.{checkpointCallChecks, keepSheetChecks, lineOfSetChecks, lineUnderChecks}
-use Rattle.call_checks.specs.CallChecks.{markedLineChecks, receiptCallChecks, sendCallChecks, standTogetherChecks}
+use Rattle.call_checks.specs.CallChecks.{checkpointCallChecks, keepSheetChecks, lineOfSetChecks}
+use Rattle.call_checks.specs.CallChecks.{lineUnderChecks, markedLineChecks, receiptCallChecks}
+use Rattle.call_checks.specs.CallChecks.{sendCallChecks, standTogetherChecks}
 use Rattle.tables.specs.Checks.{Check, firstCaught}
 use Rattle.tables.specs.Numbers.{u16s}
 
