@@ -5,6 +5,7 @@
 --     stage-sum                 rounds and the sum of the roots, together no more than the sum of the ceilings
 --     round-lower, round-falls  a marked root goes down, so their sum falls with each round
 --     zero-unmarked, round-made state 0 is never marked, so a process has a latest unmarked state, and where a root is marked a round can be made
+--     rounds-stay               what is marked stays marked in all later rounds
 --     end-consistent            where no root is marked they are a consistent line
 -- Assumes nothing.
 use mathlib.Core.Bool.{Bool, true, false, cond, false≢true}
@@ -23,7 +24,7 @@ use Rattle.consistency.proofs.LineLaws.{orphan-free, zero-consistent}
 use Rattle.consistency.specs.Ceilings.{Ceiling}
 use Rattle.consistency.specs.Lines.{AtOrBelow, Consistent, Line, asLine}
 use Rattle.marking.proofs.ReachLaws.{marking-made, reach-root, reach-up}
-use Rattle.marking.specs.Procedure.{After, LatestUnmarked, NoneMarked, Reachable, Round, Stage, root}
+use Rattle.marking.specs.Procedure.{After, LatestUnmarked, NoneMarked, Reachable, Round, Rounds, Stage, root}
 use Rattle.tables.proofs.ListLaws.{getD-tabulate, length-tabulate, sum-lower}
 use Rattle.tables.specs.Checks.{WellFormed}
 use Rattle.tables.specs.Lists.{sum, tabulate}
@@ -48,6 +49,12 @@ module _ (t : Table) (l : Line) (c : Consistent (t .messages) l) where
 pub record Above (t : Table) (l : Line) (s : Stage) : Type 0 where
   pub roots : (p : ℕ) → p < processCount t → l p ≤ getD (s .roots) p 0
   pub marks : (x : State) → s .marks x ≡ true → l (x .process) < x .number
+
+-- ---- marks stay
+pub rounds-stay : (t : Table) (n : ℕ) (s s′ : Stage) → Rounds t n s s′ → (x : State) → s .marks x ≡ true → s′ .marks x ≡ true
+unfolding Rounds
+rounds-stay t zero s s′ same x e = subst (λ (s : Stage). s .marks x ≡ true) same e
+rounds-stay t (suc n) s s′ r x e = rounds-stay t n (r .0) s′ (r .2) x (r .1 .marking .stay x e)
 
 module _ (t : Table) (ceilings : List ℕ) (c : Ceiling t ceilings) where
   module _ (l : Line) (consistent : Consistent (t .messages) l) (under : AtOrBelow l (asLine ceilings)) where

@@ -17,7 +17,7 @@ use Rattle.consistency.specs.Ceilings.{Ceiling}
 use Rattle.consistency.specs.Lines.{Latest, asLine}
 use Rattle.consistency.specs.Lowering.{lineUnder}
 use Rattle.marking.proofs.ReachLaws.{marking-made}
-use Rattle.marking.proofs.RoundLaws.{end-consistent, round-falls, round-made, stage-above, stage-below, stage-for-each, stage-sum}
+use Rattle.marking.proofs.RoundLaws.{end-consistent, round-falls, round-made, rounds-stay, stage-above, stage-below, stage-for-each, stage-sum}
 use Rattle.marking.specs.Procedure.{After, EndsWith, NoneMarked, Round, Stage, Starts, root}
 use Rattle.marking.specs.SameLine.{SameLine}
 use Rattle.tables.proofs.ListLaws.{found-below, none-below}
@@ -89,6 +89,7 @@ module _ (t : Table) (w : WellFormed t) (ceilings : List ℕ) (c : Ceiling t cei
     starts = start;
     goes-on = stage-goes-on;
     finitely = λ n s a. omega (arith, stage-sum t ceilings c n s a);
+    marks-stay = rounds-stay t;
     ends = carry-on (sum ceilings) 0 (start .0) (start .1) (omega arith);
     latest = λ roots e. subst (λ (l : List ℕ). Latest (t .messages) (asLine ceilings) (asLine l)) (e .last-roots)
         (end-latest (e .rounds) (e .last) (e .after) (e .none-marked));

@@ -66,6 +66,11 @@ unfoldable pub After : Table → List ℕ → ℕ → Stage → Type 0
 After t ceilings zero s = Starts t ceilings s
 After t ceilings (suc n) s′ = (s : Stage) × After t ceilings n s × Round t s s′
 
+-- So many rounds, one after another, lead from one stage to another.
+unfoldable pub Rounds : Table → ℕ → Stage → Stage → Type 0
+Rounds t zero s s′ = s ≡ s′
+Rounds t (suc n) s s″ = (s′ : Stage) × Round t s s′ × Rounds t n s′ s″
+
 -- The procedure ends, where no root is marked, with these as its last roots.
 pub record EndsWith (t : Table) (ceilings roots : List ℕ) : Type 0 where
   pub rounds : ℕ

@@ -15,9 +15,9 @@
 --     rollback-processes .. rollback-fewer             the sizes and the counts after a rollback
 --     rollback-each, rollback-pairs                    each message comes from one that stays, and each two from two in their order
 --     rollback-place, rollback-message, rollback-order    where one that stays goes, in order
---     step-cases, step-each                            a step that is caught leaves the table as it is; what holds after every step
+--     step-cases, send-step .. rollback-step           a step that is caught leaves the table as it is, any other the one whose bytes its call answers
+--     step-each                                        what holds after every step
 --     receipt-of-nothing                               one of no messages leaves the table
---     send-step .. rollback-step                       any other leaves the table whose bytes its call answers
 --     step-well-formed                                 steps keep tables well formed
 --     Turn, waiting-turn .. put-back-turn              two messages of a channel stay in turn when received, and when put back
 --     step-orderly                                     so steps keep tables orderly
@@ -294,7 +294,7 @@ module _ (t : Table) where
 module _ (l : List ℕ) (m : Message) where
   pub putBack-after : asLine l (m .receiver) < m .received → putBack l m ≡ withReceipt m 0
   unfolding putBack
-  putBack-after h = rw (lt-ltb (asLine l (m .receiver)) (m .received) h)
+  putBack-after h = ap (λ (b : Bool). cond b (withReceipt m 0) m) (lt-ltb (asLine l (m .receiver)) (m .received) h)
 
   pub putBack-before : m .received ≤ asLine l (m .receiver) → putBack l m ≡ m
   unfolding putBack
@@ -495,6 +495,25 @@ module _ (checks : List Check) (after before : Table) where
       go (yes e) = subst⁻¹ P (step-taken e) (taken e)
       go (no e) = subst⁻¹ P (step-caught e) caught
 
+-- each step of a future leaves the table whose bytes its call answers, where nothing catches it
+module _ (t : Table) where
+  pub send-step : (j i : ℕ) → firstCaught (sendChecks t j i) ≡ 0 → step t (send j i) ≡ afterSend t j i
+  unfolding step
+  send-step j i quiet = step-taken (sendChecks t j i) (afterSend t j i) t quiet
+
+  module _ (i : ℕ) (list : List ℕ) (quiet : firstCaught (receiptChecks t i list) ≡ 0) where
+    pub receive-step : step t (receive i list) ≡ afterReceipt t i list
+    unfolding step
+    receive-step = step-taken (receiptChecks t i list) (afterReceipt t i list) t quiet
+
+    pub checkpoint-step : step t (checkpoint i list) ≡ afterCheckpoint t i list
+    unfolding step
+    checkpoint-step = step-taken (receiptChecks t i list) (afterCheckpoint t i list) t quiet
+
+  pub rollback-step : step t rollback ≡ afterRollback t
+  unfolding step
+  rollback-step = refl
+
 -- what holds of the table, and of the one that each step leaves where nothing catches it
 pub step-each : (t : Table) (P : Table → Type 0) → ((j i : ℕ) → firstCaught (sendChecks t j i) ≡ 0 → P (afterSend t j i))
     → ((i : ℕ) (list : List ℕ) (t′ : Table) → Receives t i list t′ → firstCaught (receiptChecks t i list) ≡ 0 → P t′)
@@ -519,25 +538,6 @@ receipt-of-nothing t i =
   where
     after : Receives t i [] (afterReceipt t i [])
     after = receipt-receives t i []
-
--- each step of a future leaves the table whose bytes its call answers, where nothing catches it
-module _ (t : Table) where
-  pub send-step : (j i : ℕ) → firstCaught (sendChecks t j i) ≡ 0 → step t (send j i) ≡ afterSend t j i
-  unfolding step
-  send-step j i quiet = step-taken (sendChecks t j i) (afterSend t j i) t quiet
-
-  module _ (i : ℕ) (list : List ℕ) (quiet : firstCaught (receiptChecks t i list) ≡ 0) where
-    pub receive-step : step t (receive i list) ≡ afterReceipt t i list
-    unfolding step
-    receive-step = step-taken (receiptChecks t i list) (afterReceipt t i list) t quiet
-
-    pub checkpoint-step : step t (checkpoint i list) ≡ afterCheckpoint t i list
-    unfolding step
-    checkpoint-step = step-taken (receiptChecks t i list) (afterCheckpoint t i list) t quiet
-
-  pub rollback-step : step t rollback ≡ afterRollback t
-  unfolding step
-  rollback-step = refl
 
 -- ---- well formed tables
 -- a good message among as many processes, with another receipt number

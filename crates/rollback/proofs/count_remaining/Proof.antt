@@ -37,7 +37,8 @@ count-remaining-spec =
     (λ c. omega arith)
     (λ c.
     let sent = c .before in
-    counted-goes (turn sent .before .loop .inv) (turn sent .loop-test .taken) (sent .before .u16-at .ensures) (sent .u16-at2 .ensures) (c .if1 .taken))
+    counted-goes (turn sent .before .loop .inv) (turn sent .loop-test .taken) (sent .before .u16-at .ensures) (sent .u16-at2 .ensures)
+    (omega (arith, c .if1 .taken)))
     -- it stays
     (λ c.
     let sent = c .before in
