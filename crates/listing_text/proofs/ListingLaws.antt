@@ -30,11 +30,11 @@ use Rattle.calls.specs.Answers.{Yields, answer, bufferAfter, lengthAfter, numbe
 use Rattle.calls.specs.Calls.{keepSheetAnswer, scratchAfter}
 use Rattle.call_checks.specs.CallChecks.{keepSheetChecks}
 use Rattle.listing_text.proofs.RowLaws.{line-in}
-use Rattle.listing_text.proofs.ShareLaws.{share-rounded}
-use Rattle.listing_text.proofs.SizeLaws.{listing-few}
+use Rattle.listings.proofs.ShareLaws.{share-rounded}
+use Rattle.listings.proofs.SizeLaws.{listing-few}
 use Rattle.text_writer.proofs.TextLaws.{Left, all-left, each-rows, overlay-front}
-use Rattle.listing_text.specs.Listing.{EndsInShare, checkpointRow, holdRow, lineRow, listing, listingAnswer, listingOf, listingUnless}
-use Rattle.listing_text.specs.Listing.{messageRow, refusedRow, share, shareRow}
+use Rattle.listings.specs.Listing.{EndsInShare, checkpointRow, holdRow, lineRow, listing, listingAnswer, listingOf, listingUnless, messageRow}
+use Rattle.listings.specs.Listing.{refusedRow, share, shareRow}
 use Rattle.listing_text.specs.Rows.{Answered, checkpointAt, checkpointRows, holdRows, lineAt, messageRows}
 use Rattle.text_writer.specs.Text.{Laid, each, overlay}
 use Rattle.tables.proofs.ArrayLaws.{array-front, array-length}

@@ -10,7 +10,7 @@ use native.Mathlib.Nat.{le-antisymm}
 use native.Mathlib.Numerals.{add-one}
 use native.Mathlib.Omega.{arith}
 use lib.ListN.{take, drop}
-use Rattle.listing_text.specs.Listing.{checkpointRow}
+use Rattle.listings.specs.Listing.{checkpointRow}
 use Rattle.listing_text.specs.Rows.{checkpointAt, lineAt}
 use Rattle.holder_lines.proofs.ScratchLaws.{cell-below}
 use Rattle.tables.proofs.ListLaws.{sum-more, tabulate-getD}

@@ -5,7 +5,7 @@ use Prim.Native.Nat.{ℕ, _+_, _*_}
 use lib.ListN.{length, take, drop}
 use Rattle.keep_sheet.specs.Sheet.{Checkpoint, sheet}
 use Rattle.consistency.specs.Ceilings.{holderLines}
-use Rattle.listing_text.specs.Listing.{checkpointRow, holdRow, messageRow}
+use Rattle.listings.specs.Listing.{checkpointRow, holdRow, messageRow}
 use Rattle.tables.specs.Lists.{rows}
 use Rattle.tables.specs.Numbers.{u16At}
 use Rattle.tables.specs.Table.{Table, processCount}

@@ -12,7 +12,7 @@ ghost use Prim.Native.Nat.{ℕ, _≤_, _<_};
 ghost use lib.ListN.{length, take};
 ghost use Rattle.keep_sheet.specs.Sheet.{keptCheckpoints};
 ghost use Rattle.calls.specs.Answers.{Yields};
-ghost use Rattle.listing_text.specs.Listing.{EndsInShare, listing, listingAnswer, listingOf, share};
+ghost use Rattle.listings.specs.Listing.{EndsInShare, listing, listingAnswer, listingOf, share};
 ghost use Rattle.listing_text.specs.Rows.{Answered};
 ghost use Rattle.text_writer.specs.Text.{Laid};
 ghost use Rattle.tables.specs.Checks.{tableRefusal};

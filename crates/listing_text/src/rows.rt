@@ -7,7 +7,7 @@ use text_writer::put_word;
 ghost use mathlib.Core.List.{_∷_, []};
 ghost use Prim.Native.Nat.{_+_, _*_, _≤_, _<_};
 ghost use lib.ListN.{length};
-ghost use Rattle.listing_text.specs.Listing.{lineRow};
+ghost use Rattle.listings.specs.Listing.{lineRow};
 ghost use Rattle.listing_text.specs.Rows.{checkpointRows, holdRows, messageRows};
 ghost use Rattle.holder_lines.specs.Scratch.{HoldsLines};
 ghost use Rattle.text_writer.specs.Text.{Fits, Laid, row};

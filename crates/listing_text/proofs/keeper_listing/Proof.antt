@@ -1,7 +1,7 @@
 -- `keeper_listing` meets its contract, at each return.
 -- Assumes nothing.
 use Rattle.listing_text.proofs.ListingLaws.{listing-answered, listing-ends, listing-longer, listing-refused, sheet-answered, sheet-number}
-use Rattle.listing_text.proofs.SizeLaws.{text-few}
+use Rattle.listings.proofs.SizeLaws.{text-few}
 use Rattle.listing_text.specs.Rows.{Answered}
 use Rattle.tables.specs.Checks.{tableRefusal}
 use Rattle.tables.specs.Format.{decode}

@@ -2,7 +2,7 @@
 -- Assumes nothing.
 use Rattle.listing_text.proofs.ListingLaws.{Reading, holds-lines, kept-is, line-room, line-taken, listing-left, sheet-long, sheet-needs}
 use Rattle.text_writer.proofs.TextLaws.{none-left, part-laid, part-room}
-use Rattle.listing_text.specs.Listing.{shareRow}
+use Rattle.listings.specs.Listing.{shareRow}
 use denote.Ref.{now}
 use mathlib.Core.List.{[]}
 use mathlib.Core.Path.{refl}

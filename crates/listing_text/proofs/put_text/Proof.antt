@@ -1,9 +1,9 @@
 -- `put_text` meets its contract, at each return.
 -- Assumes nothing.
 use Rattle.listing_text.proofs.ListingLaws.{accepted-text, refused-text}
-use Rattle.listing_text.proofs.SizeLaws.{refused-few}
+use Rattle.listings.proofs.SizeLaws.{refused-few}
 use Rattle.text_writer.proofs.TextLaws.{laid-same}
-use Rattle.listing_text.specs.Listing.{refusedRow}
+use Rattle.listings.specs.Listing.{refusedRow}
 use Rattle.tables.specs.Checks.{tableRefusal}
 use denote.Ref.{now}
 use mathlib.Core.Path.{_≡_, _∙_, sym}

@@ -1,7 +1,7 @@
 -- `share_of` meets its contract.
 -- Assumes nothing.
-use Rattle.listing_text.proofs.ShareLaws.{rounded-share, share-most, sum-positive}
-use Rattle.listing_text.specs.Listing.{share}
+use Rattle.listings.proofs.ShareLaws.{rounded-share, share-most, sum-positive}
+use Rattle.listings.specs.Listing.{share}
 use Rattle.keep_sheet.proofs.FewLaws.{kept-few}
 use Rattle.tables.specs.Format.{decode}
 use denote.Ref.{now}

@@ -4,7 +4,7 @@
 use Prim.Native.Nat.{_-_}
 use Rattle.listing_text.proofs.RowLaws.{checkpoint-read}
 use Rattle.text_writer.proofs.TextLaws.{Laying, laying-all, laying-length, laying-more, laying-none, laying-room}
-use Rattle.listing_text.specs.Listing.{checkpointRow}
+use Rattle.listings.specs.Listing.{checkpointRow}
 use Rattle.listing_text.specs.Rows.{checkpointAt, checkpointRows}
 use borrow.Author.Needs.{needs}
 use mathlib.Core.Path.{refl}

@@ -4,7 +4,7 @@
 use Prim.Native.Nat.{_-_}
 use Rattle.listing_text.proofs.RowLaws.{line-in, line-part}
 use Rattle.text_writer.proofs.TextLaws.{Laying, laying-all, laying-length, laying-more, laying-none, laying-room}
-use Rattle.listing_text.specs.Listing.{holdRow}
+use Rattle.listings.specs.Listing.{holdRow}
 use Rattle.listing_text.specs.Rows.{holdRows, lineAt}
 use Rattle.holder_lines.specs.Scratch.{HoldsLines}
 use borrow.Author.Needs.{needs}

@@ -1,7 +1,7 @@
 -- `rows::put_line` meets its contract: the word, the line's fields, the line feed.
 -- Assumes nothing.
 use Rattle.text_writer.proofs.TextLaws.{none-left, part-laid, part-room, row-parts}
-use Rattle.listing_text.specs.Listing.{lineRow}
+use Rattle.listings.specs.Listing.{lineRow}
 use mathlib.Core.List.{[]}
 use borrow.Author.Needs.{needs}
 use Rattle.listing_text.proofs.rows.put_line.Statement.{statement}

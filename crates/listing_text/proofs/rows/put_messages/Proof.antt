@@ -3,7 +3,7 @@
 -- Assumes nothing.
 use Prim.Native.Nat.{_+_, _-_, _*_}
 use Rattle.text_writer.proofs.TextLaws.{Laying, laying-all, laying-length, laying-more, laying-none, laying-room}
-use Rattle.listing_text.specs.Listing.{messageRow}
+use Rattle.listings.specs.Listing.{messageRow}
 use Rattle.listing_text.specs.Rows.{messageRows}
 use Rattle.tables.specs.Numbers.{u16At}
 use borrow.Author.Needs.{needs}

@@ -16,9 +16,9 @@ use Rattle.keep_sheet.proofs.KeptLaws.{checkpoints-listed, keeps-checkpoint, li
 use Rattle.tables.specs.Lists.{Listed}
 use Rattle.keep_sheet.specs.Sheet.{Checkpoint, keptCheckpoints, keptMessages}
 use Rattle.consistency.specs.Ceilings.{holderLine}
-use Rattle.listing_text.proofs.ShareLaws.{share-most}
+use Rattle.listings.proofs.ShareLaws.{share-most}
 use Rattle.text_writer.proofs.TextLaws.{decimal-few, each-rows, tens}
-use Rattle.listing_text.specs.Listing.{checkpointRow, holdRow, lineRow, listing, listingOf, listingUnless, messageRow, refusedRow, share, shareRow}
+use Rattle.listings.specs.Listing.{checkpointRow, holdRow, lineRow, listing, listingOf, listingUnless, messageRow, refusedRow, share, shareRow}
 use Rattle.text_writer.specs.Text.{each, field, row}
 use Rattle.tables.proofs.AcceptLaws.{facts}
 use Rattle.tables.proofs.ListLaws.{rows-most}

@@ -5,7 +5,7 @@ use Prim.Native.Nat.{ℕ, _*_}
 use lib.Dec.{eqb}
 use Rattle.call_checks.specs.OrderCases.{caseTable}
 use Rattle.calls.specs.Cases.{tableA, tableB, tableC, tableD}
-use Rattle.listing_text.specs.Listing.{share}
+use Rattle.listings.specs.Listing.{share}
 use Rattle.rounding.specs.Rounding.{roundedQuotient}
 use Rattle.tables.specs.Format.{decode}
 

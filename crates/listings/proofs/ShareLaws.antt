@@ -14,7 +14,7 @@ use Rattle.consistency.proofs.LoweringLaws.{sum-zero}
 use Rattle.keep_sheet.proofs.FewLaws.{checkpoints-within}
 use Rattle.keep_sheet.specs.Sheet.{keptCheckpoints}
 use Rattle.rounding.proofs.RoundingLaws.{quotient-rounded, rounded-most, rounded-once}
-use Rattle.listing_text.specs.Listing.{share}
+use Rattle.listings.specs.Listing.{share}
 use Rattle.rounding.specs.Rounding.{Rounded}
 use Rattle.tables.proofs.AcceptLaws.{facts}
 use Rattle.tables.specs.Checks.{tableRefusal}

@@ -8,9 +8,9 @@ use Rattle.consistency.specs.Ceilings.{holderLine}
 use Rattle.keep_sheet.specs.Sheet.{keepsCheckpoint, keptCheckpoints}
 use Rattle.call_checks.specs.OrderCases.{caseTable}
 use Rattle.calls.specs.Cases.{likeA, tableB, tableC, tableD}
-use Rattle.listing_text.specs.Listing.{share}
+use Rattle.listings.specs.Listing.{share}
 use Rattle.rounding.specs.Rounding.{evenOf, roundedQuotient}
-use Rattle.listing_text.specs.ShareCases.{allPortions, allShares, portions, shareCases}
+use Rattle.listings.specs.ShareCases.{allPortions, allShares, portions, shareCases}
 use Rattle.tables.specs.Format.{checkpointAt, countAt, countsPart, decode, messageAt, messagesIn, processAt, processesIn, receiptsPart, sendsPart}
 use Rattle.tables.specs.Lists.{anyBelow, rows, select, sum, tabulate}
 use Rattle.tables.specs.Numbers.{bytesOf, bytesOfAll, numberAt}

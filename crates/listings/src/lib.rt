@@ -1,0 +1,1 @@
+// What a listing says: definitions and laws, and no code.
