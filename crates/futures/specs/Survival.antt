@@ -20,21 +20,21 @@ unfoldable pub EachLine : Table → Future → (Line → Type 0) → Type 0
 EachLine t future Claim = (front rest : Future) → future ≡ front ++ (rollback ∷ rest)
     → Claim (asLine (recoveryLine (endOf t front)))
 
--- A rollback keeps checkpoint c of process i where its line is not below c at i, and a message (j, y) to (i, r) where y
--- is below its line at j.
+-- A line is not below c at i.
 abbrev pub NotBelow : ℕ → ℕ → Line → Type 0
 NotBelow i c l = c ≤ l i
 
+-- A message (j, y) to (i, r) was sent before a line: y is below it at j.
 abbrev pub SentBefore : Message → Line → Type 0
 SentBefore m l = m .sent < l (m .sender)
 
--- A checkpoint is still there unless a rollback in the list went to a line below it. A message is still there, at some
--- position, unless a rollback in the list removed it: it was sent before the line of each. What is still there is in
--- the last table, a message with the sender, send number and receiver that it had, and messages in their order. After
--- one rollback: a checkpoint at or below the recovery line is still there, and none above it; so is a message sent
--- before the line, and no other. It is as it was where it was received at or below the line or waited, and waits again
--- where it was received above it. A step that is no rollback, a caught one too, keeps every checkpoint, and every
--- message at its position.
+-- Checkpoint c of process i is still there unless a rollback in the list went to a line below c at i. A message is
+-- still there, at whatever position, unless a rollback in the list removed it, as one does before whose line it was not
+-- sent. What is still there is in the last table: a message with the sender, send number and receiver that it had,
+-- messages in their order. So after one rollback a checkpoint at or below the recovery line is still there, and none
+-- above it; a message sent before the line, and no other. Such a message is as it was, but undelivered again where it
+-- was received after the line. A step that is no rollback, a caught one too, keeps every checkpoint, and every message
+-- at its position.
 pub record Survival (t : Table) : Type 0 where
   pub checkpoints : (future : Future) (i c : ℕ) → StillThere t future i c ↔ EachLine t future (NotBelow i c)
   pub checkpoints-in : (future : Future) (i c : ℕ) → c < countOf t i → StillThere t future i c
