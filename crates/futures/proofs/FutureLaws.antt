@@ -5,8 +5,7 @@
 --     rolled-to, rolled-message        where a rollback moves a message, and what it makes of it
 --     moved-inside, moved-same, moved-order    the messages over one step
 --     still-there-count                a checkpoint that is still there is a checkpoint of the last table
---     followed-in                      a message that is still there is a message of the last table, with the sender, send number
---                                      and receiver that it had
+--     followed-in                      so is a message one of its messages, with the sender, send number and receiver that it had
 --     followed-order                   messages that are still there keep their order
 --     needs-checkpoint-now, needs-message-now            the empty future needs what the table's own recovery line needs
 --     survival-holds                   what is claimed of all that is still there holds in every table
@@ -190,14 +189,12 @@ module _ (t : Table) where
 
   pub moved-same : (s : Step) (k n : ℕ) → k < messageCount t → MovedTo t s k n → SameMessage (messageOf t k) (messageOf (step t s) n)
   moved-same s k n l =
-      by-step t (λ s. MovedTo t s k n → SameMessage m (messageOf (step t s) n))
-      (λ s x e. subst (λ (a : ℕ). SameMessage m (messageOf (step t s) a)) (stayed-at x e) (x .grown .messages-go-on k l .same))
+      by-step t (λ s. MovedTo t s k n → SameMessage (messageOf t k) (messageOf (step t s) n))
+      (λ s x e. subst (λ (a : ℕ). SameMessage (messageOf t k) (messageOf (step t s) a)) (stayed-at x e) (x .grown .messages-go-on k l .same))
       (λ e.
+      let m = messageOf t k in
       let line = recoveryLine t in
       rw (rolled-message k n l (rolled-to t k n e), putBack-sender line m, putBack-sent line m, putBack-receiver line m)) s
-    where
-      m : Message
-      m = messageOf t k
 
   pub moved-order : (s : Step) (a b a′ b′ : ℕ) → a < b → b < messageCount t → MovedTo t s a a′ → MovedTo t s b b′ → a′ < b′
   moved-order s a b a′ b′ h l =
@@ -266,12 +263,8 @@ pub needs-message-now : (t : Table) (k : ℕ)
 unfolding FollowedTo placeOf endOf
 needs-message-now t k = (
   λ n.
-      let here : n .position ≡ k = sym (followed-here t k (n .position) (n .still-there)) in (
-        n .a-message,
-        subst (λ (x : ℕ). messageOf t x .sent < asLine (recoveryLine t) (messageOf t x .sender)) here (n .sent-before),
-        subst (λ (x : ℕ). (messageOf t x .received ≡ 0) ⊎ (asLine (recoveryLine t) (messageOf t x .receiver) < messageOf t x .received)) here
-            (n .not-received),
-      ),
+      let here = followed-here t k (n .position) (n .still-there) in
+      (n .a-message, rw here (n .sent-before), rw here (n .not-received)),
   λ h. record { a-message = h .0; position = k; still-there = refl; sent-before = h .1; not-received = h .2 },
 )
 
