@@ -1,32 +1,35 @@
 -- Laws of futures: what a list of steps keeps of the run that it starts from.
 --     TableGrown, send-grown, receipt-grown, checkpoint-grown    all but a rollback keep every checkpoint and message, and receive late
 --     LosesNothing, by-step            a step that is no rollback loses nothing, and moves nothing; what holds of it, and of a rollback
+--     rollback-keeps, rolled-place     what a rollback keeps, and where it moves a message that stays
 --     rolled-to, rolled-message        where a rollback moves a message, and what it makes of it
 --     moved-inside, moved-same, moved-order    the messages over one step
 --     still-there-count                a checkpoint that is still there is a checkpoint of the last table
---     followed-inside, followed-same   a message that is still there is a message of the last table, with the sender, send number
---                                      and receiver that it had
+--     followed-in                      so is a message one of its messages, with the sender, send number and receiver that it had
 --     followed-order                   messages that are still there keep their order
 --     needs-checkpoint-now, needs-message-now            the empty future needs what the table's own recovery line needs
+--     survival-holds                   what is claimed of all that is still there holds in every table
 -- Assumes nothing.
-use mathlib.Core.Bool.{Bool, true, false, cond}
-use mathlib.Core.List.{List, [], _∷_}
+use mathlib.Core.Bool.{Bool, true, false}
+use mathlib.Core.List.{List, [], _∷_, _++_}
 use mathlib.Core.Logic.{_↔_, _⊎_}
 use mathlib.Core.Path.{_≡_, refl, sym, ap, _∙_, subst, subst⁻¹}
 use Prim.Native.Nat.{ℕ, _≤_, _<_}
 use native.Mathlib.Decide.{ℕ-discrete}
 use native.Mathlib.Nat.{le-refl}
 use native.Mathlib.Omega.{arith}
+use borrow.Author.Tests.{lt-ltb}
 use lib.Dec.{eqb}
 use lib.ListN.{length, take}
 use Rattle.consistency.specs.Ceilings.{recoveryLine}
 use Rattle.consistency.specs.Lines.{AtOrBelow, asLine}
 use Rattle.steps.proofs.StepLaws.{Receives, checkpoint-receives, putBack-receiver, putBack-sender, putBack-sent, receipt-receives, receipt-waiting}
 use Rattle.steps.proofs.StepLaws.{receivedAt-listed, receivedAt-unlisted, receives-message, receives-messages, rollback-count, rollback-message}
-use Rattle.steps.proofs.StepLaws.{rollback-order}
+use Rattle.steps.proofs.StepLaws.{putBack-after, putBack-before, rollback-order, stays-sent}
 use Rattle.steps.proofs.StepLaws.{rollback-place, send-count, send-message-new, send-message-old, send-messages, step-cases}
 use Rattle.futures.specs.Futures.{FollowedTo, Future, NeedsCheckpoint, NeedsMessage, Place, StepKeeps, StillThere, at-position, endOf, gone, moved}
 use Rattle.futures.specs.Futures.{placeOf}
+use Rattle.futures.specs.Survival.{EachLine, NotBelow, SameMessage, SentBefore, Survival}
 use Rattle.steps.specs.Steps.{Step, afterCheckpoint, afterReceipt, afterRollback, afterSend, checkpoint, putBack, receiptChecks, receive, receivedAt}
 use Rattle.steps.specs.Steps.{remaining, rollback, send, sendChecks, stays, step}
 use Rattle.tables.proofs.FormatLaws.{known-process, message-beyond}
@@ -35,15 +38,6 @@ use Rattle.tables.specs.Lists.{any}
 use Rattle.tables.specs.Table.{Message, Table, countOf, messageCount, messageOf}
 
 -- ---- one step
--- A message after a step, or after several, is the one that it was but for its receipt.
-pub record SameMessage (m m′ : Message) : Type 0 where
-  pub sender-same : m′ .sender ≡ m .sender
-  pub sent-same : m′ .sent ≡ m .sent
-  pub receiver-same : m′ .receiver ≡ m .receiver
-
-pub same-refl : (m : Message) → SameMessage m m
-same-refl m = record { sender-same = refl; sent-same = refl; receiver-same = refl }
-
 -- How a message goes on in a send, a receipt or a checkpoint: it is received at most once, and after every checkpoint that there was.
 pub record MessageGoesOn (t : Table) (m m′ : Message) : Type 0 where
   pub same : SameMessage m m′
@@ -59,7 +53,7 @@ pub record TableGrown (t t′ : Table) : Type 0 where
 
 module _ (t : Table) where
   unchanged : (m : Message) → MessageGoesOn t m m
-  unchanged m = record { same = same-refl m; received-stay = λ _. refl; received-late = λ e d. absurd (omega arith) }
+  unchanged m = record { same = refl; received-stay = λ _. refl; received-late = λ e d. absurd (omega arith) }
 
   pub beyond-undelivered : (k : ℕ) → messageCount t ≤ k → messageOf t k .received ≡ 0
   beyond-undelivered k l = ap (λ (m : Message). m .received) (message-beyond t k l)
@@ -99,7 +93,7 @@ module _ (t : Table) where
       goes-on k true e =
           let waits = receipt-waiting t i list quiet k e in
           subst⁻¹ (MessageGoesOn t (messageOf t k)) (receivedAt-listed t i list k e) (record {
-            same = record { sender-same = refl; sent-same = refl; receiver-same = refl };
+            same = refl;
             received-stay = λ d. absurd (omega (arith, waits .undelivered));
             received-late = λ _ _. subst⁻¹ (λ (p : ℕ). countOf t p ≤ countOf t i) (waits .to-process) (le-refl (countOf t i));
           })
@@ -137,20 +131,32 @@ stayed-at {k = k} {n = n} x e = same-position k n (sym (x .messages-stay k) ∙ 
 -- what holds of each such step, and of a rollback, holds of every step
 pub by-step : (t : Table) (Q : Step → Type 0) → ((s : Step) → LosesNothing t s → Q s) → Q rollback → (s : Step) → Q s
 unfolding StepKeeps moved
-by-step t Q other rolled (send j i) =
-    other (send j i) (record { grown = send-grown t j i; checkpoints-stay = λ p c. tt; messages-stay = λ k. refl })
-by-step t Q other rolled (receive i list) =
-    other (receive i list) (record { grown = receipt-grown t i list; checkpoints-stay = λ p c. tt; messages-stay = λ k. refl })
-by-step t Q other rolled (checkpoint i list) =
-    other (checkpoint i list) (record { grown = checkpoint-grown t i list; checkpoints-stay = λ p c. tt; messages-stay = λ k. refl })
+by-step t Q other rolled (send j i) = other _ (record { grown = send-grown t j i; checkpoints-stay = λ p c. tt; messages-stay = λ k. refl })
+by-step t Q other rolled (receive i list) = other _ (record { grown = receipt-grown t i list; checkpoints-stay = λ p c. tt; messages-stay = λ k. refl })
+by-step t Q other rolled (checkpoint i list) = other _ (record { grown = checkpoint-grown t i list; checkpoints-stay = λ p c. tt; messages-stay = λ k. refl })
 by-step t Q other rolled rollback = rolled
+
+-- what a rollback keeps, and where it moves a message that stays
+module _ (t : Table) where
+  pub rollback-keeps : (i c : ℕ) → StepKeeps t rollback i c ↔ (c ≤ asLine (recoveryLine t) i)
+  unfolding StepKeeps
+  rollback-keeps i c = (λ keeps. omega arith, λ low. omega arith)
+
+  pub rolled-place : (k : ℕ) → stays (recoveryLine t) (messageOf t k) ≡ true
+      → MovedTo t rollback k (length (remaining (recoveryLine t) (take k (t .messages))))
+  unfolding moved
+  rolled-place k e = rw e
+
+  rolled-gone : (k : ℕ) → stays (recoveryLine t) (messageOf t k) ≡ false → moved t rollback k ≡ gone
+  unfolding moved
+  rolled-gone k e = rw e
 
 -- a checkpoint that a step keeps is one of the table after it
 pub step-keeps-count : (t : Table) (s : Step) (i c : ℕ) → c < countOf t i → StepKeeps t s i c → c < countOf (step t s) i
-unfolding StepKeeps step
+unfolding step
 step-keeps-count t s i c b =
     by-step t (λ s. StepKeeps t s i c → c < countOf (step t s) i) (λ s x _. omega (arith, x .grown .counts-grow i))
-    (λ keeps. omega (arith, rollback-count t i (known-process t i c b))) s
+    (λ keeps. omega (arith, rollback-keeps t i c .0 keeps, rollback-count t i (known-process t i c b))) s
 
 -- a rollback moves a message that stays to the number of those before it that stay
 pub record RolledTo (t : Table) (k n : ℕ) : Type 0 where
@@ -158,15 +164,12 @@ pub record RolledTo (t : Table) (k n : ℕ) : Type 0 where
   pub position : length (remaining (recoveryLine t) (take k (t .messages))) ≡ n
 
 pub rolled-to : (t : Table) (k n : ℕ) → MovedTo t rollback k n → RolledTo t k n
-unfolding moved
-rolled-to t k n e = go (stays (recoveryLine t) (messageOf t k)) refl e
+rolled-to t k n e = go (stays (recoveryLine t) (messageOf t k)) refl
   where
-    place : ℕ
-    place = length (remaining (recoveryLine t) (take k (t .messages)))
-
-    go : (b : Bool) → stays (recoveryLine t) (messageOf t k) ≡ b → cond b (at-position place) gone ≡ at-position n → RolledTo t k n
-    go true h x = record { stayed = h; position = same-position place n x }
-    go false h x =
+    go : (b : Bool) → stays (recoveryLine t) (messageOf t k) ≡ b → RolledTo t k n
+    go true h = record { stayed = h; position = same-position _ n (sym (rolled-place t k h) ∙ e) }
+    go false h =
+        let none : moved t rollback k ≡ gone = rolled-gone t k h in
         let z : _≡_ {A = ℕ} 0 1 = cc in
         absurd (omega arith)
 
@@ -186,16 +189,12 @@ module _ (t : Table) where
 
   pub moved-same : (s : Step) (k n : ℕ) → k < messageCount t → MovedTo t s k n → SameMessage (messageOf t k) (messageOf (step t s) n)
   moved-same s k n l =
-      by-step t (λ s. MovedTo t s k n → SameMessage m (messageOf (step t s) n))
-      (λ s x e. subst (λ (a : ℕ). SameMessage m (messageOf (step t s) a)) (stayed-at x e) (x .grown .messages-go-on k l .same))
-      (λ e. subst⁻¹ (SameMessage m) (rolled-message k n l (rolled-to t k n e)) (record {
-        sender-same = putBack-sender (recoveryLine t) m;
-        sent-same = putBack-sent (recoveryLine t) m;
-        receiver-same = putBack-receiver (recoveryLine t) m;
-      })) s
-    where
-      m : Message
-      m = messageOf t k
+      by-step t (λ s. MovedTo t s k n → SameMessage (messageOf t k) (messageOf (step t s) n))
+      (λ s x e. subst (λ (a : ℕ). SameMessage (messageOf t k) (messageOf (step t s) a)) (stayed-at x e) (x .grown .messages-go-on k l .same))
+      (λ e.
+      let m = messageOf t k in
+      let line = recoveryLine t in
+      rw (rolled-message k n l (rolled-to t k n e), putBack-sender line m, putBack-sent line m, putBack-receiver line m)) s
 
   pub moved-order : (s : Step) (a b a′ b′ : ℕ) → a < b → b < messageCount t → MovedTo t s a a′ → MovedTo t s b b′ → a′ < b′
   moved-order s a b a′ b′ h l =
@@ -234,30 +233,14 @@ unfolding StillThere endOf
 still-there-count t [] i c b still = b
 still-there-count t (s ∷ rest) i c b still = still-there-count (step t s) rest i c (step-keeps-count t s i c b (still .0)) (still .1)
 
-pub followed-inside : (t : Table) (future : Future) (k k′ : ℕ) → k < messageCount t → FollowedTo t future k k′
-    → k′ < messageCount (endOf t future)
+pub followed-in : (t : Table) (future : Future) (k k′ : ℕ) → k < messageCount t → FollowedTo t future k k′
+    → (k′ < messageCount (endOf t future)) × SameMessage (messageOf t k) (messageOf (endOf t future) k′)
 unfolding endOf
-followed-inside t [] k k′ l e = omega (arith, followed-here t k k′ e)
-followed-inside t (s ∷ rest) k k′ l e =
+followed-in t [] k k′ l e = subst (λ (n : ℕ). (n < messageCount t) × SameMessage (messageOf t k) (messageOf t n)) (followed-here t k k′ e) (l, refl)
+followed-in t (s ∷ rest) k k′ l e =
     let first = followed-first t s rest k k′ e in
-    followed-inside (step t s) rest (first .0) k′ (moved-inside t s k (first .0) l (first .1)) (first .2)
-
-pub followed-same : (t : Table) (future : Future) (k k′ : ℕ) → k < messageCount t → FollowedTo t future k k′
-    → SameMessage (messageOf t k) (messageOf (endOf t future) k′)
-unfolding endOf
-followed-same t [] k k′ l e = subst (λ (n : ℕ). SameMessage (messageOf t k) (messageOf t n)) (followed-here t k k′ e) (same-refl (messageOf t k))
-followed-same t (s ∷ rest) k k′ l e =
-    let first = followed-first t s rest k k′ e in
-    let n = first .0 in
-    let here : SameMessage (messageOf t k) (messageOf (step t s) n) = moved-same t s k n l (first .1) in
-    let later : SameMessage (messageOf (step t s) n) (messageOf (endOf (step t s) rest) k′) =
-    followed-same (step t s) rest n k′ (moved-inside t s k n l (first .1)) (first .2)
-    in
-    record {
-      sender-same = later .sender-same ∙ here .sender-same;
-      sent-same = later .sent-same ∙ here .sent-same;
-      receiver-same = later .receiver-same ∙ here .receiver-same;
-    }
+    let later = followed-in (step t s) rest (first .0) k′ (moved-inside t s k (first .0) l (first .1)) (first .2) in
+    (later .0, later .1 ∙ moved-same t s k (first .0) l (first .1))
 
 pub followed-order : (t : Table) (future : Future) (a b a′ b′ : ℕ) → a < b → b < messageCount t → FollowedTo t future a a′
     → FollowedTo t future b b′ → a′ < b′
@@ -280,11 +263,70 @@ pub needs-message-now : (t : Table) (k : ℕ)
 unfolding FollowedTo placeOf endOf
 needs-message-now t k = (
   λ n.
-      let here : n .position ≡ k = sym (followed-here t k (n .position) (n .still-there)) in (
-        n .a-message,
-        subst (λ (x : ℕ). messageOf t x .sent < asLine (recoveryLine t) (messageOf t x .sender)) here (n .sent-before),
-        subst (λ (x : ℕ). (messageOf t x .received ≡ 0) ⊎ (asLine (recoveryLine t) (messageOf t x .receiver) < messageOf t x .received)) here
-            (n .not-received),
-      ),
+      let here = followed-here t k (n .position) (n .still-there) in
+      (n .a-message, rw here (n .sent-before), rw here (n .not-received)),
   λ h. record { a-message = h .0; position = k; still-there = refl; sent-before = h .1; not-received = h .2 },
 )
+
+-- ---- 'still there', said of the whole list
+-- what is still there was kept by each rollback
+line-kept : (t : Table) (front rest : Future) (i c : ℕ) → StillThere t (front ++ (rollback ∷ rest)) i c
+    → NotBelow i c (asLine (recoveryLine (endOf t front)))
+unfolding StillThere endOf
+line-kept t [] rest i c still = rollback-keeps t i c .0 (still .0)
+line-kept t (s ∷ front) rest i c still = line-kept (step t s) front rest i c (still .1)
+
+line-sent : (t : Table) (front rest : Future) (k k′ : ℕ) → k < messageCount t → FollowedTo t (front ++ (rollback ∷ rest)) k k′
+    → SentBefore (messageOf t k) (asLine (recoveryLine (endOf t front)))
+unfolding endOf
+line-sent t [] rest k k′ l e =
+    stays-sent (recoveryLine t) (messageOf t k) (rolled-to t k _ (followed-first t rollback rest k k′ e .1) .stayed)
+line-sent t (s ∷ front) rest k k′ l e =
+    let first = followed-first t s (front ++ (rollback ∷ rest)) k k′ e in
+    subst (λ (m : Message). SentBefore m (asLine (recoveryLine (endOf (step t s) front)))) (moved-same t s k (first .0) l (first .1))
+    (line-sent (step t s) front rest (first .0) k′ (moved-inside t s k (first .0) l (first .1)) (first .2))
+
+-- and what each rollback keeps is still there
+kept-there : (t : Table) (future : Future) (i c : ℕ) → EachLine t future (NotBelow i c) → StillThere t future i c
+unfolding StillThere EachLine endOf
+kept-there t [] i c each = tt
+kept-there t (s ∷ rest) i c each = (
+  by-step t (λ s. EachLine t (s ∷ rest) (NotBelow i c) → StepKeeps t s i c) (λ s x _. x .checkpoints-stay i c)
+      (λ each. rollback-keeps t i c .1 (each [] rest refl)) s each,
+  kept-there (step t s) rest i c (λ front back e. each (s ∷ front) back (ap (λ (x : Future). s ∷ x) e)),
+)
+
+rolled-sent : (t : Table) (k : ℕ) → SentBefore (messageOf t k) (asLine (recoveryLine t)) → (n : ℕ) × MovedTo t rollback k n
+unfolding stays
+rolled-sent t k h = (_, rolled-place t k (lt-ltb (messageOf t k .sent) (asLine (recoveryLine t) (messageOf t k .sender)) h))
+
+sent-there : (t : Table) (future : Future) (k : ℕ) → k < messageCount t → EachLine t future (SentBefore (messageOf t k))
+    → (k′ : ℕ) × FollowedTo t future k k′
+unfolding FollowedTo placeOf EachLine endOf
+sent-there t [] k l each = (k, refl)
+sent-there t (s ∷ rest) k l each =
+    let first = by-step t (λ s. EachLine t (s ∷ rest) (SentBefore (messageOf t k)) → (n : ℕ) × MovedTo t s k n) (λ s x _. (k, x .messages-stay k))
+    (λ each. rolled-sent t k (each [] rest refl)) s each in
+    let there = sent-there (step t s) rest (first .0) (moved-inside t s k (first .0) l (first .1))
+    (λ front back e.
+    subst⁻¹ (λ (m : Message). SentBefore m (asLine (recoveryLine (endOf (step t s) front)))) (moved-same t s k (first .0) l (first .1))
+    (each (s ∷ front) back (ap (λ (x : Future). s ∷ x) e))) in
+    (there .0, subst⁻¹ (λ (place : Place). placeOf (step t s) rest place ≡ at-position (there .0)) (first .1) (there .1))
+
+pub survival-holds : (t : Table) → Survival t
+unfolding StillThere FollowedTo placeOf EachLine endOf
+survival-holds t = record {
+  checkpoints = λ future i c.
+      (λ still front rest e. line-kept t front rest i c (subst (λ (x : Future). StillThere t x i c) e still), kept-there t future i c);
+  checkpoints-in = still-there-count t;
+  messages = λ future k l.
+      (λ h front rest e. line-sent t front rest k (h .0) l (subst (λ (x : Future). FollowedTo t x k (h .0)) e (h .1)), sent-there t future k l);
+  messages-in = followed-in t;
+  messages-order = followed-order t;
+  rolled-checkpoint = λ i c. (λ still. rollback-keeps t i c .0 (still .0), λ low. (rollback-keeps t i c .1 low, tt));
+  rolled-message = λ k l. (λ there. line-sent t [] [] k (there .0) l (there .1), rolled-sent t k);
+  rolled-receipt = λ k n l e.
+      let is = rolled-message t k n l (rolled-to t k n e) in
+      (λ low. is ∙ putBack-before (recoveryLine t) (messageOf t k) low, λ high. is ∙ putBack-after (recoveryLine t) (messageOf t k) high);
+  nothing-lost = by-step t _ (λ s x _. (λ i c. (x .checkpoints-stay i c, tt), x .messages-stay)) (λ no. absurd (no refl));
+}

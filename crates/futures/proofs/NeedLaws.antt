@@ -16,7 +16,7 @@ use native.Mathlib.Omega.{arith}
 use Rattle.consistency.specs.Ceilings.{recoveryLine, single}
 use Rattle.consistency.specs.Lines.{AtOrBelow, Line, asLine}
 use Rattle.futures.proofs.FutureLaws.{TableGrown, MovedTo, by-step, followed-first, followed-here, moved-inside, rolled-message, rolled-to, stayed-at}
-use Rattle.futures.proofs.FutureLaws.{step-keeps-count}
+use Rattle.futures.proofs.FutureLaws.{rollback-keeps, step-keeps-count}
 use Rattle.futures.proofs.HeldLaws.{Held, held-above, held-attained, held-before, set-held}
 use Rattle.keep_sheet.proofs.KeptLaws.{Across, HolderWith, keeps-checkpoint, keeps-message}
 use Rattle.steps.proofs.StepLaws.{putBack-before, recovery-latest, rollback-line, stays-sent, step-well-formed}
@@ -133,10 +133,11 @@ module _ (t : Table) where
 -- ---- before any step
 module _ (t : Table) (w : WellFormed t) where
   pub checkpoint-back : (s : Step) (i c : ℕ) → c < countOf t i → StepKeeps t s i c → OnHeld (step t s) i c → OnHeld t i c
-  unfolding StepKeeps step
+  unfolding step
   checkpoint-back s i c b =
       by-step t (λ s. StepKeeps t s i c → OnHeld (step t s) i c → OnHeld t i c)
-      (λ s x _ on. grown-checkpoint t (step t s) w (x .grown) i c b on) (rolled-checkpoint t i c) s
+      (λ s x _ on. grown-checkpoint t (step t s) w (x .grown) i c b on)
+      (λ keeps. rolled-checkpoint t i c (rollback-keeps t i c .0 keeps)) s
 
   pub message-back : (s : Step) (k n : ℕ) → k < messageCount t → MovedTo t s k n → Open (step t s) (messageOf (step t s) n) → Open t (messageOf t k)
   unfolding step

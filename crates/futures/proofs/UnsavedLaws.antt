@@ -9,19 +9,19 @@ use native.Mathlib.Nat.{le-refl}
 use native.Mathlib.Omega.{arith}
 use borrow.Author.Tests.{eq-eqb, ne-eqb}
 use lib.Dec.{eqb}
-use lib.ListN.{length, getD, take}
+use lib.ListN.{length, getD}
 use Rattle.consistency.specs.Ceilings.{recoveryLine}
 use Rattle.consistency.specs.Lines.{asLine}
-use Rattle.futures.proofs.FutureLaws.{checkpoint-grown}
+use Rattle.futures.proofs.FutureLaws.{checkpoint-grown, survival-holds}
 use Rattle.keep_sheet.proofs.KeptLaws.{Ordered, listed-any, listed-at, select-listed, select-ordered}
 use Rattle.steps.proofs.OrderLaws.{OlderListed, neighbours-rise}
-use Rattle.steps.proofs.StepLaws.{Waiting, checkpoint-count-here, checkpoint-step, putBack-after, receipt-count, receipt-known, receipt-of-nothing}
+use Rattle.steps.proofs.StepLaws.{Waiting, checkpoint-count-here, checkpoint-step, receipt-count, receipt-known, receipt-of-nothing}
 use Rattle.steps.proofs.StepLaws.{receipt-older, receipt-quiet, receipt-receives, receive-step, receivedAt-listed, receives-message}
-use Rattle.steps.proofs.StepLaws.{receives-messages, recovery-latest, rollback-count, rollback-each, rollback-message, step-cases, waits-for}
+use Rattle.steps.proofs.StepLaws.{receives-messages, recovery-latest, rollback-count, rollback-each, stays-sent, step-cases, waits-for}
 use Rattle.futures.specs.Futures.{FollowedTo, StepKeeps, StillThere, endOf, moved, placeOf}
 use Rattle.keep_sheet.specs.Sheet.{crosses, keepsMessage}
 use Rattle.consistency.specs.Ceilings.{holderLine}
-use Rattle.steps.specs.Steps.{afterCheckpoint, afterReceipt, afterRollback, checkpoint, notRising, receiptChecks, receive, remaining, rollback, stays}
+use Rattle.steps.specs.Steps.{afterCheckpoint, afterReceipt, afterRollback, checkpoint, notRising, receiptChecks, receive, rollback, stays}
 use Rattle.steps.specs.Steps.{step, waitsFor}
 use Rattle.futures.specs.Unsaved.{Receipts, Unsaved, waitingUpTo}
 use Rattle.tables.proofs.ListLaws.{and-left, and-right, select-gap, select-more}
@@ -148,12 +148,7 @@ module _ (t : Table) (w : WellFormed t) where
       step-cases (receiptChecks t i alone) (afterCheckpoint t i alone) t (λ x. x ≡ t) (λ quiet. absurd (caught quiet)) refl,
     )
 
-  -- ---- a receipt loses nothing, and one of nothing changes nothing
-  none-lost : (i : ℕ) (list : List ℕ) → ((p c : ℕ) → StillThere t (receive i list ∷ []) p c)
-      × ((k : ℕ) → FollowedTo t (receive i list ∷ []) k k)
-  unfolding StillThere StepKeeps FollowedTo placeOf moved
-  none-lost i list = (λ p c. (tt, tt), λ k. refl)
-
+  -- ---- a receipt of nothing changes nothing
   none-received : (i : ℕ) → step t (receive i []) ≡ t
   unfolding step
   none-received i = step-cases (receiptChecks t i []) (afterReceipt t i []) t (λ x. x ≡ t) (λ _. receipt-of-nothing t i) refl
@@ -186,16 +181,13 @@ module _ (t : Table) (w : WellFormed t) where
   -- where its send remains it waits again: it was received at the count, above the line
   waiting-again : (k : ℕ) → Unsaved t k → stays (recoveryLine t) (messageOf t k) ≡ true
       → (n : ℕ) × FollowedTo t (rollback ∷ []) k n × (messageOf (step t rollback) n .received ≡ 0)
-  unfolding Unsaved FollowedTo placeOf moved step
+  unfolding Unsaved
   waiting-again k u e =
       let m = messageOf t k in
-      let known = w .good-messages k (u .0) .receiver-known in
-      let late : asLine (recoveryLine t) (m .receiver) < m .received =
-      omega (arith, u .1, recovery-latest t .under (m .receiver), w .some-checkpoint (m .receiver) known) in (
-        length (remaining (recoveryLine t) (take k (t .messages))),
-        rw e,
-        ap (λ (x : Message). x .received) (rollback-message t k (u .0) e ∙ putBack-after (recoveryLine t) m late),
-      )
+      let there = survival-holds t .rolled-message k (u .0) .1 (stays-sent (recoveryLine t) m e) in
+      let count = w .some-checkpoint (m .receiver) (w .good-messages k (u .0) .receiver-known) in
+      let again = survival-holds t .rolled-receipt k (there .0) (u .0) (there .1) .1 (omega (arith, u .1, recovery-latest t .under (m .receiver), count)) in
+      (there .0, there .1, ap (λ (x : Message). x .received) again)
 
   -- ---- the sheet
   kept-across : (k : ℕ) → Unsaved t k
@@ -206,12 +198,13 @@ module _ (t : Table) (w : WellFormed t) where
       rw (ne-eqb (m .received) 0 (λ e. omega (arith, u .1, w .some-checkpoint (m .receiver) (w .good-messages k (u .0) .receiver-known))))
 
 pub receipts-hold : (t : Table) → WellFormed t → Receipts t
+unfolding StillThere StepKeeps FollowedTo placeOf moved
 receipts-hold t w =
     record {
       received = received-in-turn t w;
       received-alone = received-first t w;
       passed-over = alone-leaves t w;
-      nothing-lost = none-lost t w;
+      nothing-lost = λ i list. (λ p c. (tt, tt), λ k. refl);
       of-nothing = none-received t w;
       saved = saved-as-it-is t w;
       rolled-back = none-rolled-back t w;
