@@ -142,7 +142,7 @@ same-order p n e = go (decLt p n)
     go (no l) = le-ltb p n (omega arith) ∙ sym (le-ltb p (suc n) (omega arith))
 
 -- the minimum of the ceilings of single processes, at p: count − 1 where p is a member below n, and else the count
-single-at : (t : Table) (k p : ℕ) → asLine (ceilingOf t (single k)) p ≡ cond (eqb p k) (countOf t p - 1) (countOf t p)
+pub single-at : (t : Table) (k p : ℕ) → asLine (ceilingOf t (single k)) p ≡ cond (eqb p k) (countOf t p - 1) (countOf t p)
 unfolding single
 single-at t k p = ceiling-at t (single k) p
 

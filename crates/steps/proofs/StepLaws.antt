@@ -1,5 +1,5 @@
 -- Laws of the steps: what each one does, that each leaves a well formed table well formed, and that none puts the recovery line back.
---     send-processes .. send-message-new               the table after a send
+--     send-processes .. send-message-new, sent-since   the table after a send; its message was sent after the last checkpoint
 --     send-each                                        what holds of the old messages and of the new one holds of all
 --     quiet-send, send-quiet                           what it means that nothing catches a send
 --     Waiting, waits-for .. waiting-position           the positions that a receipt or a checkpoint may list
@@ -27,6 +27,7 @@
 -- Assumes nothing.
 use mathlib.Core.Bool.{Bool, true, false, cond, not, _||_, false≢true}
 use mathlib.Core.List.{List, [], _∷_, _++_, map}
+use mathlib.Core.Logic.{_↔_}
 use mathlib.Core.Path.{_≡_, refl, sym, ap, _∙_, subst, subst⁻¹}
 use Prim.Native.Nat.{ℕ, zero, suc, _+_, _-_, _≤_, _<_, suc-le-suc}
 use native.Mathlib.Decide.{decLt, ℕ-discrete}
@@ -75,6 +76,13 @@ module _ (t : Table) (j i : ℕ) where
   pub send-message-new : messageOf (afterSend t j i) (messageCount t) ≡ newMessage t j i
   unfolding afterSend messageCount messageOf
   send-message-new = getD-append-seam (t .messages) _ [] noMessage
+
+  -- one that is sent stays over a rollback just where the line has its sender's virtual checkpoint: it was sent after the last one
+  pub sent-since : 0 < countOf t j → (l : List ℕ) → (stays l (newMessage t j i) ≡ true) ↔ (countOf t j ≤ asLine l j)
+  unfolding stays
+  sent-since some l =
+      let sent = newMessage t j i .sent in
+      (λ e. omega (arith, ltb-true sent (asLine l j) e), λ h. lt-ltb sent (asLine l j) (omega arith))
 
   pub send-each : (P : Message → Type 0) → ((k : ℕ) → k < messageCount t → P (messageOf t k)) → P (newMessage t j i)
       → (k : ℕ) → k < messageCount (afterSend t j i) → P (messageOf (afterSend t j i) k)
