@@ -14,13 +14,14 @@ use Rattle.tables.specs.Table.{Table}
 
 -- It can start; whatever it has after some rounds, no root is marked or another round can follow; and there are no more
 -- rounds than the sum of the ceilings. So it always ends. What is marked stays marked in all later rounds. However it
--- went, its last roots are the latest consistent line under the ceilings, which is the one that is computed by lowering,
--- number by number. This is claimed of every well formed table and every ceiling of it.
+-- went, its last roots are the latest consistent line under the ceilings, which is the one that is computed by
+-- lowering, number by number. This is claimed of every well formed table and every ceiling of it.
 pub record SameLine (t : Table) (ceilings : List ℕ) : Type 0 where
   pub starts : (s : Stage) × Starts t ceilings s
   pub goes-on : (n : ℕ) (s : Stage) → After t ceilings n s → NoneMarked t s ⊎ ((s′ : Stage) × Round t s s′)
   pub finitely : (n : ℕ) (s : Stage) → After t ceilings n s → n ≤ sum ceilings
-  pub marks-stay : (n : ℕ) (s s′ : Stage) → Rounds t n s s′ → (x : State) → s .marks x ≡ true → s′ .marks x ≡ true
+  pub marks-stay : (n : ℕ) (s s′ : Stage) → Rounds t n s s′ → (x : State)
+      → s .marks x ≡ true → s′ .marks x ≡ true
   pub ends : (roots : List ℕ) × EndsWith t ceilings roots
   pub latest : (roots : List ℕ) → EndsWith t ceilings roots
       → Latest (t .messages) (asLine ceilings) (asLine roots)
