@@ -17,13 +17,12 @@ use Rattle.tables.specs.Format.{receiptsPart, sendsPart}
 use Rattle.tables.specs.Lists.{any, anyBelow, rows, select, sum, tabulate}
 use Rattle.tables.specs.Numbers.{bytesOf, bytesOfAll, numberAt}
 use Rattle.tables.specs.Table.{checkpointTotal, countOf, messageCount, messageOf, processCount}
-use Rattle.consistency.specs.Ceilings.{aboveCounts, ceilingOf, lineOf, recoveryLine, single}
+use Rattle.consistency.specs.Ceilings.{aboveCounts, ceilingOf, holderLine, lineOf, recoveryLine, single}
 use Rattle.consistency.specs.Lowering.{isOrphan, lineUnder, lower, pass, passes}
 use Rattle.process_set.specs.Sets.{highBit, member}
 use Rattle.steps.specs.Steps.{afterCheckpoint, afterReceipt, afterRollback, badPosition, notRising, notRisingAfter, passesOver, putBack}
 use Rattle.steps.specs.Steps.{receiptChecks, receivedAt, remaining, stays, waitsFor}
 use Rattle.keep_sheet.specs.Sheet.{crosses, keepsCheckpoint, keepsMessage, keptCheckpoints, keptMessages, sheet}
-use Rattle.consistency.specs.Ceilings.{holderLine}
 use Rattle.calls.specs.Answers.{answer, unless}
 use Rattle.calls.specs.Calls.{checkpointAnswer, keepSheetAnswer, lineAnswer, lineOfSetAnswer, lineUnderAnswer, markedLineAnswer, receiptAnswer}
 use Rattle.calls.specs.Calls.{recoveryLineAnswer, rollbackAnswer, standTogetherAnswer, standingBytes}

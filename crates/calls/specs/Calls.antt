@@ -6,20 +6,18 @@ use mathlib.Core.Logic.{_↔_}
 use mathlib.Core.Path.{_≡_}
 use Prim.Native.Nat.{ℕ, zero, suc, _+_, _*_, _<_}
 use lib.ListN.{length, take, drop}
-use Rattle.consistency.specs.Ceilings.{ceilingOf}
+use Rattle.consistency.specs.Ceilings.{ceilingOf, holderLines}
 use Rattle.consistency.specs.Lines.{AtOrBelow, Latest, Line, asLine}
 use Rattle.consistency.specs.Lowering.{lineUnder}
 use Rattle.futures.specs.Futures.{CheckpointNeeded, MessageNeeded}
-use Rattle.consistency.specs.Ceilings.{holderLines}
 use Rattle.keep_sheet.specs.Sheet.{sheet}
 use Rattle.steps.specs.Steps.{afterCheckpoint, afterReceipt, afterRollback, afterSend}
 use Rattle.calls.specs.Answers.{Answer, Yields, answer}
 use Rattle.marking.specs.Procedure.{EndsWith}
 use Rattle.marks.specs.Room.{cleared, marksSize}
 use Rattle.process_set.specs.Sets.{member}
-use Rattle.call_checks.specs.CallChecks.{checkpointCallChecks, keepSheetChecks, lineOfSetChecks}
-use Rattle.call_checks.specs.CallChecks.{lineUnderChecks, markedLineChecks, receiptCallChecks, sendCallChecks}
-use Rattle.call_checks.specs.CallChecks.{standTogetherChecks}
+use Rattle.call_checks.specs.CallChecks.{checkpointCallChecks, keepSheetChecks, lineOfSetChecks, lineUnderChecks}
+use Rattle.call_checks.specs.CallChecks.{markedLineChecks, receiptCallChecks, sendCallChecks, standTogetherChecks}
 use Rattle.tables.specs.Checks.{Accepted, Check, firstCaught, tableChecks}
 use Rattle.tables.specs.Format.{decode, encode}
 use Rattle.tables.specs.Lists.{tabulate}

@@ -16,11 +16,10 @@ use borrow.Author.Tests.{le-ltb, lt-ltb}
 use lib.Dec.{ltb}
 use Rattle.consistency.proofs.CeilingLaws.{ceiling-at, counts-consistent, line-of-members, set-below, set-latest}
 use Rattle.consistency.proofs.LineLaws.{latest-from, latest-same, latest-unique, max-consistent, min-consistent, orphan-free}
-use Rattle.consistency.specs.Ceilings.{Holders, ceilingOf, lineOf}
+use Rattle.consistency.specs.Ceilings.{Holders, ceilingOf, holderLine, lineOf}
 use Rattle.consistency.specs.Lines.{AtOrBelow, Consistent, Latest, Line, Orphan, asLine}
 use Rattle.futures.proofs.FutureLaws.{TableGrown, beyond-undelivered}
 use Rattle.tables.proofs.FormatLaws.{known-process}
-use Rattle.consistency.specs.Ceilings.{holderLine}
 use Rattle.tables.specs.Checks.{WellFormed}
 use Rattle.tables.specs.Table.{Message, Table, countOf, messageCount, messageOf, processCount}
 

@@ -13,7 +13,7 @@ use mathlib.Core.Path.{_≡_, _∙_, subst, subst⁻¹}
 use Prim.Native.Nat.{ℕ, _≤_, _<_, min}
 use native.Mathlib.Decide.{decLt, ℕ-discrete}
 use native.Mathlib.Omega.{arith}
-use Rattle.consistency.specs.Ceilings.{recoveryLine, single}
+use Rattle.consistency.specs.Ceilings.{holderLine, recoveryLine, single}
 use Rattle.consistency.specs.Lines.{AtOrBelow, Line, asLine}
 use Rattle.futures.proofs.FutureLaws.{TableGrown, MovedTo, by-step, followed-first, followed-here, moved-inside, rolled-message, rolled-to, stayed-at}
 use Rattle.futures.proofs.FutureLaws.{rollback-keeps, step-keeps-count}
@@ -21,7 +21,6 @@ use Rattle.futures.proofs.HeldLaws.{Held, held-above, held-attained, he
 use Rattle.keep_sheet.proofs.KeptLaws.{Across, HolderWith, keeps-checkpoint, keeps-message}
 use Rattle.steps.proofs.StepLaws.{putBack-before, recovery-latest, rollback-line, stays-sent, step-well-formed}
 use Rattle.futures.specs.Futures.{FollowedTo, Future, NeedsCheckpoint, NeedsMessage, StepKeeps, StillThere, endOf}
-use Rattle.consistency.specs.Ceilings.{holderLine}
 use Rattle.keep_sheet.specs.Sheet.{keepsCheckpoint, keepsMessage}
 use Rattle.steps.specs.Steps.{Step, afterRollback, putBack, step}
 use Rattle.tables.specs.Checks.{WellFormed}

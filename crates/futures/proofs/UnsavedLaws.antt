@@ -10,7 +10,7 @@ use native.Mathlib.Omega.{arith}
 use borrow.Author.Tests.{eq-eqb, ne-eqb}
 use lib.Dec.{eqb}
 use lib.ListN.{length, getD}
-use Rattle.consistency.specs.Ceilings.{recoveryLine}
+use Rattle.consistency.specs.Ceilings.{holderLine, recoveryLine}
 use Rattle.consistency.specs.Lines.{asLine}
 use Rattle.futures.proofs.FutureLaws.{checkpoint-grown, survival-holds}
 use Rattle.keep_sheet.proofs.KeptLaws.{Ordered, listed-any, listed-at, select-listed, select-ordered}
@@ -20,9 +20,7 @@ use Rattle.steps.proofs.StepLaws.{receipt-older, receipt-quiet, receipt-receive
 use Rattle.steps.proofs.StepLaws.{receives-messages, recovery-latest, rollback-count, rollback-each, stays-sent, step-cases, waits-for}
 use Rattle.futures.specs.Futures.{FollowedTo, StepKeeps, StillThere, endOf, moved, placeOf}
 use Rattle.keep_sheet.specs.Sheet.{crosses, keepsMessage}
-use Rattle.consistency.specs.Ceilings.{holderLine}
-use Rattle.steps.specs.Steps.{afterCheckpoint, afterReceipt, afterRollback, checkpoint, notRising, receiptChecks, receive, rollback, stays}
-use Rattle.steps.specs.Steps.{step, waitsFor}
+use Rattle.steps.specs.Steps.{afterCheckpoint, afterReceipt, afterRollback, checkpoint, notRising, receiptChecks, receive, rollback, stays, step, waitsFor}
 use Rattle.futures.specs.Unsaved.{Receipts, Unsaved, waitingUpTo}
 use Rattle.tables.proofs.ListLaws.{and-left, and-right, select-gap, select-more}
 use Rattle.tables.proofs.TurnLaws.{channel-on, channel-same, one-channel, undelivered-waits, waits-undelivered}

@@ -4,11 +4,10 @@ use mathlib.Core.Bool.{true, _&&_}
 use mathlib.Core.List.{List, [], _∷_}
 use mathlib.Core.Path.{_≡_}
 use Prim.Native.Nat.{ℕ, _+_, _<_}
-use Rattle.consistency.specs.Ceilings.{recoveryLine}
+use Rattle.consistency.specs.Ceilings.{holderLine, recoveryLine}
 use Rattle.consistency.specs.Lines.{asLine}
 use Rattle.futures.specs.Futures.{FollowedTo, StillThere, endOf}
 use Rattle.keep_sheet.specs.Sheet.{crosses, keepsMessage}
-use Rattle.consistency.specs.Ceilings.{holderLine}
 use Rattle.steps.specs.Steps.{checkpoint, receiptChecks, receive, rollback, stays, step, waitsFor}
 use Rattle.tables.specs.Checks.{firstCaught, sameChannel, waits}
 use Rattle.tables.specs.Lists.{anyBelow, select}

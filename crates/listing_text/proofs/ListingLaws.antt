@@ -16,12 +16,11 @@ use lib.ListN.{length, take, drop, getD, length-append, length-drop, length-take
 use lib.Seq.{getD-drop, take-append-seam}
 use Rattle.consistency.proofs.CeilingLaws.{set-length}
 use Rattle.consistency.proofs.HolderLaws.{holder-length, lines-length}
-use Rattle.consistency.specs.Ceilings.{recoveryLine}
+use Rattle.consistency.specs.Ceilings.{holderLine, holderLines, recoveryLine}
 use Rattle.holder_lines.proofs.ScratchLaws.{entry-is, lines-stand}
 use Rattle.holder_lines.specs.Scratch.{HoldsLines, linesIn}
 use Rattle.keep_sheet.proofs.FewLaws.{kept-few, sheet-length}
 use Rattle.keep_sheet.specs.Sheet.{Checkpoint, keptCheckpoints, keptMessages, sheet}
-use Rattle.consistency.specs.Ceilings.{holderLine, holderLines}
 use Rattle.calls.proofs.AnswerLaws.{answered, put-in-front, refused, too-short}
 use Rattle.call_checks.proofs.RefusalLaws.{Quiet, long-scratch, table-caught}
 use Rattle.calls.proofs.SheetBytes.{read-checkpoint, read-kept, read-logged, read-position, read-process}

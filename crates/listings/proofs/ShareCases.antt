@@ -2,9 +2,8 @@
 -- Assumes nothing.
 use mathlib.Core.Bool.{true}
 use mathlib.Core.Path.{_≡_, refl}
-use Rattle.consistency.specs.Ceilings.{ceilingOf, lineOf, single}
+use Rattle.consistency.specs.Ceilings.{ceilingOf, holderLine, lineOf, single}
 use Rattle.consistency.specs.Lowering.{isOrphan, lineUnder, lower, pass, passes}
-use Rattle.consistency.specs.Ceilings.{holderLine}
 use Rattle.keep_sheet.specs.Sheet.{keepsCheckpoint, keptCheckpoints}
 use Rattle.call_checks.specs.OrderCases.{caseTable}
 use Rattle.calls.specs.Cases.{likeA, tableB, tableC, tableD}

@@ -9,13 +9,12 @@ use Prim.Native.Nat.{ℕ, zero, suc, _+_, _*_, _≤_, _<_}
 use native.Mathlib.Omega.{arith}
 use lib.ListN.{length, getD, length-append}
 use Rattle.consistency.proofs.CeilingLaws.{set-below, set-length}
-use Rattle.consistency.specs.Ceilings.{Holders, lineOf, recoveryLine, single}
+use Rattle.consistency.specs.Ceilings.{Holders, holderLine, lineOf, recoveryLine, single}
 use Rattle.tables.proofs.FormatLaws.{known-process}
 use Rattle.keep_sheet.proofs.FewLaws.{kept-few}
 use Rattle.keep_sheet.proofs.KeptLaws.{checkpoints-listed, keeps-checkpoint, listed-at, messages-listed}
-use Rattle.tables.specs.Lists.{Listed}
+use Rattle.tables.specs.Lists.{Listed, rows}
 use Rattle.keep_sheet.specs.Sheet.{Checkpoint, keptCheckpoints, keptMessages}
-use Rattle.consistency.specs.Ceilings.{holderLine}
 use Rattle.listings.proofs.ShareLaws.{share-most}
 use Rattle.text_writer.proofs.TextLaws.{decimal-few, each-rows, tens}
 use Rattle.listings.specs.Listing.{checkpointRow, holdRow, lineRow, listing, listingOf, listingUnless, messageRow, refusedRow, share, shareRow}
@@ -25,7 +24,6 @@ use Rattle.tables.proofs.ListLaws.{rows-most}
 use Rattle.tables.proofs.ReadLaws.{messages-few, processes-few}
 use Rattle.tables.specs.Checks.{tableRefusal}
 use Rattle.tables.specs.Format.{decode}
-use Rattle.tables.specs.Lists.{rows}
 use Rattle.tables.specs.Table.{Table, countOf, messageCount, processCount}
 
 -- ---- fields and rows

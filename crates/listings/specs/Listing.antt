@@ -3,9 +3,8 @@ use mathlib.Core.List.{List, [], _∷_, _++_}
 use mathlib.Core.Path.{_≡_}
 use Prim.Native.Nat.{ℕ, zero, suc, _*_}
 use lib.ListN.{length}
-use Rattle.consistency.specs.Ceilings.{recoveryLine}
+use Rattle.consistency.specs.Ceilings.{holderLine, recoveryLine}
 use Rattle.keep_sheet.specs.Sheet.{Checkpoint, keptCheckpoints, keptMessages}
-use Rattle.consistency.specs.Ceilings.{holderLine}
 use Rattle.calls.specs.Answers.{Answer, answer}
 use Rattle.rounding.specs.Rounding.{Rounded, roundedQuotient}
 use Rattle.text_writer.specs.Text.{each, row}

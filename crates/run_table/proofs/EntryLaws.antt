@@ -13,8 +13,7 @@ use lib.ListN.{length, getD, take, drop}
 use Rattle.run_table.proofs.FaultLaws.{none-caught, number-there, quiet-at}
 use Rattle.run_table.specs.EntryChecks.{FirstMessage, MessageCheck, aboveAt, badCountAt, checksBelow, firstPlace, messageChecks, notBelowAt, noFault}
 use Rattle.run_table.specs.EntryChecks.{partsRefusal, toItselfAt, unknownAt}
-use Rattle.tables.proofs.CheckLaws.{append-passed, areRefusals, length-checked, messages-checked, not-short, passed, processes-checked}
-use Rattle.tables.proofs.CheckLaws.{quiet-none, stopped}
+use Rattle.tables.proofs.CheckLaws.{append-passed, areRefusals, length-checked, messages-checked, not-short, passed, processes-checked, quiet-none, stopped}
 use Rattle.tables.proofs.FormatLaws.{ReadSizes, decode-count, decode-message, decode-messages, decode-processes}
 use Rattle.tables.proofs.ListLaws.{any-tabulate, anyBelow-ext, anyBelow-or, none-below, or-false-left, or-false-right}
 use Rattle.tables.proofs.TurnLaws.{broken-ext, broken-on}

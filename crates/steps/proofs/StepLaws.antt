@@ -43,9 +43,8 @@ use Rattle.consistency.specs.Ceilings.{ceilingOf, lineOf, recoveryLine}
 use Rattle.consistency.specs.Lines.{AtOrBelow, Latest, Orphan, asLine}
 use Rattle.steps.proofs.OrderLaws.{OlderListed, none-passed, passes-none}
 use Rattle.steps.specs.Steps.{Step, afterCheckpoint, afterReceipt, afterRollback, afterSend, badPosition, checkpoint, newMessage, notRising}
-use Rattle.steps.specs.Steps.{notRisingAfter}
-use Rattle.steps.specs.Steps.{passesOver, putBack, receiptChecks, receive, receivedAt, remaining, rollback, send, sendChecks, stays, step}
-use Rattle.steps.specs.Steps.{unlessCaught, waitsFor}
+use Rattle.steps.specs.Steps.{notRisingAfter, passesOver, putBack, receiptChecks, receive, receivedAt, remaining, rollback, send, sendChecks, stays}
+use Rattle.steps.specs.Steps.{step, unlessCaught, waitsFor}
 use Rattle.tables.proofs.CheckLaws.{passed, quiet-cons, quiet-none}
 use Rattle.tables.proofs.FormatLaws.{count-beyond, message-beyond}
 use Rattle.tables.proofs.ListLaws.{and-left, and-right, any-none, getD-tabulate, length-tabulate, or-false-left, or-false-right}

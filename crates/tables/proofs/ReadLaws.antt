@@ -16,15 +16,13 @@ use Prim.Native.Nat.{ℕ, _+_, _-_, _*_, _<_, _≤_}
 use native.Mathlib.Omega.{arith}
 use lib.ListN.{length, take, drop}
 use Rattle.tables.proofs.AcceptLaws.{facts}
-use Rattle.tables.proofs.FormatLaws.{counts-length, decode-count, decode-message, decode-messages, decode-processes}
-use Rattle.tables.proofs.FormatLaws.{receipts-length, sends-length}
+use Rattle.tables.proofs.FormatLaws.{counts-length, decode-count, decode-message, decode-messages, decode-processes, receipts-length, sends-length}
 use Rattle.tables.specs.Checks.{GoodMessage, tableRefusal}
 use Rattle.tables.specs.Format.{checkpointAt, countAt, countsAt, countsPart, decode, messageAt, messagesIn}
 use Rattle.tables.specs.Format.{processAt, processesIn, receiptsAt, receiptsPart, sendsAt, sendsPart, tableLength}
 use Rattle.tables.specs.Numbers.{u16At}
 use Rattle.tables.specs.Parts.{Counts, MessageThere, Messages}
-use Rattle.tables.specs.Table.{Message, Table, countOf, messageCount, messageOf, processCount}
-use Rattle.tables.specs.Table.{mostMessages, mostProcesses}
+use Rattle.tables.specs.Table.{Message, Table, countOf, messageCount, messageOf, mostMessages, mostProcesses, processCount}
 
 module _ (bytes : List ℕ) (accepted : tableRefusal bytes ≡ 0) where
   abbrev N : ℕ

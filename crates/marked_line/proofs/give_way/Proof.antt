@@ -3,8 +3,7 @@
 -- Assumes nothing.
 use native.Mathlib.Omega.{arith}
 use Prim.Native.Nat.{_-_}
-use Rattle.marked_line.proofs.RootLaws.{Giving, first-there-now, giving-all, giving-more, giving-none, root-there, start-few}
-use Rattle.marked_line.proofs.RootLaws.{start-in, start-unset}
+use Rattle.marked_line.proofs.RootLaws.{Giving, first-there-now, giving-all, giving-more, giving-none, root-there, start-few, start-in, start-unset}
 use Rattle.marked_line.proofs.give_way.Statement.{statement}
 use Rattle.marked_line.proofs.give_way.Tie as tie
 

@@ -3,8 +3,7 @@
 use native.Mathlib.Omega.{arith}
 use mathlib.Core.Path.{sym, _∙_}
 use Prim.Native.Nat.{_-_}
-use Rattle.marked_line.proofs.RootLaws.{RootsAsked, asked-found, asked-more, asked-none, first-there-now, over-known, over-none}
-use Rattle.marked_line.proofs.RootLaws.{root-in, root-there}
+use Rattle.marked_line.proofs.RootLaws.{RootsAsked, asked-found, asked-more, asked-none, first-there-now, over-known, over-none, root-in, root-there}
 use Rattle.tables.proofs.SearchedLaws.{searched-none}
 use Rattle.marked_line.proofs.root_marked.Statement.{statement}
 use Rattle.marked_line.proofs.root_marked.Tie as tie
