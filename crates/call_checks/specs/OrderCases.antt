@@ -1,4 +1,5 @@
--- Cases of the order of a call's checks: what several of them catch is refused by the first. Assumes nothing.
+-- Cases of the table's checks and of the order of a call's: what several of them catch is refused by the first. Assumes
+-- nothing.
 use mathlib.Core.Bool.{Bool, true, _&&_}
 use mathlib.Core.List.{List, [], _∷_, _++_}
 use Prim.Native.Nat.{ℕ}
@@ -6,7 +7,7 @@ use lib.Dec.{eqb}
 use Rattle.call_checks.specs.CallChecks.{checkpointCallChecks, keepSheetChecks, lineOfSetChecks}
 use Rattle.call_checks.specs.CallChecks.{lineUnderChecks, markedLineChecks, receiptCallChecks}
 use Rattle.call_checks.specs.CallChecks.{sendCallChecks, standTogetherChecks}
-use Rattle.tables.specs.Checks.{Check, firstCaught}
+use Rattle.tables.specs.Checks.{Check, firstCaught, tableChecks}
 use Rattle.tables.specs.Numbers.{u16s}
 
 -- The bytes of a case's table: N, M, the counts, the numbers of its sends and of its receipts, as the document lays
@@ -17,6 +18,10 @@ caseTable n m counts sends receipts = u16s (n ∷ m ∷ (counts ++ (sends ++ rec
 -- Two messages from process 0 wait for process 1, which has so many checkpoints.
 unfoldable pub twoWaiting : ℕ → List ℕ
 twoWaiting count = caseTable 2 2 (1 ∷ count ∷ []) (0 ∷ 0 ∷ 0 ∷ 0 ∷ []) (1 ∷ 0 ∷ 1 ∷ 0 ∷ [])
+
+-- Two processes with one checkpoint each, and a message.
+unfoldable pub oneEntry : ℕ → ℕ → ℕ → ℕ → List ℕ
+oneEntry j y i r = caseTable 2 1 (1 ∷ 1 ∷ []) (j ∷ y ∷ []) (i ∷ r ∷ [])
 
 -- The checks of a call, and the number that it is refused by; 0 for none.
 pub record OrderCase : Type 0 where
@@ -45,6 +50,20 @@ orderCases =
     ∷ record { checks = standTogetherChecks (twoWaiting 1) (2 ∷ []) []; first = 20 }
     ∷ record { checks = standTogetherChecks (twoWaiting 1) (2 ∷ []) (9 ∷ []); first = 21 }
     ∷ record { checks = standTogetherChecks (twoWaiting 1) (1 ∷ []) (9 ∷ []); first = 22 }
+    -- a table without a process; a process without a checkpoint, with one too many, with all that it may have
+    ∷ record { checks = tableChecks (caseTable 0 0 [] [] []); first = 2 }
+    ∷ record { checks = tableChecks (caseTable 2 0 (1 ∷ 0 ∷ []) [] []); first = 5 }
+    ∷ record { checks = tableChecks (caseTable 2 0 (1 ∷ 4097 ∷ []) [] []); first = 5 }
+    ∷ record { checks = tableChecks (caseTable 2 0 (1 ∷ 4096 ∷ []) [] []); first = 0 }
+    -- an unknown sender; an unknown receiver; one that is both; a known one, with bad numbers; both bad; one bad
+    ∷ record { checks = tableChecks (oneEntry 2 0 0 0); first = 6 }
+    ∷ record { checks = tableChecks (oneEntry 0 0 2 0); first = 6 }
+    ∷ record { checks = tableChecks (oneEntry 2 0 2 0); first = 6 }
+    ∷ record { checks = tableChecks (oneEntry 0 1 0 2); first = 7 }
+    ∷ record { checks = tableChecks (oneEntry 0 1 1 2); first = 8 }
+    ∷ record { checks = tableChecks (oneEntry 0 0 1 2); first = 9 }
+    -- process 2 of two in a set
+    ∷ record { checks = lineOfSetChecks (twoWaiting 1) 4; first = 12 }
     -- the table before all else
     ∷ record { checks = lineOfSetChecks [] 4; first = 1 }
     ∷ record { checks = keepSheetChecks [] 0; first = 1 }

@@ -1,4 +1,4 @@
--- The marked cases hold of the definitions, and so do the cases of lines under ceilings and by marking, of receipts, of channels, and of
+-- The marked cases hold of the definitions, and so do the cases of lines under ceilings and by marking, of receipts, of channels, of sends and of
 -- named checkpoints: a statement each, by computation.
 -- Assumes nothing.
 use mathlib.Core.Bool.{true}
@@ -20,26 +20,26 @@ use Rattle.tables.specs.Table.{checkpointTotal, countOf, messageCount, messageO
 use Rattle.consistency.specs.Ceilings.{aboveCounts, ceilingOf, holderLine, lineOf, recoveryLine, single}
 use Rattle.consistency.specs.Lowering.{isOrphan, lineUnder, lower, pass, passes}
 use Rattle.process_set.specs.Sets.{highBit, member}
-use Rattle.steps.specs.Steps.{afterCheckpoint, afterReceipt, afterRollback, badPosition, notRising, notRisingAfter, passesOver, putBack}
-use Rattle.steps.specs.Steps.{receiptChecks, receivedAt, remaining, stays, waitsFor}
+use Rattle.steps.specs.Steps.{afterCheckpoint, afterReceipt, afterRollback, afterSend, badPosition, notRising, notRisingAfter, passesOver, putBack}
+use Rattle.steps.specs.Steps.{receiptChecks, receivedAt, remaining, sendChecks, stays, waitsFor}
 use Rattle.keep_sheet.specs.Sheet.{crosses, keepsCheckpoint, keepsMessage, keptCheckpoints, keptMessages, sheet}
 use Rattle.calls.specs.Answers.{answer, unless}
 use Rattle.calls.specs.Calls.{checkpointAnswer, keepSheetAnswer, lineAnswer, lineOfSetAnswer, lineUnderAnswer, markedLineAnswer, receiptAnswer}
-use Rattle.calls.specs.Calls.{recoveryLineAnswer, rollbackAnswer, standTogetherAnswer, standingBytes}
+use Rattle.calls.specs.Calls.{recoveryLineAnswer, rollbackAnswer, sendAnswer, standTogetherAnswer, standingBytes}
 use Rattle.marks.specs.Room.{marksSize}
 use Rattle.call_checks.specs.CallChecks.{checkpointCallChecks, keepSheetChecks, lineOfSetChecks, lineUnderChecks, markedLineChecks, receiptCallChecks}
-use Rattle.call_checks.specs.CallChecks.{standTogetherChecks}
+use Rattle.call_checks.specs.CallChecks.{sendCallChecks, standTogetherChecks}
 use Rattle.zigzag.specs.Names.{notBelowCounts, unknownNamed}
 use Rattle.zigzag.specs.Paths.{first, receivedIn, then}
 use Rattle.zigzag.specs.Together.{misses, namedCeiling, namedLine, putNamed}
 use Rattle.calls.specs.Cases.{MarkingExample, ZigzagExample, allHold, answerOf, ceilingCases, channelCases, channelWith, crossing}
 use Rattle.calls.specs.Cases.{figureOne, full, fullReceiver, likeA, markedCases, markingCases, nineMarks, oneInterval, oneMessage, receiptCases}
 use Rattle.call_checks.specs.OrderCases.{caseTable}
-use Rattle.calls.specs.Cases.{sameAnswer, sameBytes, standingCases, tableA, tableB, tableC, tableD, tenMarks}
+use Rattle.calls.specs.Cases.{sameAnswer, sameBytes, sendCases, standingCases, tableA, tableB, tableC, tableD, tenMarks}
 
 -- each table of cases, by what all of them compute
 all-cases : (allHold markedCases ≡ true) × (allHold ceilingCases ≡ true) × (allHold markingCases ≡ true) × (allHold receiptCases ≡ true)
-    × (allHold channelCases ≡ true) × (allHold standingCases ≡ true)
+    × (allHold channelCases ≡ true) × (allHold standingCases ≡ true) × (allHold sendCases ≡ true)
 unfolding firstCaught outside tooShort badProcessCount tooManyMessages badLength badCount unknownProcess toItself badSend badReceipt sameChannel waits
     outOfTurn brokenBelow brokenChannel tableChecks tableRefusal processesIn messagesIn countsPart sendsPart receiptsPart countAt processAt
     checkpointAt messageAt decode entriesOf encode numberAt bytesOf bytesOfAll tabulate any anyBelow processCount messageCount countOf messageOf
@@ -50,8 +50,8 @@ unfolding firstCaught outside tooShort badProcessCount tooManyMessages badLength
     markedLineAnswer markingCases waitsFor badPosition notRisingAfter notRising passesOver receiptChecks receivedAt afterReceipt afterCheckpoint
     receiptCallChecks checkpointCallChecks receiptAnswer checkpointAnswer crossing oneMessage full receiptCases channelWith fullReceiver channelCases
     unknownNamed notBelowCounts putNamed namedCeiling namedLine misses standTogetherChecks standingBytes standTogetherAnswer figureOne oneInterval
-    standingCases
-all-cases = (refl, refl, refl, refl, refl, refl)
+    standingCases sendChecks afterSend sendCallChecks sendAnswer sendCases
+all-cases = (refl, refl, refl, refl, refl, refl, refl)
 
 pub marked-cases : allHold markedCases ≡ true
 marked-cases = all-cases .0
@@ -70,6 +70,9 @@ channel-cases = all-cases .4
 
 pub standing-cases : allHold standingCases ≡ true
 standing-cases = all-cases .5
+
+pub send-cases : allHold sendCases ≡ true
+send-cases = all-cases .6
 
 -- by the theorem: the procedure ends, and with the computed line
 pub marking-example : MarkingExample

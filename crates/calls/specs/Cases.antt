@@ -8,7 +8,7 @@ use Rattle.call_checks.specs.OrderCases.{caseTable}
 use Rattle.calls.specs.Answers.{Answer, answered, refused, unless}
 use Rattle.calls.specs.Calls.{checkpointAnswer, keepSheetAnswer, lineOfSetAnswer, lineUnderAnswer}
 use Rattle.calls.specs.Calls.{markedLineAnswer, receiptAnswer, recoveryLineAnswer, rollbackAnswer}
-use Rattle.calls.specs.Calls.{standTogetherAnswer}
+use Rattle.calls.specs.Calls.{sendAnswer, standTogetherAnswer}
 use Rattle.marking.specs.Procedure.{EndsWith}
 use Rattle.tables.specs.Checks.{tableRefusal}
 use Rattle.tables.specs.Format.{decode}
@@ -48,6 +48,7 @@ pub data Call : Type 0 where
   under : List ℕ → Call
   marking : List ℕ → ℕ → ℕ → Call
   stand : List ℕ → List ℕ → ℕ → Call
+  send : ℕ → ℕ → Call
   receive : ℕ → List ℕ → ℕ → Call
   save : ℕ → List ℕ → Call
   fallBack : Call
@@ -68,6 +69,7 @@ answerOf table (hold set) = lineOfSetAnswer table set 1000
 answerOf table (under ceilings) = lineUnderAnswer table ceilings 1000
 answerOf table (marking ceilings bytes room) = markedLineAnswer table ceilings bytes room
 answerOf table (stand processes states room) = standTogetherAnswer table processes states room
+answerOf table (send from to) = sendAnswer table from to 1000
 answerOf table (receive process list room) = receiptAnswer table process list room
 answerOf table (save process list) = checkpointAnswer table process list 1000
 answerOf table fallBack = rollbackAnswer table 1000
@@ -320,6 +322,26 @@ channelCases =
     ∷ record { table = channel 0 0 0 0; call = receive 1 (2 ∷ []) 0; expected = refused 24 }
     ∷ record { table = fullReceiver; call = save 1 (1 ∷ []); expected = refused 24 }
     ∷ record { table = fullReceiver; call = save 1 (0 ∷ 1 ∷ []); expected = refused 14 }
+    ∷ []
+
+-- ---- sends (docs/MANUAL.md, "Steps")
+unfoldable pub sendCases : List Case
+sendCases =
+    -- after checkpoint 3 of process 1, and behind the message that there is; it waits
+    record {
+      table = tableC;
+      call = send 1 0;
+      expected = answered (caseTable 2 1 (1 ∷ 4 ∷ []) (1 ∷ 3 ∷ []) (0 ∷ 0 ∷ []));
+    }
+    ∷ record {
+      table = oneMessage 1;
+      call = send 1 0;
+      expected = answered (caseTable 2 2 (2 ∷ 1 ∷ []) (0 ∷ 0 ∷ 1 ∷ 0 ∷ []) (1 ∷ 1 ∷ 0 ∷ 0 ∷ []));
+    }
+    -- 10, by its sender and by its receiver; 11
+    ∷ record { table = tableC; call = send 2 0; expected = refused 10 }
+    ∷ record { table = tableC; call = send 0 2; expected = refused 10 }
+    ∷ record { table = tableC; call = send 1 1; expected = refused 11 }
     ∷ []
 
 -- ---- named checkpoints (docs/MANUAL.md, "Checkpoints that stand together")
