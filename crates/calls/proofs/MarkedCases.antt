@@ -37,8 +37,8 @@ use Rattle.calls.specs.Cases.{figureOne, full, fullReceiver, likeA, mark
 use Rattle.call_checks.specs.OrderCases.{caseTable}
 use Rattle.calls.specs.Cases.{sameAnswer, sameBytes, sendCases, standingCases, tableA, tableB, tableC, tableD, tenMarks}
 
--- each table of cases, by what all of them compute
-all-cases : (allHold markedCases ≡ true) × (allHold ceilingCases ≡ true) × (allHold markingCases ≡ true) × (allHold receiptCases ≡ true)
+-- a statement for each table of cases, by what all of them compute
+pub all-cases : (allHold markedCases ≡ true) × (allHold ceilingCases ≡ true) × (allHold markingCases ≡ true) × (allHold receiptCases ≡ true)
     × (allHold channelCases ≡ true) × (allHold standingCases ≡ true) × (allHold sendCases ≡ true)
 unfolding firstCaught outside tooShort badProcessCount tooManyMessages badLength badCount unknownProcess toItself badSend badReceipt sameChannel waits
     outOfTurn brokenBelow brokenChannel tableChecks tableRefusal processesIn messagesIn countsPart sendsPart receiptsPart countAt processAt
@@ -55,24 +55,6 @@ all-cases = (refl, refl, refl, refl, refl, refl, refl)
 
 pub marked-cases : allHold markedCases ≡ true
 marked-cases = all-cases .0
-
-pub ceiling-cases : allHold ceilingCases ≡ true
-ceiling-cases = all-cases .1
-
-pub marking-cases : allHold markingCases ≡ true
-marking-cases = all-cases .2
-
-pub receipt-cases : allHold receiptCases ≡ true
-receipt-cases = all-cases .3
-
-pub channel-cases : allHold channelCases ≡ true
-channel-cases = all-cases .4
-
-pub standing-cases : allHold standingCases ≡ true
-standing-cases = all-cases .5
-
-pub send-cases : allHold sendCases ≡ true
-send-cases = all-cases .6
 
 -- by the theorem: the procedure ends, and with the computed line
 pub marking-example : MarkingExample
