@@ -14,4 +14,4 @@ few c = omega (arith, processes-few _ (c .before .before .pre))
 
 -- ---- the needs, in the code's course
 pub short-of-lines-spec : {M : Type 1} → statement M
-short-of-lines-spec = tie.close (tie.spec (λ c κs. search needs) (λ c. omega (arith, mul-le-mul (few c) (few c))) (λ c. cc))
+short-of-lines-spec = tie.close (tie.spec (λ c κs. search needs) (λ c. omega (arith, mul-le-mul (few c) (few c))) (λ c. rw (c .process-count .ensures)))

@@ -5,4 +5,4 @@ use Rattle.refusals.proofs.unknown.Statement.{statement}
 use Rattle.refusals.proofs.unknown.Tie as tie
 
 pub unknown-spec : {M : Type 1} → statement M
-unknown-spec = tie.close (tie.spec (λ c κs. search needs) (λ c. cc))
+unknown-spec = tie.close (tie.spec (λ c κs. search needs) (λ c. rw (c .process-count .ensures)))
