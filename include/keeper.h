@@ -66,7 +66,8 @@ enum keeper_refusal {
     KEEPER_RECEIPT_NUMBER_TOO_HIGH = 9,    /* a receipt number is above the receiver's count */
     KEEPER_CHANNEL_OUT_OF_ORDER = 23,      /* of two messages with the same sender and receiver the later one
                                               has a smaller send number, or is received while the earlier
-                                              one waits, or has a smaller receipt number */
+                                              one waits, or, where both are received, has a smaller
+                                              receipt number */
     /* Of the other arguments, on an accepted table: */
     KEEPER_UNKNOWN_PROCESS = 10,           /* a process named in a send, save or receipt is N or above */
     KEEPER_SEND_TO_ITSELF = 11,            /* a send names one process twice */

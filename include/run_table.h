@@ -67,7 +67,8 @@ enum run_table_refusal {
     RUN_TABLE_RECEIPT_NUMBER_TOO_HIGH = 9,    /* a receipt number is above the receiver's count */
     RUN_TABLE_CHANNEL_OUT_OF_ORDER = 23       /* of two messages with the same sender and receiver the
                                                  later one has a smaller send number, or is received while
-                                                 the earlier one waits, or has a smaller receipt number */
+                                                 the earlier one waits, or, where both are received, has a
+                                                 smaller receipt number */
 };
 
 /* The check of a refusal in words, for a message to people. Any number may be given: of 0, and of one that
@@ -87,7 +88,8 @@ static inline const char *run_table_refusal_words(uint32_t refusal)
     case RUN_TABLE_RECEIPT_NUMBER_TOO_HIGH: return "a receipt number is above the receiver's count";
     case RUN_TABLE_CHANNEL_OUT_OF_ORDER:
         return "of two messages with the same sender and receiver the later one has a smaller send number, "
-               "or is received while the earlier one waits, or has a smaller receipt number";
+               "or is received while the earlier one waits, or, where both are received, has a smaller "
+               "receipt number";
     default: return "a refusal that this version does not know";
     }
 }

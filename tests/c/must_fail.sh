@@ -104,7 +104,7 @@ program_finds calls run_table.h '/case RUN_TABLE_CHANNEL_OUT_OF_ORDER:/,/;$/d'
 program_finds run_table_link run_table.h 's/RUN_TABLE_CHANNEL_OUT_OF_ORDER = 23/RUN_TABLE_CHANNEL_OUT_OF_ORDER = 99/'
 program_finds run_table_link run_table.h 's/return "of two messages with the same sender and receiver/return "of two messages/'
 program_finds run_table_link run_table.h 's/smaller send number, "$/smaller send number,"/'
-program_finds run_table_link run_table.h 's/waits, or has a smaller receipt number";/waits";/'
+program_finds run_table_link run_table.h 's/waits, or, where both are received, has a smaller "/waits, or has a smaller "/'
 program_finds run_table_link run_table.h '/case RUN_TABLE_CHANNEL_OUT_OF_ORDER:/,/;$/d'
 # A reader that lets tables out of order through.
 program_finds run_table_link run_table.h '$i #define run_table_check(...) ((run_table_check)(__VA_ARGS__) % 23)'

@@ -146,7 +146,7 @@ differs include/run_table.h '/case RUN_TABLE_TOO_SHORT: /{h;d;};/case RUN_TABLE_
 differs include/run_table.h 's/= 9, .*/= 9,    \/* a receipt number is not below the receiver'"'s count *\\//" RUN_TABLE_RECEIPT_NUMBER_TOO_HIGH
 differs include/run_table.h '/RUN_TABLE_CHANNEL_OUT_OF_ORDER = /{N;N;d;}' RUN_TABLE_CHANNEL_OUT_OF_ORDER
 differs include/run_table.h '/RUN_TABLE_CHANNEL_OUT_OF_ORDER = /s/the$/a/' RUN_TABLE_CHANNEL_OUT_OF_ORDER
-differs include/run_table.h 's/waits, or has a smaller receipt number";/waits";/' 'run_table_refusal_words.*CHANNEL_OUT_OF_ORDER'
+differs include/run_table.h 's/waits, or, where both are received, has a smaller "/waits, or has a smaller "/' 'run_table_refusal_words.*CHANNEL_OUT_OF_ORDER'
 differs include/run_table.h '/case RUN_TABLE_CHANNEL_OUT_OF_ORDER:/{N;N;d;}' 'run_table_refusal_words.*row 11'
 differs include/run_table.h 's/return "a receipt number is above/return "a receipt number is not below/' 'run_table_refusal_words.*RECEIPT_NUMBER_TOO_HIGH'
 differs include/run_table.h 's/return "no refusal"/return "nothing"/' 'run_table_refusal_words.*RUN_TABLE_OK'
@@ -180,7 +180,7 @@ differs man/keeper.3 "s/^Checks: the table's, 10, 13, 24, 16/Checks: the table's
 differs man/keeper.3 "s/^Checks: the table's, 10, 13, 24, 16/Checks: the table's, 10, 13, 16/" keeper_receive
 differs man/keeper.3 "/^Checks: the table's, 10, 13, 24, 16/d" keeper_receive
 differs man/keeper.3 '/^\.It 23 Dv/{N;N;h;d;};/^\.It 10 Dv/{N;G;}' KEEPER_CHANNEL_OUT_OF_ORDER
-differs man/keeper.3 's/^waits, or has a smaller receipt number/waits/' KEEPER_CHANNEL_OUT_OF_ORDER
+differs man/keeper.3 's/^waits, or, where both are received, has a smaller/waits, or has a smaller/' KEEPER_CHANNEL_OUT_OF_ORDER
 differs man/keeper.3 '/^\.It 24 Dv/{N;h;d;};/^\.It 14 Dv/{N;G;}' KEEPER_MESSAGE_PASSED_OVER
 differs man/keeper.3 '/^\.It 24 Dv/{N;d;}' KEEPER_MESSAGE_PASSED_OVER
 differs man/keeper.3 's/^A receipt number is above/A receipt number is not below/' KEEPER_RECEIPT_NUMBER_TOO_HIGH

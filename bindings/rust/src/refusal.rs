@@ -96,7 +96,8 @@ refusals! {
     SendNumberTooHigh = 8, table, "a send number is not below the sender's count";
     ReceiptNumberTooHigh = 9, table, "a receipt number is above the receiver's count";
     ChannelOutOfOrder = 23, table, "of two messages with the same sender and receiver the later one has a smaller send \
-                                    number, or is received while the earlier one waits, or has a smaller receipt number";
+                                    number, or is received while the earlier one waits, or, where both are received, has a \
+                                    smaller receipt number";
     UnknownProcess = 10, call, "a process named in a send, save or receipt is N or above";
     SendToItself = 11, call, "a send names one process twice";
     UnknownProcessInSet = 12, call, "a set has a bit at N or above";

@@ -970,7 +970,7 @@ pub fn break_receipt_number(rng: &mut Rng, bytes: &[u8]) -> Option<Vec<u8>> {
     Some(broken)
 }
 
-/// Damage for "23. Of two messages with the same sender and receiver the later one has a smaller send number, or is received while the earlier one waits, or has a smaller receipt number."
+/// Damage for "23. Of two messages with the same sender and receiver the later one has a smaller send number, or is received while the earlier one waits, or, where both are received, has a smaller receipt number."
 ///
 /// In one of the three ways. A table with two messages can be broken in the second
 /// at least.

@@ -137,7 +137,7 @@ pub fn check_table(bytes: &[u8]) -> u32 {
     if (0..m).any(|k| received(bytes, k) > count_of(receiver(bytes, k))) {
         return 9;
     }
-    // 23. Of two messages with the same sender and receiver the later one has a smaller send number, or is received while the earlier one waits, or has a smaller receipt number.
+    // 23. Of two messages with the same sender and receiver the later one has a smaller send number, or is received while the earlier one waits, or, where both are received, has a smaller receipt number.
     let entries: Vec<Message> = (0..m).map(|k| message_at(bytes, k)).collect();
     let broken = if m <= MOST_IN_PAIRS {
         out_of_turn_in_pairs(&entries)
