@@ -3,8 +3,11 @@
 #
 # Compares every place that says our version with the file VERSION: the macros of the headers, every package of Cargo in
 # its manifest and in the lock files (there is one version, whether a package is handed out or not), and the newest
-# heading of CHANGELOG.md, `## 0.1.0`, where that file is there. The pkg-config files take theirs when they are installed,
-# so they have to say @VERSION@. Names each place that differs.
+# heading of CHANGELOG.md, `## 0.7.1, ..`. The pkg-config files take theirs when they are installed, so they have to say
+# @VERSION@. Names each place that differs.
+#
+# The second number is that of the change requests that have landed: of the notes docs/changes/NN-*.md. The headings of
+# CHANGELOG.md fall, and have 0.N.0 for each request N.
 #
 # sh tests/version.sh must-fail WORK
 #
@@ -18,7 +21,7 @@ files() {
         printf '%s\n' VERSION include/keeper.h include/run_table.h pkgconfig/*.pc.in
         find . \( -name target -o -name .git -o -name crates \) -prune -o \( -name Cargo.toml -o -name Cargo.lock \) -print |
             sed 's,^\./,,' | LC_ALL=C sort
-        [ ! -f CHANGELOG.md ] || echo CHANGELOG.md
+        echo CHANGELOG.md
     })
 }
 
@@ -80,8 +83,22 @@ compare() {
 $lines
 END
     done
+    minor=$(wanted _MINOR)
+    notes=$(find "$root/docs/changes" -name '[0-9][0-9]-*.md' | wc -l)
+    [ "$notes" -eq "$minor" ] || { echo "version: VERSION says $minor requests, and docs/changes has the notes of $((notes))"; differs=1; }
+    awk -v minor="$minor" '
+    /^## / {
+        split($2, part, /[.,]/)
+        number = part[1] * 1000000 + part[2] * 1000 + part[3]
+        if (last != "" && number >= last) { print "version: CHANGELOG.md has " $2 " below another that is no higher"; failed = 1 }
+        last = number; there[part[1] "." part[2] "." part[3]] = 1
+    }
+    END {
+        for (n = 0; n <= minor; n++) if (!(("0." n ".0") in there)) { print "version: CHANGELOG.md has no 0." n ".0"; failed = 1 }
+        exit failed
+    }' "$root/CHANGELOG.md" || differs=1
     [ $differs -eq 0 ] || exit 1
-    echo "version: $version, the same in $places places"
+    echo "version: $version, the same in $places places; $minor requests have landed"
 }
 
 must_fail() {
@@ -119,14 +136,17 @@ must_fail() {
             changed $file '/^## /s/## /## 9/' ;;
         esac
     done
-    # The newest heading of a change log, wherever there is one.
+    # The headings of the change log: one that is missing, two in the other order; none.
+    changed CHANGELOG.md 's/^## 0\.3\.0,/### 0.3.0,/'
+    changed CHANGELOG.md 's/^## 0\.1\.0,/## 0.2.0,/;t;s/^## 0\.2\.0,/## 0.1.0,/'
+    changed CHANGELOG.md 's/^## /### /'
+    # One request more, and one less, than VERSION says.
     fresh
-    printf '# Changes\n\n## %s\n\nMore.\n\n## 0.0.1\n' "$(cat "$root/VERSION")" >"$copy/CHANGELOG.md"
-    tested >"$work/must_fail.out" 2>&1 || { cat "$work/must_fail.out"; fail "a change log is found to differ that does not"; }
-    printf '# Changes\n\n## 0.0.1\n\n## %s\n' "$(cat "$root/VERSION")" >"$copy/CHANGELOG.md"
-    finds "a change log whose newest heading is of another version"
-    echo '# Changes' >"$copy/CHANGELOG.md"
-    finds "a change log without a heading"
+    echo '# One more' >"$copy/docs/changes/99-more.md"
+    finds "a request more than the version says"
+    fresh
+    rm "$copy"/docs/changes/01-*.md
+    finds "a request less than the version says"
     fresh
     rm "$copy/include/run_table.h"
     finds "a header that is missing"
@@ -136,7 +156,7 @@ must_fail() {
 
 fresh() {
     rm -rf "$copy"
-    for each in $(files) tests/version.sh; do
+    for each in $(files) $(cd "$root" && echo docs/changes/*.md) tests/version.sh; do
         mkdir -p "$copy/$(dirname "$each")" && cp "$root/$each" "$copy/$each" || exit 1
     done
 }
