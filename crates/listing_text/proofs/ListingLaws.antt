@@ -2,18 +2,20 @@
 --     sheet-answered                the call for a keep sheet refuses by the table alone, and leaves its answers
 --     Reading, listing-left         the listing, in the parts that the code puts
 --     refused-text, accepted-text   the listing of bytes, by their refusal
---     listing-refused, listing-answered, size-inside    the call's answer
+--     listing-refused, listing-answered, text-listed    the call's answer
 --     listing-ends                  it ends in the share
+--     input-listed                  the listing of an input, by what was read of it
 -- Assumes nothing.
 use mathlib.Core.Bool.{Bool, true, false}
 use mathlib.Core.List.{List, [], _∷_, _++_, append-assoc, append-nil}
-use mathlib.Core.Path.{_≡_, refl, sym, ap, ap₂, _∙_, subst, subst⁻¹}
+use mathlib.Core.Path.{_≡_, refl, sym, ap, ap₂, _∙_, subst⁻¹}
 use Prim.Native.Nat.{ℕ, zero, suc, _+_, _*_, _≤_, _<_}
 use native.Mathlib.Nat.{mul-le-mul}
 use native.Mathlib.Omega.{arith}
+use borrow.Author.Tests.{ltb-false, ltb-true}
 use lib.Dec.{ltb}
 use lib.ListN.{length, take, drop, getD, length-append, length-drop, length-take, take-append-drop}
-use lib.Seq.{getD-drop, take-append-seam}
+use lib.Seq.{getD-drop, take-all, take-append-seam}
 use Rattle.consistency.proofs.CeilingLaws.{set-length}
 use Rattle.consistency.proofs.HolderLaws.{holder-length, lines-length}
 use Rattle.consistency.specs.Ceilings.{holderLine, holderLines, recoveryLine}
@@ -36,13 +38,14 @@ use Rattle.listings.specs.Listing.{EndsInShare, checkpointRow, holdRow, lineRow
 use Rattle.listings.specs.Listing.{refusedRow, share, shareRow}
 use Rattle.listing_text.specs.Rows.{Answered, checkpointAt, checkpointRows, holdRows, lineAt, messageRows}
 use Rattle.text_writer.specs.Text.{Laid, each, overlay}
+use Rattle.tables.proofs.AcceptLaws.{front-refused}
 use Rattle.tables.proofs.ArrayLaws.{array-front, array-length}
-use Rattle.tables.proofs.CheckLaws.{areRefusals, passed, quiet-none, stopped}
+use Rattle.tables.proofs.CheckLaws.{areRefusals, quiet-none}
 use Rattle.tables.proofs.ListLaws.{rows-ext, tabulate-ext, tabulate-getD}
 use Rattle.tables.proofs.ReadLaws.{processes-few}
 use Rattle.tables.specs.Arrays.{arrayOf}
 use Rattle.tables.specs.Checks.{firstCaught, tableRefusal}
-use Rattle.tables.specs.Format.{decode}
+use Rattle.tables.specs.Format.{decode, largestTable}
 use Rattle.tables.specs.Lists.{rows, tabulate}
 use Rattle.tables.specs.Numbers.{putAt, u16At}
 use Rattle.tables.specs.Table.{Table, processCount}
@@ -243,6 +246,22 @@ share-last table accepted =
             is-rounded = share-rounded table accepted;
           }
 
+-- an answer that is no refusal: the text at the front of the buffer
+pub text-listed : (table : List ℕ) {buffer buffer′ : List ℕ} {r written written′ : ℕ}
+    → Yields (listingAnswer table (length buffer)) r buffer buffer′ written written′ → r ≡ 0
+    → (written′ ≤ length buffer′) × (take written′ buffer′ ≡ listingOf table)
+unfolding listingAnswer answer unless numberOf bufferAfter lengthAfter firstCaught
+text-listed table {buffer} {buffer′} {r} {written} {written′} y none = go (ltb (length buffer) (length text)) refl where
+  text : List ℕ
+  text = listingOf table
+
+  go : (b : Bool) → ltb (length buffer) (length text) ≡ b → (written′ ≤ length buffer′) × (take written′ buffer′ ≡ text)
+  go true e = absurd (omega (arith, none, (rw e at (y .number-is))))
+  go false e =
+      let size : written′ ≡ length text = rw e at (y .length-is) in
+      let put : buffer′ ≡ text ++ drop (length text) buffer = rw e at (y .buffer-is) in
+      (omega (arith, size, ap length put, length-append text (drop (length text) buffer)), ap₂ (take {A = ℕ}) size put ∙ take-append-seam text _)
+
 -- ---- the call's answer, once the text was measured by an empty buffer
 module _ (table buffer : List ℕ) {last : List ℕ} {size : ℕ} (measured : Laid [] last 0 (listingOf table) size) where
   unchanged : last ++ buffer ≡ buffer
@@ -280,38 +299,16 @@ module _ (table buffer : List ℕ) {last : List ℕ} {size : ℕ} (measured : La
 
     pub listing-ends : tableRefusal table ≡ 0 → EndsInShare (decode table) (take size after)
     listing-ends accepted =
-        let front : take size after ≡ listingOf table =
-        ap₂ (take {A = ℕ}) size-is (text-put ∙ put-in-front buffer (listingOf table)) ∙ take-append-seam (listingOf table) _ in
+        let front = text-listed table (listing-answered {written = 0}) refl .1 in
         subst⁻¹ (EndsInShare (decode table)) (front ∙ sym (accepted-text table accepted)) (share-last table accepted)
 
--- an answer ends within the buffer
-answer-inside : (table buffer buffer′ : List ℕ) (written written′ : ℕ)
-    → Yields (listingAnswer table (length buffer)) 0 buffer buffer′ written written′
-    → written′ ≤ length buffer′
-unfolding listingAnswer answer unless numberOf bufferAfter lengthAfter
-answer-inside table buffer buffer′ written written′ y = go (ltb (length buffer) (length (listingOf table))) refl where
-  text : List ℕ
-  text = listingOf table
-
-  refusal : ℕ
-  refusal = firstCaught (record { caught = ltb (length buffer) (length text); number = 16 } ∷ [])
-
-  go : (b : Bool) → ltb (length buffer) (length text) ≡ b → written′ ≤ length buffer′
-  go true e =
-      let caught : refusal ≡ 16 = stopped _ _ e in
-      absurd (omega (arith, (rw caught at (y .number-is))))
+-- what was read of an input, with room for more than the largest table, is listed as the whole input is
+pub input-listed : (buffer : List ℕ) (len : ℕ) → largestTable < length buffer → (input : List ℕ) → take len buffer ≡ take (length buffer) input
+    → listingOf (take len buffer) ≡ listingOf input
+unfolding listingOf listingUnless
+input-listed buffer len long input read = ap listingOf read ∙ go (ltb (length input) (length buffer)) refl where
+  go : (b : Bool) → ltb (length input) (length buffer) ≡ b → listingOf (take (length buffer) input) ≡ listingOf input
+  go true e = ap listingOf (take-all (length buffer) input (omega (arith, ltb-true (length input) (length buffer) e)))
   go false e =
-      let passes : refusal ≡ 0 = passed _ _ _ e quiet-none in
-      omega (arith, (rw passes at (y .length-is)), ap length (rw passes at (y .buffer-is)), length-append text (drop (length text) buffer))
-
--- in a buffer that is always long enough
-module _ (table : List ℕ) {buffer buffer′ : List ℕ} {r written written′ : ℕ}
-    (y : Yields (listingAnswer table (length buffer)) r buffer buffer′ written written′)
-    (done : 80000 ≤ length buffer → r ≡ 0) (long : 80000 ≤ length buffer) where
-  pub size-inside : written′ ≤ length buffer′
-  size-inside =
-      answer-inside table buffer buffer′ written written′
-      (subst (λ (n : ℕ). Yields (listingAnswer table (length buffer)) n buffer buffer′ written written′) (done long) y)
-
-  pub size-taken : written′ ≡ length (take written′ buffer′)
-  size-taken = omega (arith, size-inside, length-take written′ buffer′)
+      let refused = front-refused input (length buffer) long (ltb-false (length input) (length buffer) e) in
+      rw (refused .1, refused .2)

@@ -19,6 +19,9 @@ ghost use Rattle.tables.specs.Checks.{tableRefusal};
 ghost use Rattle.tables.specs.Format.{decode};
 ghost use Rattle.tables.specs.Table.{checkpointTotal};
 
+// The bytes of a buffer that every listing fits: what `fits`, below, promises.
+pub const LISTING_ROOM: usize = 80000;
+
 // How many checkpoints the run of an accepted table holds.
 fn checkpoint_total(table: &[u8]) -> usize
     requires { ⌜ tableRefusal (now table) ≡ 0 ⌝ }

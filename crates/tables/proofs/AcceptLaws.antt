@@ -4,24 +4,27 @@
 --     numbers-fit, reread            a well formed table within the limits fits 16 bits; written, it is read as it was
 --     accepted-encode                an orderly table within the limits, written, is accepted
 --     rewritten                      an accepted table's bytes, read and written again
+--     front-refused                  an input longer than the largest table is refused by its front
 -- Assumes nothing.
-use mathlib.Core.Bool.{Bool, false, not}
+use mathlib.Core.Bool.{Bool, true, false, cond, not}
 use mathlib.Core.List.{List}
-use mathlib.Core.Path.{_≡_, ap, _∙_, subst⁻¹}
-use Prim.Native.Nat.{ℕ, _<_, _≤_}
+use mathlib.Core.Path.{_≡_, refl, ap, _∙_, subst⁻¹}
+use Prim.Native.Nat.{ℕ, suc, _<_, _≤_}
 use native.Mathlib.Omega.{arith}
 use borrow.Author.Tests.{eq-eqb, eqb-false, eqb-true, le-ltb, leb-false, ltb-false, lt-leb, ne-eqb, not-false}
 use lib.Dec.{eqb, leb, ltb}
-use lib.ListN.{length}
+use lib.ListN.{length, take}
+use lib.Seq.{length-take-le}
 use Rattle.tables.proofs.CheckLaws.{caughtBy, inside, length-checked, messages-checked, not-short, passed, processes-checked}
 use Rattle.tables.proofs.CheckLaws.{quiet-none, quiet-number, table-refusals}
 use Rattle.tables.proofs.CodingLaws.{AreBytes, Fits16, decode-encode, encode-decode}
 use Rattle.tables.proofs.FormatLaws.{decode-messages, decode-processes, encode-length, sizes-in}
 use Rattle.tables.proofs.ListLaws.{any-none, none-of, or-false-left, or-false-right}
+use Rattle.tables.proofs.NumberLaws.{numberAt-take}
 use Rattle.tables.proofs.TurnLaws.{turns-quiet, turns-read}
 use Rattle.tables.specs.Checks.{Accepted, ChannelsInTurn, GoodMessage, Limits, Orderly, WellFormed, badCount, badLength, badProcessCount}
-use Rattle.tables.specs.Checks.{badReceipt, badSend, outside, tableChecks, tableRefusal, toItself, tooManyMessages, unknownProcess}
-use Rattle.tables.specs.Format.{decode, encode, messagesIn, processesIn, tableLength}
+use Rattle.tables.specs.Checks.{badReceipt, badSend, firstCaught, outside, tableChecks, tableRefusal, toItself, tooManyMessages, unknownProcess}
+use Rattle.tables.specs.Format.{decode, encode, largestTable, messagesIn, processesIn, tableLength}
 use Rattle.tables.specs.Lists.{any}
 use Rattle.tables.specs.Table.{Message, Table, countOf, messageCount, messageOf, noMessage, processCount}
 use Rattle.tables.specs.Table.{mostCheckpoints, mostMessages, mostProcesses}
@@ -196,3 +199,26 @@ accepted-encode t o l =
       in-turn = subst⁻¹ ChannelsInTurn back (o .in-turn);
       limits = subst⁻¹ Limits back l;
     }
+
+-- ---- an input that is longer than the largest table: 2, 3 or 4 catches it, and its front too, where that is longer
+long-refused : (bytes : List ℕ) → largestTable < length bytes
+    → tableRefusal bytes ≡ suc (cond (badProcessCount bytes) 1 (cond (tooManyMessages bytes) 2 3))
+unfolding tableRefusal tableChecks firstCaught badProcessCount tooManyMessages badLength
+long-refused bytes long = rw (not-short bytes (omega (arith, long))) (go (badProcessCount bytes) (tooManyMessages bytes) refl refl _) where
+  go : (n m : Bool) → badProcessCount bytes ≡ n → tooManyMessages bytes ≡ m → (rest : ℕ)
+      → cond n 2 (cond m 3 (cond (badLength bytes) 4 rest)) ≡ suc (cond n 1 (cond m 2 3))
+  go true m e f rest = refl
+  go false true e f rest = refl
+  go false false e f rest =
+      let n = within-limit mostProcesses (processesIn bytes) e in
+      let m = ltb-false mostMessages (messagesIn bytes) f in
+      rw (ne-eqb (length bytes) (tableLength (processesIn bytes) (messagesIn bytes)) (λ same. omega (arith, same, long, n, m)))
+
+pub front-refused : (input : List ℕ) (room : ℕ) → largestTable < room → room ≤ length input
+    → (n : ℕ) × (tableRefusal (take room input) ≡ suc n) × (tableRefusal input ≡ suc n)
+unfolding badProcessCount tooManyMessages processesIn messagesIn
+front-refused input room long read =
+    let inside : 4 ≤ room = omega (arith, long) in
+    let front = long-refused (take room input) (omega (arith, long, length-take-le room input read)) in
+    let read-n = numberAt-take 2 room input 0 (omega (arith, inside)) in
+    (_, rw (read-n, numberAt-take 2 room input 2 inside) at front, long-refused input (omega (arith, long, read)))

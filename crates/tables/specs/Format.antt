@@ -6,7 +6,7 @@ use Prim.Native.Nat.{ℕ, _+_, _*_}
 use lib.ListN.{length, take, drop}
 use Rattle.tables.specs.Lists.{tabulate}
 use Rattle.tables.specs.Numbers.{u16At, u16s}
-use Rattle.tables.specs.Table.{Message, Table, tableOf}
+use Rattle.tables.specs.Table.{Message, Table, mostMessages, mostProcesses, tableOf}
 
 -- N and M, as the bytes give them.
 unfoldable pub processesIn : List ℕ → ℕ
@@ -29,6 +29,10 @@ receiptsAt n m = sendsAt n + 4 * m
 -- Its number of bytes, 4 + 2n + 8m.
 abbrev pub tableLength : ℕ → ℕ → ℕ
 tableLength n m = receiptsAt n m + 4 * m
+
+-- The number of bytes of the largest table.
+abbrev pub largestTable : ℕ
+largestTable = tableLength mostProcesses mostMessages
 
 -- The three parts of a table's bytes: the counts, the sends and the receipts.
 unfoldable pub countsPart : List ℕ → List ℕ

@@ -14,6 +14,9 @@ pub const MOST_CHECKPOINTS: u16 = 4096;
 // The byte at which the counts begin.
 pub const COUNTS_AT: usize = 4;
 
+// The number of bytes of the largest table.
+pub const LARGEST_TABLE: usize = COUNTS_AT + 2 * MOST_PROCESSES + 8 * MOST_MESSAGES;
+
 // The byte at which the sends of a table of n processes begin.
 pub fn sends_at(n: usize) -> usize
     requires { ⌜ n < 65536 ⌝ }
