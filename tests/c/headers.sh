@@ -177,8 +177,12 @@ for crate in run_table keeper listing_text; do
 $(cat "$work/diff")"
     nm --format=posix "$archive" | awk 'NF > 1 && $2 ~ /^[BbCcDdGgSs]$/ { print $1 }' >"$work/data"
     [ ! -s "$work/data" ] || fail "lib$crate.a has data of its own: $(cat "$work/data")"
-    nm -u --format=posix "$archive" | awk 'NF > 1 && $1 !~ /^mem(cpy|set|move|cmp)$/ { print $1 }' >"$work/needed"
-    [ ! -s "$work/needed" ] || fail "lib$crate.a needs: $(cat "$work/needed")"
+    # An archive needs what the manual names, and nothing else.
+    awk '/^An archive needs nothing but/ {
+        for (; match($0, /`mem[a-z]*`/); $0 = substr($0, RSTART + RLENGTH)) print substr($0, RSTART + 1, RLENGTH - 2)
+    }' "$root/docs/MANUAL.md" >"$work/may_need"
+    nm -u --format=posix "$archive" | awk 'NF > 1 { print $1 }' | grep -vxF -f "$work/may_need" >"$work/needed"
+    [ ! -s "$work/needed" ] || fail "lib$crate.a needs what docs/MANUAL.md does not name: $(cat "$work/needed")"
 
     cat "$root/crates/$crate"/src/*.rt | in_c 'pub extern "C" fn ' >"$work/exported"
     diff "$work/declared" "$work/exported" >"$work/diff" || fail "$crate.h (<) and the source of $crate (>):

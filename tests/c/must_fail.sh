@@ -229,6 +229,7 @@ changed crates/keeper/src/lib.rt '/fn keeper_receive(/,/^) ->/s/list: &\[u16\]/l
 changed crates/run_table/src/lib.rt 's/^pub extern "C" fn run_table_processes(table: &\[u8\]) -> u16/pub extern "C" fn run_table_processes(table: \&[u8]) -> u32/'
 changed crates/listing_text/src/lib.rt 's/text: &mut \[u8\], written/text: \&[u8], written/'
 changed docs/MANUAL.md 's/uint16_t from, uint16_t to/uint16_t to, uint16_t from/'
+changed docs/MANUAL.md '/^An archive needs nothing but/s/, `memmove`//'
 changed docs/MANUAL.md 's/ceilings, ceilings_length/ceilings_length, ceilings/'
 changed docs/MANUAL.md 's/marks, marks_length, //'
 changed docs/MANUAL.md '/^| `uint32_t keeper_stand_together(/d'
