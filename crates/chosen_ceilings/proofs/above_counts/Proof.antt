@@ -1,5 +1,4 @@
--- `above_counts` meets its contract. The invariant: no ceiling of a process below p is above its count (`CeilingsBelow`), so the loop leaves at the
--- first that is. The measure is the number of ceilings not looked at.
+-- `above_counts` meets its contract. The invariant: no ceiling below p is above its count (`CeilingsBelow`). The measure: the ceilings that are left.
 -- Assumes nothing.
 use borrow.Author.Needs.{needs}
 use native.Mathlib.Omega.{arith}

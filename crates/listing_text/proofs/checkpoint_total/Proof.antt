@@ -1,5 +1,4 @@
--- `checkpoint_total` meets its contract. The invariant: N is the table's and small, so that the sum can't wrap, and the total is that of the counts below
--- p (`Summed`). The measure is the number of counts not added.
+-- `checkpoint_total` meets its contract. The invariant: N is small, and the total that of the counts below p (`Summed`). The measure: the counts left.
 -- Assumes nothing.
 use Prim.Native.Nat.{_-_, _≤_}
 use Rattle.listing_text.proofs.RowLaws.{Summed, summed-all, summed-more, summed-none}

@@ -1,5 +1,4 @@
--- `give_way` meets its contract. The invariant: each process below p has its latest unmarked state at or below its root (`Giving`). The measure is the
--- number of processes that are left.
+-- `give_way` meets its contract. The invariant: each process below p has its latest unmarked state (`Giving`). The measure: the processes that are left.
 -- Assumes nothing.
 use native.Mathlib.Omega.{arith}
 use Prim.Native.Nat.{_-_}

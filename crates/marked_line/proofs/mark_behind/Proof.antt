@@ -1,5 +1,4 @@
--- `mark_behind` meets its contract. The invariant: of each process below p the states behind its root are marked, and nothing else was (`Behind`). The
--- measure is the number of processes that are left.
+-- `mark_behind` meets its contract. The invariant: the states behind the roots below p are marked, no others (`Behind`). The measure: the processes left.
 -- Assumes nothing.
 use native.Mathlib.Omega.{arith}
 use Prim.Native.Nat.{_-_}

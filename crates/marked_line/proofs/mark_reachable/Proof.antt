@@ -1,5 +1,4 @@
--- `mark_reachable` meets its contract. The invariant: all that is marked is reachable (`Growing`); a pass that marks nothing says that nothing is left. The
--- measure is the number of bits that are not set.
+-- `mark_reachable` meets its contract. The invariant: what is marked is reachable (`Growing`); a pass that marks nothing ends it. The measure: unset bits.
 -- Assumes nothing.
 use borrow.Author.Tests.{not-false, not-true}
 use Rattle.marked_line.proofs.MarkPassLaws.{Growing, grown-none, passes-end, passes-more}

@@ -1,5 +1,4 @@
--- `first_bits` meets its contract. The invariant: the first p entries are the first bits of their processes, and the next one is known (`Firsts`). The
--- measure is the number of entries that are left.
+-- `first_bits` meets its contract. The invariant: the first p entries are first bits, and the next is known (`Firsts`). The measure: the entries left.
 -- Assumes nothing.
 use native.Mathlib.Omega.{arith}
 use mathlib.Core.Path.{refl}

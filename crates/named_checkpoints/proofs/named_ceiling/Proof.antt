@@ -1,5 +1,4 @@
--- `named_ceiling` meets its contract. The invariant: the array has the counts, with the first k named numbers in their place (`NamedPut`). The measure is the
--- number of names that are left.
+-- `named_ceiling` meets its contract. The invariant: the counts, with the first k named numbers put (`NamedPut`). The measure: the names that are left.
 -- Assumes nothing.
 use borrow.Author.Needs.{needs}
 use native.Mathlib.Omega.{arith}

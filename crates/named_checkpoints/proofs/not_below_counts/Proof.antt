@@ -1,5 +1,4 @@
--- `not_below_counts` meets its contract. The invariant: the first k numbers are below their counts (`NamedBelow`). The measure is the number of names not
--- looked at.
+-- `not_below_counts` meets its contract. The invariant: the first k numbers are below their counts (`NamedBelow`). The measure: the names that are left.
 -- Assumes nothing.
 use borrow.Author.Needs.{needs}
 use native.Mathlib.Omega.{arith}

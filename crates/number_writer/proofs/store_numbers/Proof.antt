@@ -1,5 +1,4 @@
--- `store_numbers` meets its contract. The invariant: the first k numbers stand where they belong, and the rest of the buffer is as it was (`Written`). The
--- measure is the number of those that are left.
+-- `store_numbers` meets its contract. The invariant: the first k numbers stand in place, the rest is as it was (`Written`). The measure: those left.
 -- Assumes nothing.
 use native.Mathlib.Omega.{arith}
 use mathlib.Core.List.{[], _∷_}

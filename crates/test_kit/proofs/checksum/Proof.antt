@@ -1,5 +1,4 @@
--- `checksum` meets its contract. The invariant: the sum is that of the first i bytes, below its modulus (`Summing`). The measure is the number of bytes that
--- are left.
+-- `checksum` meets its contract. The invariant: the sum of the first i bytes, below its modulus (`Summing`). The measure: the bytes that are left.
 -- Assumes nothing.
 use borrow.Author.Needs.{needs}
 use native.Mathlib.Omega.{arith}

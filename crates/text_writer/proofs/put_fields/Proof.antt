@@ -1,5 +1,4 @@
--- `put_fields` meets its contract. The invariant: the first i fields are laid, one after another (`Laying`). The measure is the number of fields that are
--- left.
+-- `put_fields` meets its contract. The invariant: the first i fields are laid, one after another (`Laying`). The measure: the fields that are left.
 -- Assumes nothing.
 use Prim.Native.Nat.{_-_}
 use Rattle.text_writer.proofs.TextLaws.{Laying, each-rows, laying-all, laying-length, laying-more, laying-none, laying-room}

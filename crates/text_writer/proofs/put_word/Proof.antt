@@ -1,5 +1,4 @@
--- `put_word` meets its contract. The invariant: the first i letters are laid, one after another (`Laying`). The measure is the number of letters that are
--- left.
+-- `put_word` meets its contract. The invariant: the first i letters are laid, one after another (`Laying`). The measure: the letters that are left.
 -- Assumes nothing.
 use Prim.Native.Nat.{_-_}
 use Rattle.text_writer.proofs.TextLaws.{Laying, laying-all, laying-length, laying-more, laying-none, laying-room, letters}

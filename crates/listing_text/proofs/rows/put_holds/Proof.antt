@@ -1,5 +1,4 @@
--- `rows::put_holds` meets its contract. The invariant: the scratch has its lines, and the rows of the first k are laid, one after another (`Laying`). The
--- measure is the number of rows that are left.
+-- `rows::put_holds` meets its contract. The invariant: the rows of the first k lines are laid (`Laying`). The measure: the rows that are left.
 -- Assumes nothing.
 use Prim.Native.Nat.{_-_}
 use Rattle.listing_text.proofs.RowLaws.{line-in, line-part}

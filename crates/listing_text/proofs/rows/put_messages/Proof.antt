@@ -1,5 +1,4 @@
--- `rows::put_messages` meets its contract. The invariant: the rows of the first e positions are laid, one after another (`Laying`). The measure is the
--- number of rows that are left.
+-- `rows::put_messages` meets its contract. The invariant: the rows of the first e positions are laid (`Laying`). The measure: the rows that are left.
 -- Assumes nothing.
 use Prim.Native.Nat.{_+_, _-_, _*_}
 use Rattle.text_writer.proofs.TextLaws.{Laying, laying-all, laying-length, laying-more, laying-none, laying-room}

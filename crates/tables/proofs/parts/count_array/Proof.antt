@@ -1,5 +1,4 @@
--- `parts::count_array` meets its contract. The invariant: the parts are the table's, and the first p entries of the array are its counts, the others 0
--- (`Filling`). The measure is the number of counts that are left.
+-- `parts::count_array` meets its contract. The invariant: the first p entries are the table's counts, the others 0 (`Filling`). The measure: those left.
 -- Assumes nothing.
 use borrow.Author.Needs.{needs}
 use native.Mathlib.Omega.{arith}

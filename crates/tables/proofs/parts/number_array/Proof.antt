@@ -1,5 +1,4 @@
--- `parts::number_array` meets its contract. The invariant: the first p entries of the array are the numbers, the others 0 (`Filling`). The measure is the
--- number of those that are left.
+-- `parts::number_array` meets its contract. The invariant: the first p entries are the numbers, the others 0 (`Filling`). The measure: those left.
 -- Assumes nothing.
 use native.Mathlib.Omega.{arith}
 use mathlib.Core.Path.{refl}
