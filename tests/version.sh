@@ -3,7 +3,7 @@
 #
 # Compares every place that says our version with the file VERSION: the macros of the headers, every package of Cargo in
 # its manifest and in the lock files (there is one version, whether a package is handed out or not), and the newest
-# heading of CHANGELOG.md, `## 0.7.1, ..`. The pkg-config files take theirs when they are installed, so they have to say
+# heading of CHANGELOG.md, `## 0.7.0, ..`. The pkg-config files take theirs when they are installed, so they have to say
 # @VERSION@. Names each place that differs.
 #
 # The second number is that of the change requests that have landed: of the notes docs/changes/NN-*.md. The headings of
