@@ -21,8 +21,7 @@ use Rattle.marks.specs.Room.{marksSize}
 use Rattle.steps.specs.Steps.{receiptChecks, sendChecks}
 use Rattle.call_checks.specs.CallChecks.{checkpointCallChecks, keepSheetChecks, lineOfSetChecks, lineUnderChecks, markedLineChecks, onTable}
 use Rattle.call_checks.specs.CallChecks.{receiptCallChecks, sendCallChecks, standTogetherChecks}
-use Rattle.tables.proofs.CheckLaws.{append-passed, areRefusals, caught-first, caughtBy, passed, quiet-front, quiet-none, quiet-number}
-use Rattle.tables.proofs.CheckLaws.{stopped, table-refusals}
+use Rattle.tables.proofs.CheckLaws.{append-passed, areRefusals, caught-first, caughtBy, passed, quiet-front, quiet-none, quiet-number, stopped, table-refusals}
 use Rattle.tables.specs.Checks.{Check, firstCaught, tableChecks, tableRefusal}
 use Rattle.tables.specs.Format.{decode}
 use Rattle.tables.specs.Table.{processCount}

@@ -26,15 +26,12 @@ use Rattle.tables.specs.Checks.{Accepted, ChannelsInTurn, GoodMessage, L
 use Rattle.tables.specs.Checks.{badReceipt, badSend, firstCaught, outside, tableChecks, tableRefusal, toItself, tooManyMessages, unknownProcess}
 use Rattle.tables.specs.Format.{decode, encode, largestTable, messagesIn, processesIn, tableLength}
 use Rattle.tables.specs.Lists.{any}
-use Rattle.tables.specs.Table.{Message, Table, countOf, messageCount, messageOf, noMessage, processCount}
-use Rattle.tables.specs.Table.{mostCheckpoints, mostMessages, mostProcesses}
+use Rattle.tables.specs.Table.{Message, Table, countOf, messageCount, messageOf, mostCheckpoints, mostMessages, mostProcesses, noMessage, processCount}
 
 -- a number that is not outside its limit
 within-positive : (limit n : ℕ) → outside limit n ≡ false → 0 < n
 unfolding outside
-within-positive limit n e =
-    let z : n ≡ 0 → ⊥ = eqb-false n 0 (or-false-left (eqb n 0) (ltb limit n) e) in
-    omega arith
+within-positive limit n e = omega (arith, eqb-false n 0 (or-false-left (eqb n 0) (ltb limit n) e))
 
 within-limit : (limit n : ℕ) → outside limit n ≡ false → n ≤ limit
 unfolding outside
@@ -52,22 +49,15 @@ module _ (t : Table) (m : Message) where
     received-within = ltb-false (countOf t (m .receiver)) (m .received) e9;
   }
 
-  module _ (g : GoodMessage t m) where
-    known-process : unknownProcess (processCount t) m ≡ false
-    unfolding unknownProcess
-    known-process = rw (lt-leb (processCount t) (m .sender) (g .sender-known), lt-leb (processCount t) (m .receiver) (g .receiver-known))
-
-    not-to-itself : toItself m ≡ false
-    unfolding toItself
-    not-to-itself = ne-eqb (m .sender) (m .receiver) (g .two-processes)
-
-    good-send : badSend t m ≡ false
-    unfolding badSend
-    good-send = lt-leb (countOf t (m .sender)) (m .sent) (g .sent-below)
-
-    good-receipt : badReceipt t m ≡ false
-    unfolding badReceipt
-    good-receipt = le-ltb (countOf t (m .receiver)) (m .received) (g .received-within)
+  quiet-message : GoodMessage t m
+      → (unknownProcess (processCount t) m ≡ false) × (toItself m ≡ false) × (badSend t m ≡ false) × (badReceipt t m ≡ false)
+  unfolding unknownProcess toItself badSend badReceipt
+  quiet-message g = (
+    rw (lt-leb (processCount t) (m .sender) (g .sender-known), lt-leb (processCount t) (m .receiver) (g .receiver-known)),
+    ne-eqb (m .sender) (m .receiver) (g .two-processes),
+    lt-leb (countOf t (m .sender)) (m .sent) (g .sent-below),
+    le-ltb (countOf t (m .receiver)) (m .received) (g .received-within),
+  )
 
 module _ (bytes : List ℕ) where
   abbrev t : Table
@@ -126,9 +116,6 @@ module _ (bytes : List ℕ) where
   unfolding processCount countOf badCount
   no-count h = any-none badCount (t .counts) 0 h
 
-  in-limits : (limit n : ℕ) → 0 < n → n ≤ limit → outside limit n ≡ false
-  in-limits limit n p l = inside limit n (λ z. omega arith) l
-
   module _ (a : Accepted bytes) where
     whole : length bytes ≡ tableLength (processesIn bytes) (messagesIn bytes)
     whole = rw (← decode-processes bytes, ← decode-messages bytes) (a .whole)
@@ -136,7 +123,7 @@ module _ (bytes : List ℕ) where
     processes-good : badProcessCount bytes ≡ false
     processes-good =
         processes-checked (sizes-in bytes)
-        ∙ in-limits mostProcesses (processesIn bytes) (omega (arith, a .well-formed .some-process, decode-processes bytes))
+        ∙ inside mostProcesses (processesIn bytes) (λ z. omega (arith, z, a .well-formed .some-process, decode-processes bytes))
         (omega (arith, a .limits .processes-limit, decode-processes bytes))
 
     messages-good : tooManyMessages bytes ≡ false
@@ -153,17 +140,17 @@ module _ (bytes : List ℕ) where
     pub refusal-zero : tableRefusal bytes ≡ 0
     unfolding tableRefusal tableChecks
     refusal-zero =
-        let w = a .well-formed in
-        let good = w .good-messages in
+        let good = a .well-formed .good-messages in
+        let some = a .well-formed .some-checkpoint in
         passed _ _ _ (not-short bytes (omega (arith, whole)))
         (passed _ _ _ processes-good
         (passed _ _ _ messages-good
         (passed _ _ _ length-good
-        (passed _ _ _ (no-count (λ p l. in-limits mostCheckpoints (countOf t p) (w .some-checkpoint p l) (a .limits .counts-limit p l)))
-        (passed _ _ _ (no-message (unknownProcess (processCount t)) (λ k l. known-process t (messageOf t k) (good k l)))
-        (passed _ _ _ (no-message toItself (λ k l. not-to-itself t (messageOf t k) (good k l)))
-        (passed _ _ _ (no-message (badSend t) (λ k l. good-send t (messageOf t k) (good k l)))
-        (passed _ _ _ (no-message (badReceipt t) (λ k l. good-receipt t (messageOf t k) (good k l)))
+        (passed _ _ _ (no-count (λ p l. inside mostCheckpoints (countOf t p) (λ z. omega (arith, z, some p l)) (a .limits .counts-limit p l)))
+        (passed _ _ _ (no-message (unknownProcess (processCount t)) (λ k l. quiet-message t (messageOf t k) (good k l) .0))
+        (passed _ _ _ (no-message toItself (λ k l. quiet-message t (messageOf t k) (good k l) .1))
+        (passed _ _ _ (no-message (badSend t) (λ k l. quiet-message t (messageOf t k) (good k l) .2))
+        (passed _ _ _ (no-message (badReceipt t) (λ k l. quiet-message t (messageOf t k) (good k l) .3))
         (passed _ _ _ (turns-quiet t (a .in-turn))
         quiet-none)))))))))
 
@@ -218,7 +205,6 @@ pub front-refused : (input : List ℕ) (room : ℕ) → largestTable < room → 
     → (n : ℕ) × (tableRefusal (take room input) ≡ suc n) × (tableRefusal input ≡ suc n)
 unfolding badProcessCount tooManyMessages processesIn messagesIn
 front-refused input room long read =
-    let inside : 4 ≤ room = omega (arith, long) in
     let front = long-refused (take room input) (omega (arith, long, length-take-le room input read)) in
-    let read-n = numberAt-take 2 room input 0 (omega (arith, inside)) in
-    (_, rw (read-n, numberAt-take 2 room input 2 inside) at front, long-refused input (omega (arith, long, read)))
+    let n = numberAt-take 2 room input 0 (omega (arith, long)) in
+    (_, rw (n, numberAt-take 2 room input 2 (omega (arith, long))) at front, long-refused input (omega (arith, long, read)))
