@@ -4,7 +4,8 @@ pub mod propagation;
 pub mod scratch;
 
 use lines::ceiling_of_set;
-use lines::line_of_set;
+use lines::settled_line;
+use lowering::few::Lowered;
 use number_writer::store_numbers;
 use process_set::bit;
 use tables::parts;
@@ -36,21 +37,26 @@ pub fn propagating(table: &[u8]) -> [bool; 32]
 }
 
 // The line of process k alone in an accepted table. Where a rollback of k does not propagate, it is the
-// ceiling, and no pass is made.
-pub fn line_of_holder(table: &[u8], k: usize, propagates: bool) -> [u16; 32]
+// ceiling, and nothing is looked at. A few passes are tried first where `few` says so; the result says
+// whether they may be tried again.
+pub fn line_of_holder(table: &[u8], k: usize, propagates: bool, few: bool) -> Lowered
     requires { ⌜ tableRefusal (now table) ≡ 0 ⌝ }
     requires { ⌜ k < 32 ⌝ }
     requires { ⌜ propagates ≡ propagatesFrom (decode (now table)) k ⌝ }
-    ensures { λ r. ⌜ r ≡ arrayOf (lineOf (decode (now (table .entry))) (member (2 ^ k))) ⌝ }
+    ensures { λ r. ⌜ r .line ≡ arrayOf (lineOf (decode (now (table .entry))) (member (2 ^ k))) ⌝ }
 {
-    let set = bit(k);
+    let ceiling = ceiling_of_set(table, bit(k));
     if !propagates {
-        return ceiling_of_set(table, set);
+        return Lowered {
+            line: ceiling,
+            settled: few,
+        };
     }
-    line_of_set(table, set)
+    settled_line(table, ceiling, few)
 }
 
-// Writes the lines of all single holders to the front of a scratch that has room for N × N numbers.
+// Writes the lines of all single holders to the front of a scratch that has room for N × N numbers. Once
+// a few passes did not settle a line, they are not tried for the next ones.
 pub fn fill_lines(table: &[u8], scratch: &mut [u16])
     requires { ⌜ tableRefusal (now table) ≡ 0 ⌝ }
     requires { ⌜ processCount (decode (now table)) * processCount (decode (now table)) ≤ length (now scratch) ⌝ }
@@ -59,10 +65,13 @@ pub fn fill_lines(table: &[u8], scratch: &mut [u16])
 {
     let n = parts::process_count(table);
     let propagates = propagating(table);
+    let mut few = true;
     let mut at = 0;
     let mut k = 0;
     while k < n {
-        let line = line_of_holder(table, k, propagates[k]);
+        let found = line_of_holder(table, k, propagates[k], few);
+        few = found.settled;
+        let line = found.line;
         store_numbers(scratch, at, &line[..n]);
         at += n;
         k += 1;

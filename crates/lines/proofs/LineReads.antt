@@ -19,7 +19,8 @@ use Rattle.consistency.proofs.LoweringLaws.{line-is, line-latest, line-length}
 use Rattle.consistency.specs.Ceilings.{ceilingOf, lineOf, recoveryLine}
 use Rattle.consistency.specs.Lines.{asLine}
 use Rattle.consistency.specs.Lowering.{lineUnder}
-use Rattle.lines.specs.Arrays.{heightAt, messagesOf}
+use Rattle.lines.specs.Arrays.{heightAt}
+use Rattle.lowering.specs.Lowered.{messagesOf}
 use Rattle.process_set.proofs.SetLaws.{all-member}
 use Rattle.process_set.specs.Sets.{allProcesses, member}
 use Rattle.tables.proofs.FormatLaws.{count-beyond, decode-messages}

@@ -1,3 +1,3 @@
 -- Lines as the code holds them.
---     Arrays    how high a process may stand; the messages of two parts of a table
+--     Arrays    how high a process may stand
 pub mod Arrays

@@ -1,8 +1,9 @@
 // Lines of a run table: the latest consistent line under a ceiling, and the ceiling of a process set. A
 // line is an array of 32 numbers by value; its entries at N and above are 0, and so are a ceiling's.
 pub mod ceilings;
-pub mod lowering;
 
+use lowering::few::Lowered;
+use lowering::settle;
 use number_writer::put_numbers;
 use tables::parts;
 ghost use mathlib.Core.Path.{_≡_};
@@ -17,13 +18,24 @@ ghost use Rattle.tables.specs.Format.{decode};
 ghost use Rattle.tables.specs.Numbers.{putAt, u16s};
 ghost use Rattle.tables.specs.Table.{processCount};
 
+// The line under a ceiling in an accepted table. A few passes are tried first where `few` says so; the
+// result says whether they settled the line.
+pub fn settled_line(table: &[u8], ceiling: [u16; 32], few: bool) -> Lowered
+    requires { ⌜ tableRefusal (now table) ≡ 0 ⌝ }
+    ensures { λ r. ⌜ r .line ≡ lineUnder (decode (now (table .entry)) .messages) ceiling ⌝ }
+{
+    let n = parts::process_count(table);
+    let m = parts::message_count(table);
+    settle(ceiling, n, parts::sends(table), parts::receipts(table), m, few)
+}
+
 // The line under a ceiling in an accepted table.
 pub fn line_under(table: &[u8], ceiling: [u16; 32]) -> [u16; 32]
     requires { ⌜ tableRefusal (now table) ≡ 0 ⌝ }
     ensures { λ r. ⌜ r ≡ lineUnder (decode (now (table .entry)) .messages) ceiling ⌝ }
 {
-    let m = parts::message_count(table);
-    lowering::lower(ceiling, parts::sends(table), parts::receipts(table), m)
+    let found = settled_line(table, ceiling, true);
+    found.line
 }
 
 // The ceiling of a set in an accepted table.

@@ -12,10 +12,10 @@ use Rattle.holder_lines.proofs.fill_lines.Statement.{statement}
 use Rattle.holder_lines.proofs.fill_lines.Tie as tie
 
 abbrev Inv-loop : tie.InvT-loop
-Inv-loop table scratch₀ n propagates at₀ k₀ scratch at k = Lining table scratch₀ n propagates scratch at k
+Inv-loop table scratch₀ n propagates few₀ at₀ k₀ scratch few at k = Lining table scratch₀ n propagates scratch at k
 
 abbrev μ-loop : tie.MeasureT-loop
-μ-loop table scratch₀ n propagates at₀ k₀ scratch at k = n - k
+μ-loop table scratch₀ n propagates few₀ at₀ k₀ scratch few at k = n - k
 
 -- ---- the places: the entry, from where N was read; a turn of the loop, from where its line was found; that, from where the line was stored
 abbrev entry : tie.After-process-count Inv-loop μ-loop → tie.Start Inv-loop μ-loop
@@ -25,11 +25,11 @@ abbrev turn : tie.After-line-of-holder Inv-loop μ-loop → tie.In-loop Inv-loop
 turn c = c .before
 
 abbrev lined : tie.After-store-numbers Inv-loop μ-loop → tie.After-line-of-holder Inv-loop μ-loop
-lined c = c .before .before .before
+lined c = c .before .before .before .before
 
 -- ---- what is known there: the first N numbers of the line are a list of N
 front : (c : tie.After-line-of-holder Inv-loop μ-loop)
-    → length (take (turn c .before .before .before .process-count .result) (c .line-of-holder .result))
+    → length (take (turn c .before .before .before .process-count .result) (c .line-of-holder .result .line))
     ≡ turn c .before .before .before .process-count .result
 front c = length-take-le _ _ (lining-fits (turn c .before .loop .inv) (turn c .loop-test .taken) (c .line-of-holder .ensures))
 
@@ -52,11 +52,11 @@ fill-lines-spec =
     (lining .given .accepted, (omega arith, lining-mark lining (c .loop-test .taken))))
     -- it is stored
     (λ c.
-    let found = c .before in
-    omega (arith, lining-fits (turn found .before .loop .inv) (turn found .loop-test .taken) (found .line-of-holder .ensures)))
-    (λ c. sym (front (c .before .before)))
-    (λ c κs.
     let found = c .before .before in
+    omega (arith, lining-fits (turn found .before .loop .inv) (turn found .loop-test .taken) (found .line-of-holder .ensures)))
+    (λ c. sym (front (c .before .before .before)))
+    (λ c κs.
+    let found = c .before .before .before in
     omega (arith, front found, lining-room (turn found .before .loop .inv) (turn found .loop-test .taken)))
     (λ c.
     let turn = turn (lined (c .before .before)) in

@@ -1,9 +1,9 @@
--- Passes over the messages, from the last to the first, as the loops of `lowering::lower` go.
+-- Passes over the messages, from the last to the first, as the loops of `passes::lower` and of `few::few_passes` go.
 --     Under                           the invariant of the passes, relative to the ceiling
 --     LoweringPass                    the invariant of one pass, relative to its line at the start
---     pass-begins, pass-ends          how it begins, and how it ends where it lowered nothing
+--     pass-begins                     how it begins
+--     pass-under, pass-settles        how it ends: another one goes on from its line; where it lowered nothing, that is settled
 --     NextInPass                      a pass at its next message, whose four numbers were read
---     sender-small, receiver-small    the processes of that message
 --     skips-undelivered, skips-sent-before, skips-received-after, pass-lowers    what its tests say of that message
 -- Assumes nothing.
 use mathlib.Core.Bool.{Bool, true, false, false≢true, true≢false}
@@ -14,10 +14,11 @@ use native.Mathlib.Decide.{ℕ-discrete}
 use native.Mathlib.Nat.{le-refl}
 use native.Mathlib.Omega.{arith}
 use lib.ListN.{length, getD, set}
-use Rattle.consistency.proofs.LoweringLaws.{line-consistent, line-put-back, put-back-falls}
+use Rattle.consistency.proofs.LoweringLaws.{line-consistent, put-back-falls}
 use Rattle.consistency.specs.Lines.{Orphan, asLine}
 use Rattle.consistency.specs.Lowering.{lineUnder}
-use Rattle.lines.specs.Arrays.{messagesOf}
+use Rattle.lowering.proofs.DownLaws.{MessageRead, down-more, down-none, down-put-back, message-is, messages-length}
+use Rattle.lowering.specs.Lowered.{BroughtDown, messagesOf}
 use Rattle.tables.proofs.CodingLaws.{message-path}
 use Rattle.tables.proofs.FormatLaws.{message-in}
 use Rattle.tables.proofs.ListLaws.{getD-tabulate, length-tabulate}
@@ -27,18 +28,18 @@ use Rattle.tables.specs.Numbers.{u16At}
 use Rattle.tables.specs.Parts.{Messages}
 use Rattle.tables.specs.Table.{Message, messageCount, messageOf, mostProcesses, noMessage}
 
--- Passes have brought a line down from a ceiling: the line under it is the same.
+-- Passes have brought a line down from a ceiling.
 pub record Under (m : ℕ) (sends receipts ceiling line : List ℕ) : Type 0 where
   pub given : Messages mostProcesses m sends receipts
-  pub same-line : lineUnder (messagesOf m sends receipts) line ≡ lineUnder (messagesOf m sends receipts) ceiling
+  pub down : BroughtDown (messagesOf m sends receipts) ceiling line
 
--- The pass stands before message k: it has gone over the messages from k on. The line under its line is as at the start.
+-- The pass stands before message k: it has gone over the messages from k on. Its line was brought down from the start.
 -- Until it lowers, its line is as at the start and no message that it went over is an orphan; once it has lowered, the sum
 -- is smaller.
 pub record LoweringPass (m : ℕ) (sends receipts start line : List ℕ) (lowered : Bool) (k : ℕ) : Type 0 where
   pub given : Messages mostProcesses m sends receipts
   pub within : k ≤ m
-  pub same-line : lineUnder (messagesOf m sends receipts) line ≡ lineUnder (messagesOf m sends receipts) start
+  pub down : BroughtDown (messagesOf m sends receipts) start line
   pub unchanged : lowered ≡ false → line ≡ start
   pub no-orphans : lowered ≡ false → (j : ℕ) → k ≤ j → j < m → Orphan (getD (messagesOf m sends receipts) j noMessage) (asLine line) → ⊥
   pub falls : lowered ≡ true → sum line < sum start
@@ -47,60 +48,43 @@ pub pass-begins : {m : ℕ} {sends receipts ceiling line : List ℕ} → Under m
 pass-begins {m} u = record {
   given = u .given;
   within = le-refl m;
-  same-line = refl;
+  down = down-none _;
   unchanged = λ _. refl;
   no-orphans = λ _ j l l′ _. omega arith;
   falls = λ e. absurd (false≢true e);
 }
-
-messages-length : (m : ℕ) (sends receipts : List ℕ) → length (messagesOf m sends receipts) ≡ m
-unfolding messagesOf
-messages-length m sends receipts = length-tabulate m (messageAt sends receipts)
 
 module _ {m : ℕ} {sends receipts start line : List ℕ} {lowered : Bool} {k : ℕ} (w : LoweringPass m sends receipts start line lowered k) where
   abbrev ms : List Message
   ms = messagesOf m sends receipts
 
   -- a pass that has lowered nothing has found no orphan, so its line is the one under itself
-  pub pass-ends : k ≤ 0 → lowered ≡ false → line ≡ lineUnder ms start
+  pass-ends : k ≤ 0 → lowered ≡ false → line ≡ lineUnder ms start
   unfolding messageOf messageCount
   pass-ends z f =
       line-consistent ms line (λ j o.
       let inside = message-in (record { counts = []; messages = ms }) j (o .delivered) in
       w .no-orphans f j (omega arith) (omega (arith, inside, messages-length m sends receipts)) o)
-      ∙ w .same-line
+      ∙ w .down .same-line
+
+-- ---- the passes, one after another
+module _ {m : ℕ} {sends receipts ceiling start line : List ℕ} {lowered : Bool} {k : ℕ} (u : Under m sends receipts ceiling start)
+    (w : LoweringPass m sends receipts start line lowered k) where
+  pub pass-under : Under m sends receipts ceiling line
+  pass-under = record { given = w .given; down = down-more (u .down) (w .down) }
+
+  pub pass-settles : k ≤ 0 → lowered ≡ false → line ≡ lineUnder (messagesOf m sends receipts) ceiling
+  pass-settles z f = pass-ends w z f ∙ u .down .same-line
 
 -- ---- the next message of a pass
--- It is message k - 1, and its four numbers were read: its sender and where it was sent, its receiver and where it was received.
 pub record NextInPass (m : ℕ) (sends receipts start line : List ℕ) (lowered : Bool) (k j y i r : ℕ) : Type 0 where
   pub passing : LoweringPass m sends receipts start line lowered k
-  pub more : 0 < k
-  pub sender : j ≡ u16At sends (4 * (k - 1))
-  pub sent : y ≡ u16At sends (4 * (k - 1) + 2)
-  pub receiver : i ≡ u16At receipts (4 * (k - 1))
-  pub received : r ≡ u16At receipts (4 * (k - 1) + 2)
+  pub message : MessageRead m sends receipts k j y i r
 
 module _ {m : ℕ} {sends receipts start line : List ℕ} {lowered : Bool} {k j y i r : ℕ}
     (x : NextInPass m sends receipts start line lowered k j y i r) where
-  there : k - 1 < m
-  there = omega (arith, x .more, x .passing .within)
-
-  pub sender-small : j < mostProcesses
-  unfolding processAt
-  sender-small = omega (arith, x .sender, x .passing .given .senders-known (k - 1) there)
-
-  pub receiver-small : i < mostProcesses
-  unfolding processAt
-  receiver-small = omega (arith, x .receiver, x .passing .given .receivers-known (k - 1) there)
-
   abbrev here : Message
   here = record { sender = j; sent = y; receiver = i; received = r }
-
-  is-here : getD (messagesOf m sends receipts) (k - 1) noMessage ≡ here
-  unfolding messagesOf messageAt processAt checkpointAt
-  is-here =
-      getD-tabulate m (messageAt sends receipts) (k - 1) noMessage there
-      ∙ message-path (messageAt sends receipts (k - 1)) here (sym (x .sender)) (sym (x .sent)) (sym (x .receiver)) (sym (x .received))
 
   -- it is no orphan, and the pass goes on
   abbrev Skipped : Type 0
@@ -109,8 +93,8 @@ module _ {m : ℕ} {sends receipts start line : List ℕ} {lowered : Bool} {k j 
   skips : (Orphan here (asLine line) → ⊥) → Skipped
   skips none = record {
     given = x .passing .given;
-    within = omega (arith, x .passing .within);
-    same-line = x .passing .same-line;
+    within = omega (arith, x .message .within);
+    down = x .passing .down;
     unchanged = x .passing .unchanged;
     no-orphans = λ e n l l′. by-place n l l′ e (ℕ-discrete n (k - 1));
     falls = x .passing .falls;
@@ -120,7 +104,7 @@ module _ {m : ℕ} {sends receipts start line : List ℕ} {lowered : Bool} {k j 
       orphan-at n = Orphan (getD (messagesOf m sends receipts) n noMessage) (asLine line)
 
       by-place : (n : ℕ) → k - 1 ≤ n → n < m → lowered ≡ false → Dec (n ≡ k - 1) → orphan-at n → ⊥
-      by-place n l l′ e (yes h) o = none (subst (λ (m : Message). Orphan m (asLine line)) is-here (subst orphan-at h o))
+      by-place n l l′ e (yes h) o = none (subst (λ (m : Message). Orphan m (asLine line)) (message-is (x .message)) (subst orphan-at h o))
       by-place n l l′ e (no h) o = x .passing .no-orphans e n (omega arith) l′ o
 
   pub skips-undelivered : r ≡ 0 → Skipped
@@ -136,8 +120,8 @@ module _ {m : ℕ} {sends receipts start line : List ℕ} {lowered : Bool} {k j 
   pub pass-lowers : (r ≡ 0 → ⊥) → getD line j 0 ≤ y → r ≤ getD line i 0 → LoweringPass m sends receipts start (set line i (r - 1)) true (k - 1)
   pass-lowers d s b = record {
     given = x .passing .given;
-    within = omega (arith, x .passing .within);
-    same-line = line-put-back (messagesOf m sends receipts) line (k - 1) here is-here orphan ∙ x .passing .same-line;
+    within = omega (arith, x .message .within);
+    down = down-more (x .passing .down) (down-put-back line (k - 1) here (message-is (x .message)) orphan);
     unchanged = λ f. absurd (true≢false f);
     no-orphans = λ f. absurd (true≢false f);
     falls = λ _. by-flag lowered (x .passing .falls) (x .passing .unchanged);

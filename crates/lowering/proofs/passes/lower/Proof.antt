@@ -5,13 +5,13 @@
 use borrow.Author.Needs.{needs}
 use borrow.Author.Tests.{not-false, not-true}
 use native.Mathlib.Omega.{arith}
-use mathlib.Core.Path.{refl, _∙_}
 use denote.Ref.{now}
-use Rattle.lines.proofs.PassLaws.{NextInPass, LoweringPass, Under, pass-begins, pass-ends, pass-lowers, receiver-small, sender-small}
-use Rattle.lines.proofs.PassLaws.{skips-received-after, skips-sent-before, skips-undelivered}
+use Rattle.lowering.proofs.DownLaws.{down-none, receiver-small, sender-small}
+use Rattle.lowering.proofs.PassLaws.{NextInPass, LoweringPass, Under, pass-begins, pass-lowers, pass-settles, pass-under}
+use Rattle.lowering.proofs.PassLaws.{skips-received-after, skips-sent-before, skips-undelivered}
 use Rattle.tables.specs.Lists.{sum}
-use Rattle.lines.proofs.lowering.lower.Statement.{statement}
-use Rattle.lines.proofs.lowering.lower.Tie as tie
+use Rattle.lowering.proofs.passes.lower.Statement.{statement}
+use Rattle.lowering.proofs.passes.lower.Tie as tie
 
 abbrev Inv-loop : tie.InvT-loop
 Inv-loop sends receipts m line₀ lowered₀ k₀ line lowered k = LoweringPass m sends receipts line₀ line lowered k
@@ -40,11 +40,15 @@ next : (c : tie.After-u16-at4 Inv-loop μ-loop Inv-passes μ-passes)
     (c .before .before .before .u16-at .result) (c .before .before .u16-at2 .result) (c .before .u16-at3 .result) (c .u16-at4 .result))
 next c = record {
   passing = turn c .before .loop .inv;
-  more = turn c .loop-test .taken;
-  sender = c .before .before .before .u16-at .ensures;
-  sent = c .before .before .u16-at2 .ensures;
-  receiver = c .before .u16-at3 .ensures;
-  received = c .u16-at4 .ensures;
+  message = record {
+    given = turn c .before .loop .inv .given;
+    within = turn c .before .loop .inv .within;
+    more = turn c .loop-test .taken;
+    sender = c .before .before .before .u16-at .ensures;
+    sent = c .before .before .u16-at2 .ensures;
+    receiver = c .before .u16-at3 .ensures;
+    received = c .u16-at4 .ensures;
+  };
 }
 
 -- ---- the needs, in the code's course
@@ -56,7 +60,7 @@ lower-spec =
     μ-loop
     Inv-passes
     μ-passes
-    (λ c. record { given = c .before .before .pre; same-line = refl })
+    (λ c. record { given = c .before .before .pre; down = down-none _ })
     (λ c. pass-begins (c .passes .inv))
     -- the four numbers
     (λ c. omega arith) (λ c. omega arith) (λ c κs. omega arith) (λ c. search needs) (λ c. omega arith) (λ c. omega arith)
@@ -66,27 +70,25 @@ lower-spec =
     (λ c. omega arith)
     (λ c. skips-undelivered (next (c .before)) (c .if1 .taken))
     -- it was sent before the line
-    (λ c. omega (arith, sender-small (next (c .before))))
-    (λ c. sender-small (next (c .before)))
+    (λ c. omega (arith, sender-small (next (c .before) .message)))
+    (λ c. sender-small (next (c .before) .message))
     (λ c. omega arith)
     (λ c. skips-sent-before (next (c .before .before)) (c .if2 .taken))
     -- it was received after the line
-    (λ c. omega (arith, receiver-small (next (c .before .before))))
-    (λ c. receiver-small (next (c .before .before)))
+    (λ c. omega (arith, receiver-small (next (c .before .before) .message)))
+    (λ c. receiver-small (next (c .before .before) .message))
     (λ c. omega arith)
     (λ c. skips-received-after (next (c .before .before .before)) (c .if3 .taken))
     -- it is an orphan
     (λ c. omega arith)
-    (λ c. omega (arith, receiver-small (next (c .before .before .before))))
-    (λ c. receiver-small (next (c .before .before .before)))
+    (λ c. omega (arith, receiver-small (next (c .before .before .before) .message)))
+    (λ c. receiver-small (next (c .before .before .before) .message))
     (λ c. omega arith)
     (λ c. pass-lowers (next (c .before .before .before)) (c .before .before .if1 .left) (c .before .if2 .left) (c .if3 .left))
     -- the pass lowered, and another follows
     (λ c. c .before .before .loop .inv .falls (not-false _ (c .if4 .left)))
-    (λ c.
-    let passed = c .before .before in
-    record { given = passed .loop .inv .given; same-line = passed .loop .inv .same-line ∙ passed .before .passes .inv .same-line })
+    (λ c. pass-under (c .before .before .before .passes .inv) (c .before .before .loop .inv))
     -- it was the last one
     (λ c.
     let passed = c .before .before in
-    pass-ends (passed .loop .inv) (c .before .loop-test .left) (not-true _ (c .if4 .taken)) ∙ passed .before .passes .inv .same-line))
+    pass-settles (passed .before .passes .inv) (passed .loop .inv) (c .before .loop-test .left) (not-true _ (c .if4 .taken))))

@@ -3,7 +3,7 @@
 use tables::numbers::u16_at;
 ghost use mathlib.Core.Path.{_≡_};
 ghost use Rattle.consistency.specs.Lowering.{lineUnder};
-ghost use Rattle.lines.specs.Arrays.{messagesOf};
+ghost use Rattle.lowering.specs.Lowered.{messagesOf};
 ghost use Rattle.tables.specs.Parts.{Messages};
 ghost use Rattle.tables.specs.Table.{mostProcesses};
 

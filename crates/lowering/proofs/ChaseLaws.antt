@@ -1,0 +1,206 @@
+-- A chase, as the loops of `chase::chase` go.
+--     Chases                          the invariant of the chase, relative to its start
+--     chase-begins                    how it begins
+--     GoesBack                        the invariant of one process that goes back over its messages, relative to its line at the start
+--     back-begins, back-ends          how it begins and ends
+--     back-skips                      it passes over a message
+--     Falls                           an orphan that it comes to
+--     back-lowers, back-stacks        the orphan puts its receiver back; that is put on the stack too
+--     stack-room                      there is room for it
+-- Assumes nothing.
+use mathlib.Core.Bool.{Bool, true, false, true≢false}
+use mathlib.Core.List.{List, [], _∷_}
+use mathlib.Core.Path.{_≡_, refl, _∙_, subst⁻¹}
+use Prim.Native.Nat.{ℕ, zero, suc, _+_, _-_, _*_, _≤_, _<_}
+use native.Mathlib.Decide.{decLt}
+use native.Mathlib.Nat.{le-refl}
+use native.Mathlib.Omega.{arith}
+use lib.ListN.{length, getD, set, length-set, List·getD-eq-default}
+use Rattle.consistency.proofs.LoweringLaws.{put-back-falls}
+use Rattle.consistency.specs.Lines.{Orphan, asLine}
+use Rattle.lowering.proofs.DownLaws.{MessageRead, down-more, down-none, down-put-back, message-is, receiver-small}
+use Rattle.lowering.specs.Lowered.{BroughtDown, messagesOf}
+use Rattle.tables.proofs.ListLaws.{getD-tabulate, length-tabulate}
+use Rattle.tables.specs.Lists.{sum, tabulate}
+use Rattle.tables.specs.Parts.{Messages}
+use Rattle.tables.specs.Table.{Message, mostProcesses}
+
+-- ---- arrays
+-- what holds of every entry, and of a new one, holds of every entry once that is set
+every-set : (P : ℕ → Type 0) (l : List ℕ) (i v : ℕ) → P v → ((j : ℕ) → P (getD l j 0)) → (j : ℕ) → P (getD (set l i v) j 0)
+every-set P [] i v new all j = all j
+every-set P (x ∷ rest) zero v new all zero = new
+every-set P (x ∷ rest) zero v new all (suc j) = all (suc j)
+every-set P (x ∷ rest) (suc i) v new all zero = all zero
+every-set P (x ∷ rest) (suc i) v new all (suc j) = every-set P rest i v new (λ n. all (suc n)) j
+
+every-tabulate : (P : ℕ → Type 0) (n : ℕ) (f : ℕ → ℕ) → P 0 → ((j : ℕ) → j < n → P (f j)) → (j : ℕ) → P (getD (tabulate n f) j 0)
+every-tabulate P n f none all j = go (decLt j n)
+  where
+    go : Dec (j < n) → P (getD (tabulate n f) j 0)
+    go (yes l) = subst⁻¹ P (getD-tabulate n f j 0 l) (all j l)
+    go (no l) = subst⁻¹ P (List·getD-eq-default (tabulate n f) 0 (omega (arith, length-tabulate n f))) none
+
+-- How many processes are not on the stack.
+pub idle : List Bool → ℕ
+idle [] = 0
+idle (true ∷ rest) = idle rest
+idle (false ∷ rest) = suc (idle rest)
+
+idle-off : (l : List Bool) (p : ℕ) → idle (set l p false) ≤ suc (idle l)
+unfolding idle
+idle-off [] p = omega arith
+idle-off (true ∷ rest) zero = omega arith
+idle-off (false ∷ rest) zero = omega arith
+idle-off (true ∷ rest) (suc p) = idle-off rest p
+idle-off (false ∷ rest) (suc p) = omega (arith, idle-off rest p)
+
+idle-on : (l : List Bool) (p : ℕ) → p < length l → getD l p false ≡ false → suc (idle (set l p true)) ≡ idle l
+unfolding idle
+idle-on [] p l e = absurd (omega (arith, l))
+idle-on (true ∷ rest) zero l e = absurd (true≢false e)
+idle-on (false ∷ rest) zero l e = refl
+idle-on (true ∷ rest) (suc p) l e = idle-on rest p (omega arith) e
+idle-on (false ∷ rest) (suc p) l e = omega (arith, idle-on rest p (omega arith) e)
+
+none-idle : idle (tabulate 32 (λ _. true)) ≡ 0
+unfolding tabulate idle
+none-idle = refl
+
+-- ---- the chase
+-- The line was brought down from the start. Cursors are positions, and what stands on the stack are processes. The stack has room for all
+-- that are not on it.
+pub record Chases (m : ℕ) (sends receipts start cursors line stack : List ℕ) (stacked : List Bool) (height : ℕ) : Type 0 where
+  pub given : Messages mostProcesses m sends receipts
+  pub down : BroughtDown (messagesOf m sends receipts) start line
+  pub placed : (p : ℕ) → getD cursors p 0 ≤ m
+  pub known : (h : ℕ) → getD stack h 0 < mostProcesses
+  pub flags : length stacked ≡ mostProcesses
+  pub room : height + idle stacked ≤ mostProcesses
+
+-- every cursor at the end, and every process on the stack
+pub chase-begins : {n m : ℕ} {sends receipts : List ℕ} (start : List ℕ) → Messages mostProcesses m sends receipts → n ≤ mostProcesses
+    → Chases m sends receipts start (tabulate 32 (λ _. m)) start (tabulate 32 (λ h. h)) (tabulate 32 (λ _. true)) n
+chase-begins {n} {m} start given few = record {
+  given = given;
+  down = down-none start;
+  placed = every-tabulate (λ k. k ≤ m) 32 (λ _. m) (omega arith) (λ _ _. le-refl m);
+  known = every-tabulate (λ p. p < mostProcesses) 32 (λ h. h) (omega arith) (λ _ l. l);
+  flags = length-tabulate 32 (λ _. true);
+  room = omega (arith, none-idle, few);
+}
+
+-- ---- one process goes back
+-- Process p stands before message k. Each process that was put on the stack has cost the line.
+pub record GoesBack (m : ℕ) (sends receipts start : List ℕ) (height₀ : ℕ) (cursors : List ℕ) (p : ℕ) (line stack : List ℕ) (stacked : List Bool)
+    (height k : ℕ) : Type 0 where
+  pub chasing : Chases m sends receipts start cursors line stack stacked height
+  pub small : p < mostProcesses
+  pub within : k ≤ m
+  pub paid : sum line + height ≤ sum start + height₀
+
+module _ {m : ℕ} {sends receipts start cursors line stack : List ℕ} {stacked : List Bool} {height : ℕ}
+    (w : Chases m sends receipts start cursors line stack stacked height) where
+  -- the process on top leaves the stack, and goes on from its cursor
+  pub back-begins : 0 < height
+      → (let p = getD stack (height - 1) 0 in
+      GoesBack m sends receipts line (height - 1) cursors p line stack (set stacked p false) (height - 1) (getD cursors p 0))
+  back-begins more =
+      let p = getD stack (height - 1) 0 in
+      record {
+        chasing = record {
+          given = w .given;
+          down = down-none line;
+          placed = w .placed;
+          known = w .known;
+          flags = length-set stacked p false ∙ w .flags;
+          room = omega (arith, more, idle-off stacked p, w .room);
+        };
+        small = w .known (height - 1);
+        within = w .placed p;
+        paid = le-refl _;
+      }
+
+  -- its cursor is left where it stands
+  pub back-ends : {p k height₀ height′ : ℕ} {line′ stack′ : List ℕ} {stacked′ : List Bool}
+      → GoesBack m sends receipts line height₀ cursors p line′ stack′ stacked′ height′ k
+      → Chases m sends receipts start (set cursors p k) line′ stack′ stacked′ height′
+  back-ends {p} {k} b = record {
+    given = w .given;
+    down = down-more (w .down) (b .chasing .down);
+    placed = every-set (λ n. n ≤ m) cursors p k (b .within) (w .placed);
+    known = b .chasing .known;
+    flags = b .chasing .flags;
+    room = b .chasing .room;
+  }
+
+module _ {m : ℕ} {sends receipts start cursors line stack : List ℕ} {stacked : List Bool} {height₀ p height k : ℕ}
+    (b : GoesBack m sends receipts start height₀ cursors p line stack stacked height k) where
+  pub back-skips : GoesBack m sends receipts start height₀ cursors p line stack stacked height (k - 1)
+  back-skips = record { chasing = b .chasing; small = b .small; within = omega (arith, b .within); paid = b .paid }
+
+-- ---- the process comes to an orphan
+-- The message was sent by it, at or above the line, and was received at or below.
+pub record Orphaned (m : ℕ) (sends receipts : List ℕ) (p : ℕ) (line : List ℕ) (k j y i r : ℕ) : Type 0 where
+  pub message : MessageRead m sends receipts k j y i r
+  pub own : j ≡ p
+  pub sent-after : getD line p 0 ≤ y
+  pub delivered : r ≡ 0 → ⊥
+  pub received-before : r ≤ getD line i 0
+
+module _ {m : ℕ} {sends receipts start cursors line stack : List ℕ} {stacked : List Bool} {height₀ p height k j y i r : ℕ}
+    (b : GoesBack m sends receipts start height₀ cursors p line stack stacked height k) (x : Orphaned m sends receipts p line k j y i r) where
+  abbrev here : Message
+  here = record { sender = j; sent = y; receiver = i; received = r }
+
+  orphan : Orphan here (asLine line)
+  orphan = record {
+    delivered = omega (arith, x .delivered);
+    sent-after = subst⁻¹ (λ (q : ℕ). getD line q 0 ≤ y) (x .own) (x .sent-after);
+    received-before = x .received-before;
+  }
+
+  less : sum (set line i (r - 1)) < sum line
+  less = put-back-falls here line orphan
+
+  down : BroughtDown (messagesOf m sends receipts) start (set line i (r - 1))
+  down = down-more (b .chasing .down) (down-put-back line (k - 1) here (message-is (x .message)) orphan)
+
+  -- its receiver is put back
+  pub back-lowers : GoesBack m sends receipts start height₀ cursors p (set line i (r - 1)) stack stacked height (k - 1)
+  back-lowers = record {
+    chasing = record {
+      given = b .chasing .given;
+      down = down;
+      placed = b .chasing .placed;
+      known = b .chasing .known;
+      flags = b .chasing .flags;
+      room = b .chasing .room;
+    };
+    small = b .small;
+    within = omega (arith, b .within);
+    paid = omega (arith, less, b .paid);
+  }
+
+  -- it was not on the stack, and is put there
+  module _ (off : getD stacked i false ≡ false) where
+    fewer : suc (idle (set stacked i true)) ≡ idle stacked
+    fewer = idle-on stacked i (omega (arith, receiver-small (x .message), b .chasing .flags)) off
+
+    pub stack-room : height < mostProcesses
+    stack-room = omega (arith, fewer, b .chasing .room)
+
+    pub back-stacks : GoesBack m sends receipts start height₀ cursors p (set line i (r - 1)) (set stack height i) (set stacked i true) (height + 1) (k - 1)
+    back-stacks = record {
+      chasing = record {
+        given = b .chasing .given;
+        down = down;
+        placed = b .chasing .placed;
+        known = every-set (λ q. q < mostProcesses) stack height i (receiver-small (x .message)) (b .chasing .known);
+        flags = length-set stacked i true ∙ b .chasing .flags;
+        room = omega (arith, fewer, b .chasing .room);
+      };
+      small = b .small;
+      within = omega (arith, b .within);
+      paid = omega (arith, less, b .paid);
+    }

@@ -1,0 +1,18 @@
+-- `settle` meets its contract: where a few passes settle the line, it is theirs, and else the line under what they left.
+-- Assumes nothing.
+use borrow.Author.Needs.{needs}
+use mathlib.Core.Path.{_∙_}
+use Rattle.lowering.proofs.settle.Statement.{statement}
+use Rattle.lowering.proofs.settle.Tie as tie
+
+-- ---- the needs, in the code's course
+pub settle-spec : {M : Type 1} → statement M
+settle-spec =
+    tie.close
+    (tie.spec
+    (λ c κs. search needs)
+    (λ c. c .chase-and-lower .ensures)
+    (λ c κs. search needs)
+    (λ c. c .before .few-passes .ensures .1 (c .if2 .taken))
+    (λ c κs. search needs)
+    (λ c. c .chase-and-lower2 .ensures ∙ c .before .before .before .few-passes .ensures .0 .same-line))

@@ -1,0 +1,89 @@
+// A chase of a rollback from process to process: each goes back over its own messages, from where it
+// came to last, as far as the line has fallen.
+use tables::numbers::u16_at;
+ghost use Prim.Native.Nat.{_≤_};
+ghost use Rattle.lowering.specs.Lowered.{BroughtDown, messagesOf};
+ghost use Rattle.tables.specs.Parts.{Messages};
+ghost use Rattle.tables.specs.Table.{mostProcesses};
+
+// A start, brought down by the m messages of a part of sends and a part of receipts between n processes.
+// A process is on the stack where its line fell since it last went back. It stops at a message that was
+// sent before the line: in a table that a run writes, all its earlier ones were too.
+pub fn chase(start: [u16; 32], n: usize, sends: &[u8], receipts: &[u8], m: usize) -> [u16; 32]
+    requires { ⌜ Messages mostProcesses m (now sends) (now receipts) ⌝ }
+    requires { ⌜ n ≤ mostProcesses ⌝ }
+    ensures { λ r. ⌜ BroughtDown (messagesOf m (now (sends .entry)) (now (receipts .entry))) start r ⌝ }
+{
+    let mut line = start;
+    let mut cursors = [m as u16; 32];
+    let mut stack: [u16; 32] = [
+        0,
+        1,
+        2,
+        3,
+        4,
+        5,
+        6,
+        7,
+        8,
+        9,
+        10,
+        11,
+        12,
+        13,
+        14,
+        15,
+        16,
+        17,
+        18,
+        19,
+        20,
+        21,
+        22,
+        23,
+        24,
+        25,
+        26,
+        27,
+        28,
+        29,
+        30,
+        31,
+    ];
+    let mut stacked = [true; 32];
+    let mut height = n;
+    'chase: while 0 < height {
+        height -= 1;
+        let p = stack[height] as usize;
+        stacked[p] = false;
+        let mut k = cursors[p] as usize;
+        'back: while 0 < k {
+            let sender = u16_at(sends, 4 * (k - 1)) as usize;
+            if sender != p {
+                k -= 1;
+                continue;
+            }
+            if u16_at(sends, 4 * (k - 1) + 2) < line[p] {
+                break 'back;
+            }
+            k -= 1;
+            let receiver = u16_at(receipts, 4 * k);
+            let received = u16_at(receipts, 4 * k + 2);
+            if received == 0 {
+                continue;
+            }
+            if line[receiver as usize] < received {
+                continue;
+            }
+            line[receiver as usize] = received - 1;
+            if stacked[receiver as usize] {
+                continue;
+            }
+            stacked[receiver as usize] = true;
+            stack[height] = receiver;
+            height += 1;
+        }
+        cursors[p] = k as u16;
+    }
+    line
+}
