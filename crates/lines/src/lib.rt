@@ -1,10 +1,11 @@
 // Lines of a run table: the latest consistent line under a ceiling, and the ceiling of a process set. A
 // line is an array of 32 numbers by value; its entries at N and above are 0, and so are a ceiling's.
 pub mod ceilings;
+pub mod settling;
 
 use lowering::few::Lowered;
-use lowering::settle;
 use number_writer::put_numbers;
+use settling::settle;
 use tables::parts;
 ghost use mathlib.Core.Path.{_≡_};
 ghost use Prim.Native.Nat.{_*_, _≤_};
@@ -26,7 +27,14 @@ pub fn settled_line(table: &[u8], ceiling: [u16; 32], few: bool) -> Lowered
 {
     let n = parts::process_count(table);
     let m = parts::message_count(table);
-    settle(ceiling, n, parts::sends(table), parts::receipts(table), m, few)
+    settle(
+        ceiling,
+        n,
+        parts::sends(table),
+        parts::receipts(table),
+        m,
+        few,
+    )
 }
 
 // The line under a ceiling in an accepted table.

@@ -3,6 +3,7 @@
 --     down-put-back                   a line whose orphan puts its receiver back
 --     MessageRead                     a message whose four numbers were read
 --     message-is                      it is the message at its position
+--     sender-read                     the sender of a message
 --     sender-small, receiver-small    its processes
 --     messages-length                 how many messages there are
 -- Assumes nothing.
@@ -34,6 +35,11 @@ module _ {ms : List Message} where
   down-put-back l k m e o = record { below = put-back-under m l o; same-line = line-put-back ms l k m e o }
 
 -- ---- a message that was read
+pub sender-read : {m : ℕ} {sends receipts : List ℕ} {k j : ℕ} → Messages mostProcesses m sends receipts → k < m → j ≡ u16At sends (4 * k)
+    → j < mostProcesses
+unfolding processAt
+sender-read {k = k} given l e = omega (arith, e, given .senders-known k l)
+
 -- Message k - 1: its sender and where it was sent, its receiver and where it was received.
 pub record MessageRead (m : ℕ) (sends receipts : List ℕ) (k j y i r : ℕ) : Type 0 where
   pub given : Messages mostProcesses m sends receipts
@@ -49,8 +55,7 @@ module _ {m : ℕ} {sends receipts : List ℕ} {k j y i r : ℕ} (x : MessageRea
   there = omega (arith, x .more, x .within)
 
   pub sender-small : j < mostProcesses
-  unfolding processAt
-  sender-small = omega (arith, x .sender, x .given .senders-known (k - 1) there)
+  sender-small = sender-read (x .given) there (x .sender)
 
   pub receiver-small : i < mostProcesses
   unfolding processAt

@@ -1,7 +1,5 @@
 -- The laws of the code of lowering.
---     DownLaws     lines that are brought down
+--     DownLaws     lines that are brought down, and a message that was read
 --     PassLaws     what a pass over the messages keeps and finds
---     ChaseLaws    what a chase keeps
-mod DownLaws
+pub mod DownLaws
 mod PassLaws
-mod ChaseLaws

@@ -2,13 +2,11 @@
 use tables::numbers::u16_at;
 ghost use mathlib.Core.Bool.{true};
 ghost use mathlib.Core.Path.{_≡_};
+ghost use Prim.Native.Nat.{_≤_};
 ghost use Rattle.consistency.specs.Lowering.{lineUnder};
 ghost use Rattle.lowering.specs.Lowered.{BroughtDown, messagesOf};
 ghost use Rattle.tables.specs.Parts.{Messages};
 ghost use Rattle.tables.specs.Table.{mostProcesses};
-
-// So many passes are tried. Nearly every history settles within them.
-const FEW: usize = 10;
 
 // A line that was brought down, and whether the last pass over the messages found no orphan.
 pub struct Lowered {
@@ -16,15 +14,17 @@ pub struct Lowered {
     pub settled: bool,
 }
 
-// A ceiling, brought down by a few passes over the m messages of a part of sends and a part of receipts.
-pub fn few_passes(ceiling: [u16; 32], sends: &[u8], receipts: &[u8], m: usize) -> Lowered
+// A ceiling, brought down by a few passes over the m messages of a part of sends and a part of receipts
+// between n processes: as many as cost about what a chase does, and ten at most.
+pub fn few_passes(ceiling: [u16; 32], n: usize, sends: &[u8], receipts: &[u8], m: usize) -> Lowered
     requires { ⌜ Messages mostProcesses m (now sends) (now receipts) ⌝ }
+    requires { ⌜ n ≤ mostProcesses ⌝ }
     ensures { λ r. ⌜ BroughtDown (messagesOf m (now (sends .entry)) (now (receipts .entry))) ceiling (r .line) ⌝ }
     ensures { λ r. ⌜ (r .settled ≡ true
         → r .line ≡ lineUnder (messagesOf m (now (sends .entry)) (now (receipts .entry))) ceiling) ⌝ }
 {
     let mut line = ceiling;
-    let mut left = FEW;
+    let mut left = n / 4 + 2;
     'passes: while 0 < left {
         left -= 1;
         let mut lowered = false;

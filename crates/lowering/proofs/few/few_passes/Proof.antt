@@ -13,16 +13,16 @@ use Rattle.lowering.proofs.few.few_passes.Statement.{statement}
 use Rattle.lowering.proofs.few.few_passes.Tie as tie
 
 abbrev Inv-loop : tie.InvT-loop
-Inv-loop sends receipts m line₀ left lowered₀ k₀ line lowered k = LoweringPass m sends receipts line₀ line lowered k
+Inv-loop n sends receipts m line₀ left lowered₀ k₀ line lowered k = LoweringPass m sends receipts line₀ line lowered k
 
 abbrev μ-loop : tie.MeasureT-loop
-μ-loop sends receipts m line₀ left lowered₀ k₀ line lowered k = k
+μ-loop n sends receipts m line₀ left lowered₀ k₀ line lowered k = k
 
 abbrev Inv-passes : tie.InvT-passes
-Inv-passes sends receipts m line₀ left₀ line left = Under m sends receipts line₀ line
+Inv-passes n sends receipts m line₀ left₀ line left = Under m sends receipts line₀ line
 
 abbrev μ-passes : tie.MeasureT-passes
-μ-passes sends receipts m line₀ left₀ line left = left
+μ-passes n sends receipts m line₀ left₀ line left = left
 
 -- ---- the places: the entry, from a pass; a turn of the pass; where the four numbers of its message were read
 abbrev entry : tie.In-passes Inv-loop μ-loop Inv-passes μ-passes → tie.Start Inv-loop μ-loop Inv-passes μ-passes
@@ -59,7 +59,8 @@ few-passes-spec =
     μ-loop
     Inv-passes
     μ-passes
-    (λ c. record { given = c .before .before .pre; down = down-none _ })
+    (λ c. omega arith)
+    (λ c. record { given = c .before .before .pre .0; down = down-none _ })
     (λ c. omega arith)
     (λ c. pass-begins (c .before .passes .inv))
     -- the four numbers

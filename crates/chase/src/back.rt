@@ -1,21 +1,28 @@
-// A chase of a rollback from process to process: each goes back over its own messages, from where it
-// came to last, as far as the line has fallen.
+// Processes that go back over their own messages, one after another.
 use tables::numbers::u16_at;
 ghost use Prim.Native.Nat.{_≤_};
+ghost use Rattle.chase.specs.Cursors.{Placed};
 ghost use Rattle.lowering.specs.Lowered.{BroughtDown, messagesOf};
 ghost use Rattle.tables.specs.Parts.{Messages};
 ghost use Rattle.tables.specs.Table.{mostProcesses};
 
-// A start, brought down by the m messages of a part of sends and a part of receipts between n processes.
-// A process is on the stack where its line fell since it last went back. It stops at a message that was
-// sent before the line: in a table that a run writes, all its earlier ones were too.
-pub fn chase(start: [u16; 32], n: usize, sends: &[u8], receipts: &[u8], m: usize) -> [u16; 32]
+// A start, brought down by the m messages of a part of sends and a part of receipts, from the cursors of n
+// processes. On the stack are those whose line may have fallen since they last went back: at first all.
+pub fn go_back(
+    start: [u16; 32],
+    places: [u16; 32],
+    n: usize,
+    sends: &[u8],
+    receipts: &[u8],
+    m: usize,
+) -> [u16; 32]
     requires { ⌜ Messages mostProcesses m (now sends) (now receipts) ⌝ }
     requires { ⌜ n ≤ mostProcesses ⌝ }
+    requires { ⌜ Placed m places ⌝ }
     ensures { λ r. ⌜ BroughtDown (messagesOf m (now (sends .entry)) (now (receipts .entry))) start r ⌝ }
 {
     let mut line = start;
-    let mut cursors = [m as u16; 32];
+    let mut cursors = places;
     let mut stack: [u16; 32] = [
         0,
         1,
@@ -56,6 +63,7 @@ pub fn chase(start: [u16; 32], n: usize, sends: &[u8], receipts: &[u8], m: usize
         height -= 1;
         let p = stack[height] as usize;
         stacked[p] = false;
+        let fallen = line[p];
         let mut k = cursors[p] as usize;
         'back: while 0 < k {
             let sender = u16_at(sends, 4 * (k - 1)) as usize;
@@ -63,7 +71,7 @@ pub fn chase(start: [u16; 32], n: usize, sends: &[u8], receipts: &[u8], m: usize
                 k -= 1;
                 continue;
             }
-            if u16_at(sends, 4 * (k - 1) + 2) < line[p] {
+            if u16_at(sends, 4 * (k - 1) + 2) < fallen {
                 break 'back;
             }
             k -= 1;

@@ -1,9 +1,9 @@
--- `settle` meets its contract: where a few passes settle the line, it is theirs, and else the line under what they left.
+-- `settling::settle` meets its contract: where a few passes settle the line, it is theirs, and else the line under what they left.
 -- Assumes nothing.
 use borrow.Author.Needs.{needs}
 use mathlib.Core.Path.{_∙_}
-use Rattle.lowering.proofs.settle.Statement.{statement}
-use Rattle.lowering.proofs.settle.Tie as tie
+use Rattle.lines.proofs.settling.settle.Statement.{statement}
+use Rattle.lines.proofs.settling.settle.Tie as tie
 
 -- ---- the needs, in the code's course
 pub settle-spec : {M : Type 1} → statement M

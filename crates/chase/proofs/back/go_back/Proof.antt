@@ -1,4 +1,4 @@
--- `chase::chase` meets its contract. The invariant of the chase: its line was brought down from the start, cursors are positions, processes
+-- `back::go_back` meets its contract. The invariant of the chase: its line was brought down from the start, cursors are positions, processes
 -- stand on the stack, and it has room for the others. The measure is the sum of the line and the height of the stack: one falls where a process
 -- leaves it, and none is put there but the line falls. The invariant of a process that goes back: the same from its line at the start, with that
 -- measure no higher. The measure is its position.
@@ -7,18 +7,18 @@ use native.Mathlib.Omega.{arith}
 use Prim.Native.Nat.{ℕ, _+_, _-_}
 use lib.ListN.{getD}
 use denote.Ref.{now}
-use Rattle.lowering.proofs.ChaseLaws.{Chases, GoesBack, Orphaned, back-begins, back-ends, back-lowers, back-skips, back-stacks, chase-begins, stack-room}
+use Rattle.chase.proofs.BackLaws.{Chases, GoesBack, Orphaned, back-begins, back-ends, back-lowers, back-skips, back-stacks, chase-begins, stack-room}
 use Rattle.lowering.proofs.DownLaws.{MessageRead, receiver-small}
 use Rattle.tables.specs.Lists.{sum, tabulate}
-use Rattle.lowering.proofs.chase.chase.Statement.{statement}
-use Rattle.lowering.proofs.chase.chase.Tie as tie
+use Rattle.chase.proofs.back.go_back.Statement.{statement}
+use Rattle.chase.proofs.back.go_back.Tie as tie
 
 abbrev Inv-back : tie.InvT-back
-Inv-back n sends receipts m line₀ cursors stack₀ stacked₀ height₀ p k₀ line stack stacked height k =
+Inv-back n sends receipts m line₀ cursors stack₀ stacked₀ height₀ p fallen k₀ line stack stacked height k =
     GoesBack m sends receipts line₀ height₀ cursors p line stack stacked height k
 
 abbrev μ-back : tie.MeasureT-back
-μ-back n sends receipts m line₀ cursors stack₀ stacked₀ height₀ p k₀ line stack stacked height k = k
+μ-back n sends receipts m line₀ cursors stack₀ stacked₀ height₀ p fallen k₀ line stack stacked height k = k
 
 abbrev Inv-chase : tie.InvT-chase
 Inv-chase n sends receipts m line₀ cursors₀ stack₀ stacked₀ height₀ line cursors stack stacked height =
@@ -64,7 +64,7 @@ orphaned : (c : tie.Else4 Inv-back μ-back Inv-chase μ-chase)
     → (let read-at = c .before .before in
     let here = back (own read-at) in
     let args = entry (turn here) .args in
-    Orphaned (args .m) (now (args .sends)) (now (args .receipts)) (top (turn here)) (here .before .back .line) (here .before .back .k)
+    Orphaned (args .m) (now (args .sends)) (now (args .receipts)) (turn here .before .chase .line) (top (turn here)) (here .before .back .line) (here .before .back .k)
     (own read-at .before .before .before .u16-at .result) (own read-at .before .u16-at2 .result) (read-at .before .u16-at3 .result)
     (read-at .u16-at4 .result))
 orphaned c =
@@ -78,21 +78,22 @@ orphaned c =
     }
 
 -- ---- the needs, in the code's course
-pub chase-spec : {M : Type 1} → statement M
+pub go-back-spec : {M : Type 1} → statement M
 unfolding tabulate
-chase-spec =
+go-back-spec =
     tie.close
     (tie.spec
     Inv-back
     μ-back
     Inv-chase
     μ-chase
-    (λ c. omega (arith, c .before .before .pre .0 .few))
-    (λ c. chase-begins _ (c .before .before .pre .0) (c .before .before .pre .1))
+    (λ c. chase-begins _ (c .before .before .pre .0) (c .before .before .pre .1 .0) (c .before .before .pre .1 .1))
     -- a process leaves the stack
     (λ c. omega arith)
     (λ c. omega (arith, c .before .chase .inv .room))
     (λ c. omega (arith, c .before .chase .inv .room))
+    (λ c. omega (arith, c .before .chase .inv .known (c .before .chase .height - 1)))
+    (λ c. c .before .chase .inv .known _)
     (λ c. omega (arith, c .before .chase .inv .known (c .before .chase .height - 1)))
     (λ c. c .before .chase .inv .known _)
     (λ c. omega (arith, c .before .chase .inv .known (c .before .chase .height - 1)))
@@ -113,8 +114,6 @@ chase-spec =
     (λ c. omega arith)
     (λ c. omega arith)
     (λ c κs. omega arith)
-    (λ c. omega arith)
-    (λ c. c .before .before .before .before .back .inv .small)
     -- the receipt
     (λ c. omega arith)
     (λ c. omega arith)

@@ -1,46 +1,32 @@
--- A chase, as the loops of `chase::chase` go.
---     Chases                          the invariant of the chase, relative to its start
---     chase-begins                    how it begins
---     GoesBack                        the invariant of one process that goes back over its messages, relative to its line at the start
---     back-begins, back-ends          how it begins and ends
---     back-skips                      it passes over a message
---     Falls                           an orphan that it comes to
---     back-lowers, back-stacks        the orphan puts its receiver back; that is put on the stack too
---     stack-room                      there is room for it
+-- Processes that go back over their messages, as the loops of `back::go_back` go.
+--     Chases                      the invariant of the chase, relative to its start
+--     chase-begins                how it begins
+--     GoesBack                    the invariant of one process that goes back, relative to the line then
+--     back-begins, back-ends      how it begins and ends
+--     back-skips                  it passes over a message
+--     Orphaned                    an orphan that it comes to
+--     back-lowers, back-stacks    the orphan puts its receiver back; that is put on the stack too
+--     stack-room                  there is room for it
 -- Assumes nothing.
 use mathlib.Core.Bool.{Bool, true, false, true≢false}
 use mathlib.Core.List.{List, [], _∷_}
 use mathlib.Core.Path.{_≡_, refl, _∙_, subst⁻¹}
 use Prim.Native.Nat.{ℕ, zero, suc, _+_, _-_, _*_, _≤_, _<_}
-use native.Mathlib.Decide.{decLt}
-use native.Mathlib.Nat.{le-refl}
+use native.Mathlib.Nat.{le-refl, le-trans}
 use native.Mathlib.Omega.{arith}
-use lib.ListN.{length, getD, set, length-set, List·getD-eq-default}
+use lib.ListN.{length, getD, set, length-set}
+use Rattle.chase.proofs.ArrayLaws.{every-set, every-tabulate}
+use Rattle.chase.specs.Cursors.{Placed}
 use Rattle.consistency.proofs.LoweringLaws.{put-back-falls}
 use Rattle.consistency.specs.Lines.{Orphan, asLine}
 use Rattle.lowering.proofs.DownLaws.{MessageRead, down-more, down-none, down-put-back, message-is, receiver-small}
 use Rattle.lowering.specs.Lowered.{BroughtDown, messagesOf}
-use Rattle.tables.proofs.ListLaws.{getD-tabulate, length-tabulate}
+use Rattle.tables.proofs.ListLaws.{length-tabulate}
 use Rattle.tables.specs.Lists.{sum, tabulate}
 use Rattle.tables.specs.Parts.{Messages}
 use Rattle.tables.specs.Table.{Message, mostProcesses}
 
--- ---- arrays
--- what holds of every entry, and of a new one, holds of every entry once that is set
-every-set : (P : ℕ → Type 0) (l : List ℕ) (i v : ℕ) → P v → ((j : ℕ) → P (getD l j 0)) → (j : ℕ) → P (getD (set l i v) j 0)
-every-set P [] i v new all j = all j
-every-set P (x ∷ rest) zero v new all zero = new
-every-set P (x ∷ rest) zero v new all (suc j) = all (suc j)
-every-set P (x ∷ rest) (suc i) v new all zero = all zero
-every-set P (x ∷ rest) (suc i) v new all (suc j) = every-set P rest i v new (λ n. all (suc n)) j
-
-every-tabulate : (P : ℕ → Type 0) (n : ℕ) (f : ℕ → ℕ) → P 0 → ((j : ℕ) → j < n → P (f j)) → (j : ℕ) → P (getD (tabulate n f) j 0)
-every-tabulate P n f none all j = go (decLt j n)
-  where
-    go : Dec (j < n) → P (getD (tabulate n f) j 0)
-    go (yes l) = subst⁻¹ P (getD-tabulate n f j 0 l) (all j l)
-    go (no l) = subst⁻¹ P (List·getD-eq-default (tabulate n f) 0 (omega (arith, length-tabulate n f))) none
-
+-- ---- the stack
 -- How many processes are not on the stack.
 pub idle : List Bool → ℕ
 idle [] = 0
@@ -73,18 +59,18 @@ none-idle = refl
 pub record Chases (m : ℕ) (sends receipts start cursors line stack : List ℕ) (stacked : List Bool) (height : ℕ) : Type 0 where
   pub given : Messages mostProcesses m sends receipts
   pub down : BroughtDown (messagesOf m sends receipts) start line
-  pub placed : (p : ℕ) → getD cursors p 0 ≤ m
+  pub placed : Placed m cursors
   pub known : (h : ℕ) → getD stack h 0 < mostProcesses
   pub flags : length stacked ≡ mostProcesses
   pub room : height + idle stacked ≤ mostProcesses
 
--- every cursor at the end, and every process on the stack
-pub chase-begins : {n m : ℕ} {sends receipts : List ℕ} (start : List ℕ) → Messages mostProcesses m sends receipts → n ≤ mostProcesses
-    → Chases m sends receipts start (tabulate 32 (λ _. m)) start (tabulate 32 (λ h. h)) (tabulate 32 (λ _. true)) n
-chase-begins {n} {m} start given few = record {
+-- at first every process is on the stack
+pub chase-begins : {n m : ℕ} {sends receipts cursors : List ℕ} (start : List ℕ) → Messages mostProcesses m sends receipts → n ≤ mostProcesses
+    → Placed m cursors → Chases m sends receipts start cursors start (tabulate 32 (λ h. h)) (tabulate 32 (λ _. true)) n
+chase-begins start given few placed = record {
   given = given;
   down = down-none start;
-  placed = every-tabulate (λ k. k ≤ m) 32 (λ _. m) (omega arith) (λ _ _. le-refl m);
+  placed = placed;
   known = every-tabulate (λ p. p < mostProcesses) 32 (λ h. h) (omega arith) (λ _ l. l);
   flags = length-tabulate 32 (λ _. true);
   room = omega (arith, none-idle, few);
@@ -140,23 +126,23 @@ module _ {m : ℕ} {sends receipts start cursors line stack : List ℕ} {stacked
   back-skips = record { chasing = b .chasing; small = b .small; within = omega (arith, b .within); paid = b .paid }
 
 -- ---- the process comes to an orphan
--- The message was sent by it, at or above the line, and was received at or below.
-pub record Orphaned (m : ℕ) (sends receipts : List ℕ) (p : ℕ) (line : List ℕ) (k j y i r : ℕ) : Type 0 where
+-- The message was sent by it, at or above the line from which it began, and was received at or below its line now.
+pub record Orphaned (m : ℕ) (sends receipts start : List ℕ) (p : ℕ) (line : List ℕ) (k j y i r : ℕ) : Type 0 where
   pub message : MessageRead m sends receipts k j y i r
   pub own : j ≡ p
-  pub sent-after : getD line p 0 ≤ y
+  pub sent-after : getD start p 0 ≤ y
   pub delivered : r ≡ 0 → ⊥
   pub received-before : r ≤ getD line i 0
 
 module _ {m : ℕ} {sends receipts start cursors line stack : List ℕ} {stacked : List Bool} {height₀ p height k j y i r : ℕ}
-    (b : GoesBack m sends receipts start height₀ cursors p line stack stacked height k) (x : Orphaned m sends receipts p line k j y i r) where
+    (b : GoesBack m sends receipts start height₀ cursors p line stack stacked height k) (x : Orphaned m sends receipts start p line k j y i r) where
   abbrev here : Message
   here = record { sender = j; sent = y; receiver = i; received = r }
 
   orphan : Orphan here (asLine line)
   orphan = record {
     delivered = omega (arith, x .delivered);
-    sent-after = subst⁻¹ (λ (q : ℕ). getD line q 0 ≤ y) (x .own) (x .sent-after);
+    sent-after = subst⁻¹ (λ (q : ℕ). getD line q 0 ≤ y) (x .own) (le-trans (b .chasing .down .below p) (x .sent-after));
     received-before = x .received-before;
   }
 

@@ -1,9 +1,9 @@
--- `chase_and_lower` meets its contract: the line under what the chase left is the line under its start.
+-- `settling::chase_and_lower` meets its contract: the line under what the chase left is the line under its start.
 -- Assumes nothing.
 use borrow.Author.Needs.{needs}
 use mathlib.Core.Path.{_∙_}
-use Rattle.lowering.proofs.chase_and_lower.Statement.{statement}
-use Rattle.lowering.proofs.chase_and_lower.Tie as tie
+use Rattle.lines.proofs.settling.chase_and_lower.Statement.{statement}
+use Rattle.lines.proofs.settling.chase_and_lower.Tie as tie
 
 -- ---- the needs, in the code's course
 pub chase-and-lower-spec : {M : Type 1} → statement M

@@ -1,0 +1,60 @@
+-- A sweep over the messages, from the last to the first, as the loop of `sweep::sweep` goes.
+--     Sweeps                        its invariant
+--     sweep-begins                  how it begins
+--     sweep-skips, sweep-stops      it passes over a message; there its sender stops
+--     sweep-lowers                  an orphan puts its receiver back
+-- Assumes nothing.
+use mathlib.Core.List.{List}
+use mathlib.Core.Path.{_≡_}
+use Prim.Native.Nat.{ℕ, _+_, _-_, _≤_, _<_}
+use native.Mathlib.Omega.{arith}
+use lib.ListN.{getD, set}
+use Rattle.chase.proofs.ArrayLaws.{every-set, every-tabulate}
+use Rattle.chase.specs.Cursors.{Placed}
+use Rattle.lowering.proofs.DownLaws.{MessageRead, down-more, down-none, down-put-back, message-is}
+use Rattle.lowering.specs.Lowered.{BroughtDown, messagesOf}
+use Rattle.tables.specs.Lists.{tabulate}
+use Rattle.tables.specs.Parts.{Messages}
+use Rattle.tables.specs.Table.{mostProcesses}
+
+-- The sweep stands before message k. Its line was brought down from the start, and no more processes have stopped than it has gone over
+-- messages.
+pub record Sweeps (m : ℕ) (sends receipts start line cursors : List ℕ) (stopped k : ℕ) : Type 0 where
+  pub given : Messages mostProcesses m sends receipts
+  pub down : BroughtDown (messagesOf m sends receipts) start line
+  pub placed : Placed m cursors
+  pub within : stopped + k ≤ m
+
+pub sweep-begins : {m : ℕ} {sends receipts : List ℕ} (start : List ℕ) → Messages mostProcesses m sends receipts
+    → Sweeps m sends receipts start start (tabulate 32 (λ _. 0)) 0 m
+sweep-begins {m} start given = record {
+  given = given;
+  down = down-none start;
+  placed = every-tabulate (λ k. k ≤ m) 32 (λ _. 0) (omega arith) (λ _ _. omega arith);
+  within = omega arith;
+}
+
+module _ {m : ℕ} {sends receipts start line cursors : List ℕ} {stopped k : ℕ} (w : Sweeps m sends receipts start line cursors stopped k) where
+  pub sweep-skips : Sweeps m sends receipts start line cursors stopped (k - 1)
+  sweep-skips = record { given = w .given; down = w .down; placed = w .placed; within = omega (arith, w .within) }
+
+  module _ (more : 0 < k) where
+    pub sweep-stops : (p : ℕ) → Sweeps m sends receipts start line (set cursors p (k - 1 + 1)) (stopped + 1) (k - 1)
+    sweep-stops p = record {
+      given = w .given;
+      down = w .down;
+      placed = every-set (λ n. n ≤ m) cursors p (k - 1 + 1) (omega (arith, w .within, more)) (w .placed);
+      within = omega (arith, w .within, more);
+    }
+
+    pub sweep-lowers : {j y i r : ℕ} → MessageRead m sends receipts k j y i r → (r ≡ 0 → ⊥) → getD line j 0 ≤ y → r ≤ getD line i 0
+        → Sweeps m sends receipts start (set line i (r - 1)) cursors stopped (k - 1)
+    sweep-lowers {j} {y} {i} {r} x delivered s b = record {
+      given = w .given;
+      down =
+          down-more (w .down)
+          (down-put-back line (k - 1) (record { sender = j; sent = y; receiver = i; received = r }) (message-is x)
+          (record { delivered = omega (arith, delivered); sent-after = s; received-before = b }));
+      placed = w .placed;
+      within = omega (arith, w .within);
+    }

@@ -1,0 +1,3 @@
+-- Places at messages.
+--     Cursors    the cursors of a chase
+pub mod Cursors
