@@ -1,10 +1,11 @@
 -- Processes that go back over their messages, as the loops of `back::go_back` go.
 --     Chases                      the invariant of the chase, relative to its start
 --     chase-begins                how it begins
+--     Sent                        where a message of a process stands
 --     GoesBack                    the invariant of one process that goes back, relative to the line then
 --     back-begins, back-ends      how it begins and ends
 --     back-skips                  it passes over a message
---     Orphaned                    an orphan that it comes to
+--     AtOrphan                    an orphan that it comes to
 --     back-lowers, back-stacks    the orphan puts its receiver back; that is put on the stack too
 --     stack-room                  there is room for it
 -- Assumes nothing.
@@ -15,14 +16,15 @@ use Prim.Native.Nat.{ℕ, zero, suc, _+_, _-_, _*_, _≤_, _<_}
 use native.Mathlib.Nat.{le-refl, le-trans}
 use native.Mathlib.Omega.{arith}
 use lib.ListN.{length, getD, set, length-set}
-use Rattle.chase.proofs.ArrayLaws.{every-set, every-tabulate}
-use Rattle.chase.specs.Cursors.{Placed}
+use Rattle.lowering.proofs.EveryLaws.{every-set, every-tabulate}
+use Rattle.sweep.specs.Cursors.{Placed}
 use Rattle.consistency.proofs.LoweringLaws.{put-back-falls}
 use Rattle.consistency.specs.Lines.{Orphan, asLine}
 use Rattle.lowering.proofs.DownLaws.{MessageRead, down-more, down-none, down-put-back, message-is, receiver-small}
 use Rattle.lowering.specs.Lowered.{BroughtDown, messagesOf}
 use Rattle.tables.proofs.ListLaws.{length-tabulate}
 use Rattle.tables.specs.Lists.{sum, tabulate}
+use Rattle.tables.specs.Numbers.{u16At}
 use Rattle.tables.specs.Parts.{Messages}
 use Rattle.tables.specs.Table.{Message, mostProcesses}
 
@@ -77,21 +79,26 @@ chase-begins start given few placed = record {
 }
 
 -- ---- one process goes back
--- Process p stands before message k. Each process that was put on the stack has cost the line.
+-- Message k - 1 is one of those below a bound, and process p sent it; or k is 0.
+abbrev pub Sent : List ℕ → ℕ → ℕ → ℕ → Type 0
+Sent sends p bound k = (k ≤ bound) × (0 < k → u16At sends (4 * (k - 1)) ≡ p)
+
+-- Process p stands at its message k - 1. Each process that was put on the stack has cost the line.
 pub record GoesBack (m : ℕ) (sends receipts start : List ℕ) (height₀ : ℕ) (cursors : List ℕ) (p : ℕ) (line stack : List ℕ) (stacked : List Bool)
     (height k : ℕ) : Type 0 where
   pub chasing : Chases m sends receipts start cursors line stack stacked height
   pub small : p < mostProcesses
-  pub within : k ≤ m
+  pub sent : Sent sends p m k
   pub paid : sum line + height ≤ sum start + height₀
 
 module _ {m : ℕ} {sends receipts start cursors line stack : List ℕ} {stacked : List Bool} {height : ℕ}
     (w : Chases m sends receipts start cursors line stack stacked height) where
   -- the process on top leaves the stack, and goes on from its cursor
-  pub back-begins : 0 < height
+  pub back-begins : {k : ℕ} → 0 < height
       → (let p = getD stack (height - 1) 0 in
-      GoesBack m sends receipts line (height - 1) cursors p line stack (set stacked p false) (height - 1) (getD cursors p 0))
-  back-begins more =
+      Sent sends p (getD cursors p 0) k
+      → GoesBack m sends receipts line (height - 1) cursors p line stack (set stacked p false) (height - 1) k)
+  back-begins more sent =
       let p = getD stack (height - 1) 0 in
       record {
         chasing = record {
@@ -103,7 +110,7 @@ module _ {m : ℕ} {sends receipts start cursors line stack : List ℕ} {stacked
           room = omega (arith, more, idle-off stacked p, w .room);
         };
         small = w .known (height - 1);
-        within = w .placed p;
+        sent = (le-trans (sent .0) (w .placed p), sent .1);
         paid = le-refl _;
       }
 
@@ -114,35 +121,43 @@ module _ {m : ℕ} {sends receipts start cursors line stack : List ℕ} {stacked
   back-ends {p} {k} b = record {
     given = w .given;
     down = down-more (w .down) (b .chasing .down);
-    placed = every-set (λ n. n ≤ m) cursors p k (b .within) (w .placed);
+    placed = every-set (λ n. n ≤ m) cursors p k (b .sent .0) (w .placed);
     known = b .chasing .known;
     flags = b .chasing .flags;
     room = b .chasing .room;
   }
 
-module _ {m : ℕ} {sends receipts start cursors line stack : List ℕ} {stacked : List Bool} {height₀ p height k : ℕ}
-    (b : GoesBack m sends receipts start height₀ cursors p line stack stacked height k) where
-  pub back-skips : GoesBack m sends receipts start height₀ cursors p line stack stacked height (k - 1)
-  back-skips = record { chasing = b .chasing; small = b .small; within = omega (arith, b .within); paid = b .paid }
+-- ---- it goes to its next message
+module _ {m : ℕ} {sends receipts start cursors line stack : List ℕ} {stacked : List Bool} {height₀ p height k k′ : ℕ}
+    (b : GoesBack m sends receipts start height₀ cursors p line stack stacked height k) (next : Sent sends p (k - 1) k′) where
+  sent-next : Sent sends p m k′
+  sent-next = (omega (arith, next .0, b .sent .0), next .1)
 
--- ---- the process comes to an orphan
--- The message was sent by it, at or above the line from which it began, and was received at or below its line now.
-pub record Orphaned (m : ℕ) (sends receipts start : List ℕ) (p : ℕ) (line : List ℕ) (k j y i r : ℕ) : Type 0 where
-  pub message : MessageRead m sends receipts k j y i r
-  pub own : j ≡ p
+  pub back-skips : GoesBack m sends receipts start height₀ cursors p line stack stacked height k′
+  back-skips = record { chasing = b .chasing; small = b .small; sent = sent-next; paid = b .paid }
+
+-- Its message is an orphan: it was sent at or above the line from which the process began, and was received at or below its line now.
+pub record AtOrphan (m : ℕ) (sends receipts start : List ℕ) (height₀ : ℕ) (cursors : List ℕ) (p : ℕ) (line stack : List ℕ) (stacked : List Bool)
+    (height k k′ y i r : ℕ) : Type 0 where
+  pub going : GoesBack m sends receipts start height₀ cursors p line stack stacked height k
+  pub next : Sent sends p (k - 1) k′
+  pub message : MessageRead m sends receipts k p y i r
   pub sent-after : getD start p 0 ≤ y
   pub delivered : r ≡ 0 → ⊥
   pub received-before : r ≤ getD line i 0
 
-module _ {m : ℕ} {sends receipts start cursors line stack : List ℕ} {stacked : List Bool} {height₀ p height k j y i r : ℕ}
-    (b : GoesBack m sends receipts start height₀ cursors p line stack stacked height k) (x : Orphaned m sends receipts start p line k j y i r) where
+module _ {m : ℕ} {sends receipts start cursors line stack : List ℕ} {stacked : List Bool} {height₀ p height k k′ y i r : ℕ}
+    (x : AtOrphan m sends receipts start height₀ cursors p line stack stacked height k k′ y i r) where
+  abbrev b : GoesBack m sends receipts start height₀ cursors p line stack stacked height k
+  b = x .going
+
   abbrev here : Message
-  here = record { sender = j; sent = y; receiver = i; received = r }
+  here = record { sender = p; sent = y; receiver = i; received = r }
 
   orphan : Orphan here (asLine line)
   orphan = record {
     delivered = omega (arith, x .delivered);
-    sent-after = subst⁻¹ (λ (q : ℕ). getD line q 0 ≤ y) (x .own) (le-trans (b .chasing .down .below p) (x .sent-after));
+    sent-after = le-trans (b .chasing .down .below p) (x .sent-after);
     received-before = x .received-before;
   }
 
@@ -153,7 +168,7 @@ module _ {m : ℕ} {sends receipts start cursors line stack : List ℕ} {stacked
   down = down-more (b .chasing .down) (down-put-back line (k - 1) here (message-is (x .message)) orphan)
 
   -- its receiver is put back
-  pub back-lowers : GoesBack m sends receipts start height₀ cursors p (set line i (r - 1)) stack stacked height (k - 1)
+  pub back-lowers : GoesBack m sends receipts start height₀ cursors p (set line i (r - 1)) stack stacked height k′
   back-lowers = record {
     chasing = record {
       given = b .chasing .given;
@@ -164,7 +179,7 @@ module _ {m : ℕ} {sends receipts start cursors line stack : List ℕ} {stacked
       room = b .chasing .room;
     };
     small = b .small;
-    within = omega (arith, b .within);
+    sent = sent-next b (x .next);
     paid = omega (arith, less, b .paid);
   }
 
@@ -176,7 +191,7 @@ module _ {m : ℕ} {sends receipts start cursors line stack : List ℕ} {stacked
     pub stack-room : height < mostProcesses
     stack-room = omega (arith, fewer, b .chasing .room)
 
-    pub back-stacks : GoesBack m sends receipts start height₀ cursors p (set line i (r - 1)) (set stack height i) (set stacked i true) (height + 1) (k - 1)
+    pub back-stacks : GoesBack m sends receipts start height₀ cursors p (set line i (r - 1)) (set stack height i) (set stacked i true) (height + 1) k′
     back-stacks = record {
       chasing = record {
         given = b .chasing .given;
@@ -187,6 +202,6 @@ module _ {m : ℕ} {sends receipts start cursors line stack : List ℕ} {stacked
         room = omega (arith, fewer, b .chasing .room);
       };
       small = b .small;
-      within = omega (arith, b .within);
+      sent = sent-next b (x .next);
       paid = omega (arith, less, b .paid);
     }

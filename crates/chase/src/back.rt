@@ -1,10 +1,30 @@
 // Processes that go back over their own messages, one after another.
 use tables::numbers::u16_at;
-ghost use Prim.Native.Nat.{_≤_};
-ghost use Rattle.chase.specs.Cursors.{Placed};
+ghost use mathlib.Core.Path.{_≡_};
+ghost use Prim.Native.Nat.{_*_, _-_, _≤_, _<_};
+ghost use lib.ListN.{length};
+ghost use Rattle.sweep.specs.Cursors.{Placed};
 ghost use Rattle.lowering.specs.Lowered.{BroughtDown, messagesOf};
+ghost use Rattle.tables.specs.Numbers.{u16At};
 ghost use Rattle.tables.specs.Parts.{Messages};
 ghost use Rattle.tables.specs.Table.{mostProcesses};
+
+// The last of the k messages at the front of a part of sends that process p sent: its position and one, or
+// 0 where there is none.
+fn last_sent(sends: &[u8], p: usize, k: usize) -> usize
+    requires { ⌜ 4 * k ≤ length (now sends) ⌝ }
+    ensures { λ r. ⌜ r ≤ k ⌝ }
+    ensures { λ r. ⌜ (0 < r → u16At (now (sends .entry)) (4 * (r - 1)) ≡ p) ⌝ }
+{
+    let mut at = k;
+    while 0 < at {
+        if u16_at(sends, 4 * (at - 1)) as usize == p {
+            return at;
+        }
+        at -= 1;
+    }
+    0
+}
 
 // A start, brought down by the m messages of a part of sends and a part of receipts, from the cursors of n
 // processes. On the stack are those whose line may have fallen since they last went back: at first all.
@@ -64,19 +84,14 @@ pub fn go_back(
         let p = stack[height] as usize;
         stacked[p] = false;
         let fallen = line[p];
-        let mut k = cursors[p] as usize;
+        let mut k = last_sent(sends, p, cursors[p] as usize);
         'back: while 0 < k {
-            let sender = u16_at(sends, 4 * (k - 1)) as usize;
-            if sender != p {
-                k -= 1;
-                continue;
-            }
             if u16_at(sends, 4 * (k - 1) + 2) < fallen {
                 break 'back;
             }
-            k -= 1;
-            let receiver = u16_at(receipts, 4 * k);
-            let received = u16_at(receipts, 4 * k + 2);
+            let receiver = u16_at(receipts, 4 * (k - 1));
+            let received = u16_at(receipts, 4 * (k - 1) + 2);
+            k = last_sent(sends, p, k - 1);
             if received == 0 {
                 continue;
             }

@@ -2,9 +2,9 @@
 // messages as far as its line has fallen, and no further. In a table that a run writes, the send numbers of
 // a process never fall with the position, and a chase leaves no orphan.
 pub mod back;
-pub mod sweep;
 
 use back::go_back;
+use sweep::sweep;
 ghost use Prim.Native.Nat.{_≤_};
 ghost use Rattle.lowering.specs.Lowered.{BroughtDown, messagesOf};
 ghost use Rattle.tables.specs.Parts.{Messages};
@@ -16,7 +16,7 @@ pub fn chase(start: [u16; 32], n: usize, sends: &[u8], receipts: &[u8], m: usize
     requires { ⌜ n ≤ mostProcesses ⌝ }
     ensures { λ r. ⌜ BroughtDown (messagesOf m (now (sends .entry)) (now (receipts .entry))) start r ⌝ }
 {
-    let swept = sweep::sweep(start, n, sends, receipts, m);
+    let swept = sweep(start, n, sends, receipts, m);
     let line = swept.line;
     let cursors = swept.cursors;
     go_back(line, cursors, n, sends, receipts, m)

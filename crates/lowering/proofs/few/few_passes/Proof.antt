@@ -35,8 +35,8 @@ turn c = c .before .before .before .before
 next : (c : tie.After-u16-at4 Inv-loop μ-loop Inv-passes μ-passes)
     → (let here = turn c .before in
     let args = entry (here .before) .args in
-    NextInPass (args .m) (now (args .sends)) (now (args .receipts)) (here .before .before .passes .line) (here .loop .line) (here .loop .lowered) (here .loop .k)
-    (c .before .before .before .u16-at .result) (c .before .before .u16-at2 .result) (c .before .u16-at3 .result) (c .u16-at4 .result))
+    NextInPass (args .m) (now (args .sends)) (now (args .receipts)) (here .before .before .passes .line) (here .loop .line) (here .loop .lowered)
+    (here .loop .k) (c .before .before .before .u16-at .result) (c .before .before .u16-at2 .result) (c .before .u16-at3 .result) (c .u16-at4 .result))
 next c = record {
   passing = turn c .before .loop .inv;
   message = record {

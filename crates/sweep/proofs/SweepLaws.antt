@@ -1,4 +1,4 @@
--- A sweep over the messages, from the last to the first, as the loop of `sweep::sweep` goes.
+-- A sweep over the messages, from the last to the first, as the loop of `sweep` goes.
 --     Sweeps                        its invariant
 --     sweep-begins                  how it begins
 --     sweep-skips, sweep-stops      it passes over a message; there its sender stops
@@ -9,8 +9,8 @@ use mathlib.Core.Path.{_≡_}
 use Prim.Native.Nat.{ℕ, _+_, _-_, _≤_, _<_}
 use native.Mathlib.Omega.{arith}
 use lib.ListN.{getD, set}
-use Rattle.chase.proofs.ArrayLaws.{every-set, every-tabulate}
-use Rattle.chase.specs.Cursors.{Placed}
+use Rattle.lowering.proofs.EveryLaws.{every-set, every-tabulate}
+use Rattle.sweep.specs.Cursors.{Placed}
 use Rattle.lowering.proofs.DownLaws.{MessageRead, down-more, down-none, down-put-back, message-is}
 use Rattle.lowering.specs.Lowered.{BroughtDown, messagesOf}
 use Rattle.tables.specs.Lists.{tabulate}

@@ -1,6 +1,6 @@
-// One sweep for all processes, from the last message to the first.
+// The sweep that begins a chase: one for all processes, from the last message to the first.
 use tables::numbers::u16_at;
-ghost use Rattle.chase.specs.Cursors.{Placed};
+ghost use Rattle.sweep.specs.Cursors.{Placed};
 ghost use Rattle.lowering.specs.Lowered.{BroughtDown, messagesOf};
 ghost use Rattle.tables.specs.Parts.{Messages};
 ghost use Rattle.tables.specs.Table.{mostProcesses};

@@ -1,16 +1,16 @@
--- `sweep::sweep` meets its contract. The loop's invariant: the line was brought down from the start, cursors are places at messages, and no more
+-- `sweep` meets its contract. The loop's invariant: the line was brought down from the start, cursors are places at messages, and no more
 -- processes have stopped than messages were looked at. The measure is the position.
 -- Assumes nothing.
 use native.Mathlib.Omega.{arith}
 use denote.Ref.{now}
 use Prim.Native.Nat.{_+_, _-_, _<_}
 use lib.ListN.{set}
-use Rattle.chase.proofs.SweepLaws.{Sweeps, sweep-begins, sweep-lowers, sweep-skips, sweep-stops}
+use Rattle.sweep.proofs.SweepLaws.{Sweeps, sweep-begins, sweep-lowers, sweep-skips, sweep-stops}
 use Rattle.lowering.proofs.DownLaws.{MessageRead, receiver-small, sender-read}
 use Rattle.tables.specs.Lists.{tabulate}
 use Rattle.tables.specs.Table.{mostProcesses}
-use Rattle.chase.proofs.sweep.sweep.Statement.{statement}
-use Rattle.chase.proofs.sweep.sweep.Tie as tie
+use Rattle.sweep.proofs.sweep.Statement.{statement}
+use Rattle.sweep.proofs.sweep.Tie as tie
 
 abbrev Inv-sweep : tie.InvT-sweep
 Inv-sweep n sends receipts m line₀ cursors₀ stopped₀ k₀ line cursors stopped k = Sweeps m sends receipts line₀ line cursors stopped k

@@ -18,7 +18,8 @@ every-set P (x ∷ rest) zero v new all (suc j) = all (suc j)
 every-set P (x ∷ rest) (suc i) v new all zero = all zero
 every-set P (x ∷ rest) (suc i) v new all (suc j) = every-set P rest i v new (λ n. all (suc n)) j
 
-pub every-tabulate : (P : ℕ → Type 0) (n : ℕ) (f : ℕ → ℕ) → P 0 → ((j : ℕ) → j < n → P (f j)) → (j : ℕ) → P (getD (tabulate n f) j 0)
+pub every-tabulate : (P : ℕ → Type 0) (n : ℕ) (f : ℕ → ℕ) → P 0 → ((j : ℕ) → j < n → P (f j)) → (j : ℕ)
+    → P (getD (tabulate n f) j 0)
 every-tabulate P n f none all j = go (decLt j n)
   where
     go : Dec (j < n) → P (getD (tabulate n f) j 0)
