@@ -528,21 +528,43 @@ impl Order {
 /// Made to strain "an orphan of a line puts its receiver back to r - 1; passes
 /// over the messages go on until a pass lowers nothing."
 pub fn ring_domino(rng: &mut Rng, n: usize, m: usize, order: Order) -> Table {
-    assert!(n >= 2, "a ring has two processes or more");
-    let rounds = m.div_ceil(n);
+    ring_dominoes(rng, 1, n, m, order)
+}
+
+/// So many ring dominoes of n processes each that share no process, with m messages
+/// in all: the rings take turns, a round each. See [`ring_domino`].
+pub fn ring_dominoes(rng: &mut Rng, rings: usize, n: usize, m: usize, order: Order) -> Table {
+    assert!(rings >= 1 && n >= 2, "a ring has two processes or more");
+    let rounds = m.div_ceil(rings * n);
     let mut messages = Vec::new();
     for round in 1..=rounds as u32 {
-        for p in 1..n {
-            messages.push(Message::new((p, round - 1), ((p + 1) % n, round)));
+        for first in (0..rings).map(|ring| ring * n) {
+            for p in 1..n {
+                let receipt = (first + (p + 1) % n, round);
+                messages.push(Message::new((first + p, round - 1), receipt));
+            }
+            messages.push(Message::new((first, round), (first + 1, round)));
         }
-        messages.push(Message::new((0, round), (1, round)));
     }
     let mut messages = messages.split_off(messages.len() - m);
     order.arrange(rng, n, &mut messages);
     Table {
-        counts: vec![rounds as u32 + 1; n],
+        counts: vec![rounds as u32 + 1; rings * n],
         messages,
     }
+}
+
+/// The ring domino of m messages before the states of its last round are saved, and
+/// before the last message is sent. Each process has sent since its last state, and
+/// that message is received, by process 1 saved and by the others not: so whichever
+/// process holds, the chain goes all round the ring, as far as there are messages.
+pub fn ring_unsaved(rng: &mut Rng, n: usize, m: usize, order: Order) -> Table {
+    let mut ring = ring_domino(rng, n, m + 1, order);
+    let last = ring.counts[0] - 1;
+    ring.messages
+        .retain(|message| (message.sender, message.sent) != (0, last));
+    ring.counts = vec![last; n];
+    ring
 }
 
 /// The domino of two processes with m messages, in the given order; see
@@ -570,6 +592,15 @@ pub fn staircase(n: usize, count: u32) -> Table {
         counts: vec![count; n],
         messages,
     }
+}
+
+/// The stairs with m messages: theirs over and over. As many states are kept, once
+/// each message of the stairs is there, and no message is.
+pub fn staircase_repeated(n: usize, count: u32, m: usize) -> Table {
+    let mut stairs = staircase(n, count);
+    let all = stairs.messages.clone();
+    stairs.messages = all.into_iter().cycle().take(m).collect();
+    stairs
 }
 
 /// Tables with N = 32, M = 4,096 and all counts 4,096: "32,836 at most."
@@ -1172,7 +1203,7 @@ impl Iterator for AllTables {
 
 /// The kinds that [`by_name`] knows, besides those below and `damage-1` to
 /// `damage-9` and `damage-23`. But for the last two they are accepted.
-pub const KINDS: [&str; 22] = [
+pub const KINDS: [&str; 27] = [
     "history",
     "history-unsaved",
     "arbitrary",
@@ -1191,7 +1222,12 @@ pub const KINDS: [&str; 22] = [
     "ring-by-sender",
     "ring-by-sender-backward",
     "ring-interleaved",
+    "ring-time-unsaved",
+    "ring-interleaved-unsaved",
+    "dominoes-time",
+    "dominoes-by-sender",
     "staircase",
+    "staircase-repeated",
     "limit",
     "random-bytes",
     "random-body",
@@ -1217,9 +1253,10 @@ pub const OUT_OF_TURN_KINDS: [&str; 15] = [
     "ring-every-second",
 ];
 
-/// The bytes of a table of the named kind. `history`, `arbitrary` and
-/// `clustered` have no unsaved messages; `...-unsaved` have them. `domino-...` has
-/// two processes whatever n is; `staircase` and `limit` do not look at m; `limit`
+/// The bytes of a table of the named kind. `history`, `arbitrary`, `clustered` and
+/// `ring-...` have no unsaved messages; `...-unsaved` have them. `domino-...` has
+/// two processes whatever n is, and `dominoes-...` are n / 2 of these, beside each
+/// other; `staircase` and `limit` do not look at m; `limit`
 /// takes one of its tables by the seed; `out-of-turn-...` and `damage-K` spoil an
 /// arbitrary table in a way and for check K of a table; `any-order-...` is what the
 /// seed gave before channels were in turn. `None` for an unknown kind or for a size
@@ -1230,7 +1267,11 @@ pub fn by_name(kind: &str, seed: u64, n: usize, m: usize) -> Option<Vec<u8>> {
     }
     let rng = &mut Rng::new(seed);
     let (family, order) = match kind.split_once('-') {
-        Some((family @ ("domino" | "ring"), order)) => (family, order),
+        Some(("ring", order)) => match order.strip_suffix("-unsaved") {
+            Some(order) => ("ring-unsaved", order),
+            None => ("ring", order),
+        },
+        Some((family @ ("domino" | "dominoes"), order)) => (family, order),
         _ => (kind, ""),
     };
     let order = match order {
@@ -1280,8 +1321,11 @@ pub fn by_name(kind: &str, seed: u64, n: usize, m: usize) -> Option<Vec<u8>> {
         "clustered" => saved_clustered(rng, n, m),
         "clustered-unsaved" => clustered(rng, n, m),
         "domino" => domino_chain(rng, m, order?),
+        "dominoes" if n % 2 != 1 => ring_dominoes(rng, n / 2, 2, m, order?),
         "ring" if n >= 2 => ring_domino(rng, n, m, order?),
+        "ring-unsaved" if n >= 2 => ring_unsaved(rng, n, m, order?),
         "staircase" => staircase(n, MOST_STATES),
+        "staircase-repeated" => staircase_repeated(n, MOST_STATES, m),
         "limit" => {
             let mut tables = limit_tables(rng);
             tables.swap_remove((seed % tables.len() as u64) as usize)

@@ -3,8 +3,9 @@
 use std::collections::{BTreeMap, BTreeSet, HashSet};
 
 use reference::gen::*;
-use reference::lines::line_of_run;
+use reference::lines::{hold_lines, line_of_run};
 use reference::sheet::kept;
+use reference::steps::{do_receive, do_save, do_send};
 use reference::*;
 
 #[test]
@@ -13,7 +14,8 @@ fn accepted_kinds_are_accepted() {
         for kind in KINDS {
             for (n, m) in [(1, 0), (2, 0), (2, 1), (2, 9), (5, 40), (32, 300)] {
                 let Some(bytes) = by_name(kind, seed, n, m) else {
-                    assert!(kind.starts_with("ring") && n == 1);
+                    let pairs = kind.starts_with("dominoes");
+                    assert!(kind.starts_with("ring") && n == 1 || pairs && n % 2 == 1);
                     continue;
                 };
                 if !kind.starts_with("random") {
@@ -117,6 +119,128 @@ fn chance_tables_are_not_trivial() {
             );
         }
     }
+}
+
+/// Whether the send numbers of some sender fall from one position to a later one.
+fn send_numbers_fall(table: &Table) -> bool {
+    let mut last = vec![0; table.processes()];
+    table.messages.iter().any(|message| {
+        let falls = message.sent < last[message.sender];
+        last[message.sender] = message.sent;
+        falls
+    })
+}
+
+/// They never fall in what runs write, and in rings, dominoes and stairs of any
+/// order; elsewhere they mostly do once a sender has more than one channel.
+#[test]
+fn send_numbers_fall_where_no_run_wrote_them() {
+    let mut times = BTreeMap::new();
+    for kind in KINDS {
+        for seed in 0..10 {
+            for (n, m) in [(6, 60), (32, 300)] {
+                let bytes = by_name(kind, seed, n, m).unwrap();
+                if let Ok(table) = Table::read(&bytes) {
+                    *times.entry(kind).or_insert(0) += usize::from(send_numbers_fall(&table));
+                }
+            }
+        }
+    }
+    for (kind, times) in times {
+        match kind.split('-').next() {
+            Some("arbitrary" | "clustered" | "limit") => assert!(times > 5, "{kind} {times}"),
+            Some("random") => {}
+            _ => assert_eq!(times, 0, "{kind}"),
+        }
+    }
+}
+
+/// In a ring whose last round is unsaved every holder puts all back as far as the
+/// chain goes; in the order of time it is what the steps make.
+#[test]
+fn every_holder_goes_round_an_unsaved_ring() {
+    let mut rng = Rng::new(37);
+    for n in 2..=32 {
+        for rounds in 2..5 {
+            for order in Order::ALL {
+                let table = ring_unsaved(&mut rng, n, n * rounds - 1, order);
+                assert_eq!(check_table(&table.to_bytes()), 0);
+                assert_eq!(table.messages.len(), n * rounds - 1);
+                assert_eq!(hold_lines(&table), vec![vec![0; n]; n]);
+                let unsaved = table.messages.iter().filter(|one| table.unsaved(one));
+                assert_eq!(unsaved.count(), n - 1);
+            }
+            let mut table = Table::start(n);
+            for round in 1..=rounds {
+                for p in 1..n {
+                    do_send(&mut table, p, (p + 1) % n);
+                }
+                for p in 0..n {
+                    let list = table.waiting_for(p);
+                    if round == rounds {
+                        do_receive(&mut table, p, &list);
+                    } else {
+                        do_save(&mut table, p, &list);
+                    }
+                    if p == 0 && round < rounds {
+                        do_send(&mut table, 0, 1);
+                    }
+                }
+            }
+            let time = ring_unsaved(&mut rng, n, n * rounds - 1, Order::Time);
+            assert_eq!(table, time);
+        }
+    }
+    // Where the oldest messages are missing the chain ends with the last of them.
+    for n in [8, 32] {
+        for order in Order::ALL {
+            let table = ring_unsaved(&mut rng, n, 4096, order);
+            assert_eq!(table.messages.len(), 4096);
+            let end = [&[1, 0][..], &vec![1; n - 2]].concat();
+            assert_eq!(hold_lines(&table), vec![end; n]);
+        }
+    }
+}
+
+/// Dominoes beside each other fall each by itself.
+#[test]
+fn dominoes_fall_alone() {
+    let mut rng = Rng::new(38);
+    for pairs in 1..=16 {
+        for order in Order::ALL {
+            let n = 2 * pairs;
+            let table = ring_dominoes(&mut rng, pairs, 2, 3 * n, order);
+            assert_eq!(check_table(&table.to_bytes()), 0);
+            assert_eq!(table.messages.len(), 3 * n);
+            assert_eq!(line_of_run(&table), vec![0; n]);
+            for (p, line) in hold_lines(&table).into_iter().enumerate() {
+                let mut expected = table.counts.clone();
+                if p % 2 == 0 {
+                    expected[p..p + 2].fill(0);
+                } else {
+                    expected[p] -= 1;
+                }
+                assert_eq!(line, expected);
+            }
+        }
+    }
+}
+
+/// The stairs keep as many states as can be, however often their messages come.
+#[test]
+fn repeated_stairs_keep_the_most() {
+    for n in 2..=32 {
+        let once = n * (n - 1) / 2;
+        for m in [once, once + 1, 4096] {
+            let table = staircase_repeated(n, 4096, m);
+            assert_eq!(check_table(&table.to_bytes()), 0);
+            assert_eq!(table.messages.len(), m);
+            assert_eq!(kept(&table).states.len(), n * (n + 1) / 2);
+            assert_eq!(kept(&table).messages, [0; 0]);
+        }
+    }
+    let most = Table::read(&by_name("staircase-repeated", 1, 32, 4096).unwrap()).unwrap();
+    assert_eq!(kept(&most).states.len(), 528);
 }
 
 /// Chance ceilings are accepted, and not all of the easy kinds: those of a set,
