@@ -1256,11 +1256,11 @@ pub const OUT_OF_TURN_KINDS: [&str; 15] = [
 /// The bytes of a table of the named kind. `history`, `arbitrary`, `clustered` and
 /// `ring-...` have no unsaved messages; `...-unsaved` have them. `domino-...` has
 /// two processes whatever n is, and `dominoes-...` are n / 2 of these, beside each
-/// other; `staircase` and `limit` do not look at m; `limit`
-/// takes one of its tables by the seed; `out-of-turn-...` and `damage-K` spoil an
-/// arbitrary table in a way and for check K of a table; `any-order-...` is what the
-/// seed gave before channels were in turn. `None` for an unknown kind or for a size
-/// that the kind cannot have.
+/// other; `staircase` has the highest counts and `staircase-repeated` the least;
+/// `staircase` and `limit` do not look at m; `limit` takes one of its tables by the
+/// seed; `out-of-turn-...` and `damage-K` spoil an arbitrary table in a way and for
+/// check K of a table; `any-order-...` is what the seed gave before channels were in
+/// turn. `None` for an unknown kind or for a size that the kind cannot have.
 pub fn by_name(kind: &str, seed: u64, n: usize, m: usize) -> Option<Vec<u8>> {
     if n == 0 || n > MOST_PROCESSES || m > MOST_MESSAGES {
         return None;
@@ -1325,7 +1325,7 @@ pub fn by_name(kind: &str, seed: u64, n: usize, m: usize) -> Option<Vec<u8>> {
         "ring" if n >= 2 => ring_domino(rng, n, m, order?),
         "ring-unsaved" if n >= 2 => ring_unsaved(rng, n, m, order?),
         "staircase" => staircase(n, MOST_STATES),
-        "staircase-repeated" => staircase_repeated(n, MOST_STATES, m),
+        "staircase-repeated" => staircase_repeated(n, n as u32 + 1, m),
         "limit" => {
             let mut tables = limit_tables(rng);
             tables.swap_remove((seed % tables.len() as u64) as usize)

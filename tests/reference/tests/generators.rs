@@ -232,7 +232,7 @@ fn repeated_stairs_keep_the_most() {
     for n in 2..=32 {
         let once = n * (n - 1) / 2;
         for m in [once, once + 1, 4096] {
-            let table = staircase_repeated(n, 4096, m);
+            let table = staircase_repeated(n, n as u32 + 1, m);
             assert_eq!(check_table(&table.to_bytes()), 0);
             assert_eq!(table.messages.len(), m);
             assert_eq!(kept(&table).states.len(), n * (n + 1) / 2);
