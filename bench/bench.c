@@ -101,7 +101,9 @@ enum {
 
 struct row {
     char label[64], path[256];
-    bool history;                  /* a row of the second goal; its passes are few, so it is also looked at closely */
+    bool history;                  /* a history, random or clustered */
+    bool close;                    /* looked at closely, and to be at or under the work list: histories, and the domino of two in time order */
+    bool falls;                    /* the send numbers of some sender fall with the position */
     /* At the start of a page, where the answers stand in the middle of one: a copy between nearly the same places of
        two pages can take three times as long, and no row is to have that by chance. */
     _Alignas(PAGE) uint8_t table[KEEPER_LARGEST_TABLE];
@@ -116,7 +118,9 @@ struct row {
     bool propagates[KEEPER_MOST_PROCESSES];        /* the single holders whose lines take passes */
     size_t propagating;
     size_t kept, logged, kept_before, logged_before;
-    double passes_of_holders, passes_of_recovery, passes_of_halves, rounds_of_marking, passes_of_marking, passes_of_lasts;
+    double looks_of_holders, looks_of_recovery, looks_of_halves, looks_of_lasts; /* messages looked at, for a line */
+    double passes_of_holders, passes_of_recovery, passes_of_halves;                /* by passes alone */
+    double rounds_of_marking, passes_of_marking;
     /* What is measured: numbers of one kind alone, so that they can be taken together one by one. */
     struct figures {
         struct times times[CALLS][IMPLEMENTATIONS];
@@ -242,6 +246,12 @@ static void read_table(struct row *row)
     }
     for (size_t p = 0; p < row->n; p++)
         row->propagating += row->propagates[p];
+    uint16_t last_sent[KEEPER_MOST_PROCESSES] = {0};
+    for (size_t k = 0; k < row->m; k++) {
+        uint16_t sender = number_at(table + sends + 4 * k), sent = number_at(table + sends + 4 * k + 2);
+        row->falls = row->falls || sent < last_sent[sender];
+        last_sent[sender] = sent;
+    }
     for (size_t k = 0; k < row->m; k++)
         row->unsaved += number_at(table + receipts + 4 * k + 2) == row->counts[number_at(table + receipts + 4 * k)];
     /* For a save and a receipt: the process that most messages wait for, and all of these. */
@@ -447,13 +457,13 @@ static void measure_row(struct row *row, double budget)
     int parts[PARTS];
     struct times times[PARTS];
     double ratio[PARTS];
-    size_t tasks = row->history ? PARTS : LINE_OF_ARCHIVE;
+    size_t tasks = row->close ? PARTS : LINE_OF_ARCHIVE;
     for (size_t t = 0; t < tasks; t++)
         parts[t] = (int)t;
     measure(run_part, row, parts, tasks, 4 * budget, times, ratio);
     for (size_t t = 0; t < tasks; t++)
         row->here.part[t] = times[t].least;
-    if (!row->history) {
+    if (!row->close) {
         row->here.part[LINE_OF_ARCHIVE] = row->here.times[LINE_CALL][ARCHIVE].least;
         row->here.part[LINE_OF_C] = row->here.times[LINE_CALL][PLAIN].least;
         row->here.part[LINE_OF_RUST] = row->here.times[LINE_CALL][RUST].least;
@@ -611,7 +621,7 @@ static void say_stack(void)
 static void count_instructions(void)
 {
     for (size_t r = 0; r < row_count; r++) {
-        if (!rows[r].history)
+        if (!rows[r].close)
             continue;
         for (int c = 0; c < CALLS; c++)
             for (int w = 0; w < IMPLEMENTATIONS; w++) {
@@ -720,13 +730,14 @@ static const char *brief(double value)
 
 static void say_tables(void)
 {
-    SAY("| table | N | M | unsaved | passes a line | passes, recovery line | passes, under halves | rounds, marking | passes, marking | passes, two named | K | Q | K, traditional | Q, traditional |\n");
-    SAY("|---|---|---|---|---|---|---|---|---|---|---|---|---|---|\n");
+    SAY("| table | N | M | unsaved | sends fall | looks a line | looks, recovery line | looks, under halves | looks, two named | passes alone a line | passes alone, recovery line | passes alone, under halves | rounds, marking | passes, marking | K | Q | K, traditional | Q, traditional |\n");
+    SAY("|---|---|---|---|---|---|---|---|---|---|---|---|---|---|---|---|---|---|\n");
     for (size_t r = 0; r < row_count; r++) {
         const struct row *row = &rows[r];
-        SAY("| %s | %zu | %zu | %zu | %.1f | %.0f | %.0f | %.0f | %.0f | %.0f | %zu | %zu | %zu | %zu |\n", row->label, row->n, row->m,
-            row->unsaved, row->passes_of_holders, row->passes_of_recovery, row->passes_of_halves, row->rounds_of_marking, row->passes_of_marking,
-            row->passes_of_lasts, row->kept, row->logged, row->kept_before, row->logged_before);
+        SAY("| %s | %zu | %zu | %zu | %s | %.0f | %.0f | %.0f | %.0f | %.1f | %.0f | %.0f | %.0f | %.0f | %zu | %zu | %zu | %zu |\n", row->label, row->n, row->m,
+            row->unsaved, row->falls ? "yes" : "no", row->looks_of_holders, row->looks_of_recovery, row->looks_of_halves, row->looks_of_lasts,
+            row->passes_of_holders, row->passes_of_recovery, row->passes_of_halves, row->rounds_of_marking, row->passes_of_marking,
+            row->kept, row->logged, row->kept_before, row->logged_before);
     }
 }
 
@@ -777,14 +788,43 @@ static bool is_met(double ratio, double limit)
     return ratio < limit + 0.005;
 }
 
-/* What is compared; on how many rows the ratio is at most the limit, its range, and the rows where it is more,
-   where these are few. */
-static void say_goal(int c, double limit, const char *of_what, int against, bool histories_alone, bool goal)
+/* The rows that a goal is about. */
+static bool of_any(const struct row *row) { (void)row; return true; }
+static bool of_close(const struct row *row) { return row->close; }
+static bool of_histories(const struct row *row) { return row->history; }
+static bool of_rising(const struct row *row) { return !row->falls; }
+static bool of_rising_two_or_eight(const struct row *row) { return !row->falls && (row->n == 2 || row->n == 8); }
+
+static const struct {
+    bool (*has)(const struct row *);
+    const char *name;
+} scopes[] = {
+    {of_any, "all"},
+    {of_close, "histories, domino of two in time order"},
+    {of_histories, "histories"},
+    {of_rising, "sends never fall"},
+    {of_rising_two_or_eight, "the same, N = 2 or 8"},
+};
+enum { ANY_ROW, CLOSE_ROWS, HISTORY_ROWS, RISING_ROWS, RISING_TWO_OR_EIGHT_ROWS };
+
+/* A limit with as many places as it has, one at least. */
+static const char *limit_text(double limit)
+{
+    static char text[16];
+    snprintf(text, sizeof text, "%.2f", limit);
+    if (text[strlen(text) - 1] == '0')
+        text[strlen(text) - 1] = 0;
+    return text;
+}
+
+/* What is compared, and on which rows; on how many of them the ratio is at most the limit, its range, and the rows where
+   it is more, where these are few. */
+static void say_goal(int c, double limit, const char *of_what, int against, int scope, bool goal)
 {
     size_t met = 0, of = 0;
     double lowest = 1e9, highest = 0;
     for (size_t r = 0; r < row_count; r++) {
-        if (histories_alone && !rows[r].history)
+        if (!scopes[scope].has(&rows[r]))
             continue;
         double ratio = rows[r].here.ratio[c][against];
         of++;
@@ -792,7 +832,7 @@ static void say_goal(int c, double limit, const char *of_what, int against, bool
         lowest = ratio < lowest ? ratio : lowest;
         highest = ratio > highest ? ratio : highest;
     }
-    SAY("| %s | %.1f times %s | %zu of %zu | %s to %s |", call_titles[c], limit, of_what, met, of, brief(lowest), brief(highest));
+    SAY("| %s | %s times %s | %s | %zu of %zu | %s to %s |", call_titles[c], limit_text(limit), of_what, scopes[scope].name, met, of, brief(lowest), brief(highest));
     if (!goal)
         SAY(" no goal |\n");
     else if (met == of)
@@ -804,44 +844,54 @@ static void say_goal(int c, double limit, const char *of_what, int against, bool
     else {
         SAY(" missed on");
         for (size_t r = 0, said = 0; r < row_count; r++)
-            if ((!histories_alone || rows[r].history) && !is_met(rows[r].here.ratio[c][against], limit))
+            if (scopes[scope].has(&rows[r]) && !is_met(rows[r].here.ratio[c][against], limit))
                 SAY("%s %s, N = %zu, M = %zu", said++ ? ";" : "", rows[r].label, rows[r].n, rows[r].m);
         SAY(" |\n");
     }
 }
 
+/* Whether a call finds lines, and not by marking. */
+static bool has_lines(int c)
+{
+    return c < SEND_CALL && !is_marking(c);
+}
+
 static void say_goals(void)
 {
-    SAY("| call | at most | rows met | ratios | |\n|---|---|---|---|---|\n");
+    SAY("| call | at most | rows | met | ratios | |\n|---|---|---|---|---|---|\n");
     for (int c = 0; c < CALLS; c++)
-        say_goal(c, is_marking(c) ? 2.0 : 1.0, "plain C", PLAIN, false, true);
-    for (int c = 0; c < SEND_CALL; c++)
-        if (!is_marking(c)) {
-            say_goal(c, 1.0, "the work list", RANGES, true, true);
-            say_goal(c, 1.0, "the work list with marks", MARKS, true, true);
+        say_goal(c, is_marking(c) ? 2.0 : 1.05, "plain C", PLAIN, ANY_ROW, true);
+    for (int c = 0; c < CALLS; c++)
+        if (has_lines(c)) {
+            say_goal(c, 3.5, "the work list", RANGES, RISING_ROWS, true);
+            say_goal(c, 1.75, "the work list", RANGES, RISING_TWO_OR_EIGHT_ROWS, true);
+            if (c == SHEET_CALL)
+                say_goal(c, 2.0, "the work list", RANGES, HISTORY_ROWS, true);
+            say_goal(c, 1.0, "the work list", RANGES, CLOSE_ROWS, true);
+            say_goal(c, 1.0, "the work list with marks", MARKS, CLOSE_ROWS, true);
         }
     for (int c = 0; c < CALLS; c++)
         if (is_marking(c)) {
-            say_goal(c, 1.0, "the work list with marks", MARKS, false, false);
-            say_goal(c, 1.0, "the line under the same ceilings", UNDER, false, false);
+            say_goal(c, 1.0, "the work list with marks", MARKS, ANY_ROW, false);
+            say_goal(c, 1.0, "the line under the same ceilings", UNDER, ANY_ROW, false);
         }
     for (int c = 0; c < CALLS; c++)
-        say_goal(c, 1.0, "Rust", RUST, false, false);
+        say_goal(c, 1.0, "Rust", RUST, ANY_ROW, false);
 }
 
-/* The nanoseconds that a pass takes for one message, from the recovery line's time without the checks. */
-static double pass_cost(const struct row *row, int line, int check)
+/* The nanoseconds of a look at a message, from the recovery line's time without the checks. */
+static double look_cost(const struct row *row, int line, int check)
 {
-    return 1e9 * (row->here.part[line] - row->here.part[check]) / (row->passes_of_recovery * (double)row->m);
+    return 1e9 * (row->here.part[line] - row->here.part[check]) / row->looks_of_recovery;
 }
 
-/* The same of marking, from its time under half of each count: with it all bits that are set and cleared. */
+/* The same of a pass of marking, from its time under half of each count: with it all bits that are set and cleared. */
 static double marking_pass_cost(const struct row *row, int which, int check)
 {
     return 1e9 * (row->here.times[MARKED_HALVES_CALL][which].least - row->here.part[check]) / (row->passes_of_marking * (double)row->m);
 }
 
-/* The time of the lines of single holders that take passes, and of a sheet without its checks and these. */
+/* The time of the lines of single holders that are not their ceilings, and of a sheet without its checks and these. */
 static double lines_part(const struct row *row, bool archive)
 {
     return row->here.part[archive ? LINES_OF_ARCHIVE : LINES_OF_C] - (double)row->propagating * row->here.part[archive ? CHECK_OF_ARCHIVE : CHECK_OF_C];
@@ -854,17 +904,17 @@ static double rest_part(const struct row *row, bool archive)
 
 static void say_parts(void)
 {
-    SAY("| table | N | M | checks | C | lines | C | rest | C | ns a message and pass | C | Rust |\n");
+    SAY("| table | N | M | checks | C | lines | C | rest | C | ns a look | C | Rust |\n");
     SAY("|---|---|---|---|---|---|---|---|---|---|---|---|\n");
     for (size_t r = 0; r < row_count; r++) {
         const struct row *row = &rows[r];
         SAY("| %s | %zu | %zu | %s | %s |", row->label, row->n, row->m, brief(1e6 * row->here.part[CHECK_OF_ARCHIVE]), brief(1e6 * row->here.part[CHECK_OF_C]));
-        if (row->history)
+        if (row->close)
             SAY(" %s | %s | %s | %s |", brief(1e6 * lines_part(row, true)), brief(1e6 * lines_part(row, false)),
                 brief(1e6 * rest_part(row, true)), brief(1e6 * rest_part(row, false)));
         else
             SAY(" | | | |");
-        SAY(" %.2f | %.2f | %.2f |\n", pass_cost(row, LINE_OF_ARCHIVE, CHECK_OF_ARCHIVE), pass_cost(row, LINE_OF_C, CHECK_OF_C), pass_cost(row, LINE_OF_RUST, CHECK_OF_RUST));
+        SAY(" %.2f | %.2f | %.2f |\n", look_cost(row, LINE_OF_ARCHIVE, CHECK_OF_ARCHIVE), look_cost(row, LINE_OF_C, CHECK_OF_C), look_cost(row, LINE_OF_RUST, CHECK_OF_RUST));
     }
 }
 
@@ -890,12 +940,21 @@ static double check_of_most(const struct row *row) { return row->m == KEEPER_MOS
 static double c_check_of_most(const struct row *row) { return row->m == KEEPER_MOST_MESSAGES ? 1e6 * row->here.part[CHECK_OF_C] : 0; }
 static double send_of_most(const struct row *row) { return row->m == KEEPER_MOST_MESSAGES ? 1e6 * row->here.times[SEND_CALL][ARCHIVE].median : 0; }
 static double send_without_checks(const struct row *row) { return row->m == KEEPER_MOST_MESSAGES ? 1e6 * row->here.times[SEND_CALL][BARE].median : 0; }
-static double rest_ratio(const struct row *row) { return row->history ? rest_part(row, true) / rest_part(row, false) : 0; }
-static double lines_ratio(const struct row *row) { return row->history && row->propagating > 0 ? lines_part(row, true) / lines_part(row, false) : 0; }
-static double rest_share(const struct row *row) { return row->history ? 100 * rest_part(row, true) / row->here.part[SHEET_OF_ARCHIVE] : 0; }
-static double pass_of_archive(const struct row *row) { return pass_cost(row, LINE_OF_ARCHIVE, CHECK_OF_ARCHIVE); }
-static double pass_of_c(const struct row *row) { return pass_cost(row, LINE_OF_C, CHECK_OF_C); }
-static double pass_of_rust(const struct row *row) { return pass_cost(row, LINE_OF_RUST, CHECK_OF_RUST); }
+static double rest_ratio(const struct row *row) { return row->close ? rest_part(row, true) / rest_part(row, false) : 0; }
+static double lines_ratio(const struct row *row) { return row->close && row->propagating > 0 ? lines_part(row, true) / lines_part(row, false) : 0; }
+static double rest_share(const struct row *row) { return row->close ? 100 * rest_part(row, true) / row->here.part[SHEET_OF_ARCHIVE] : 0; }
+static double look_of_archive(const struct row *row) { return look_cost(row, LINE_OF_ARCHIVE, CHECK_OF_ARCHIVE); }
+static double look_of_c(const struct row *row) { return look_cost(row, LINE_OF_C, CHECK_OF_C); }
+static double look_of_rust(const struct row *row) { return look_cost(row, LINE_OF_RUST, CHECK_OF_RUST); }
+static double pass_of_archive(const struct row *row) { return row->close ? look_of_archive(row) : 0; }
+static double pass_of_c(const struct row *row) { return row->close ? look_of_c(row) : 0; }
+static double pass_of_rust(const struct row *row) { return row->close ? look_of_rust(row) : 0; }
+/* Rows that passes alone take long for, and of which the chase leaves nothing to lower. */
+static bool is_chased(const struct row *row) { return !row->falls && row->passes_of_recovery > 100; }
+static double chased_look_of_archive(const struct row *row) { return is_chased(row) ? look_of_archive(row) : 0; }
+static double chased_look_of_c(const struct row *row) { return is_chased(row) ? look_of_c(row) : 0; }
+static double chased_passes(const struct row *row) { return is_chased(row) ? row->looks_of_recovery / (double)row->m : 0; }
+static double passes_alone(const struct row *row) { return is_chased(row) ? row->passes_of_recovery : 0; }
 static double marking_pass_of_archive(const struct row *row) { return marking_pass_cost(row, ARCHIVE, CHECK_OF_ARCHIVE); }
 static double marking_pass_of_c(const struct row *row) { return marking_pass_cost(row, PLAIN, CHECK_OF_C); }
 static double marking_pass_of_rust(const struct row *row) { return marking_pass_cost(row, RUST, CHECK_OF_RUST); }
@@ -932,6 +991,10 @@ static const struct {
     {"pass", pass_of_archive, " ns"},
     {"pass-of-c", pass_of_c, " ns"},
     {"pass-of-rust", pass_of_rust, " ns"},
+    {"chased-look", chased_look_of_archive, " ns"},
+    {"chased-look-of-c", chased_look_of_c, " ns"},
+    {"chased-passes", chased_passes, ""},
+    {"passes-alone", passes_alone, ""},
     {"marking-pass", marking_pass_of_archive, " ns"},
     {"marking-pass-of-c", marking_pass_of_c, " ns"},
     {"marking-pass-of-rust", marking_pass_of_rust, " ns"},
@@ -1010,18 +1073,19 @@ static void say_report(const char *text, bool instructions, bool networkx)
     fclose(file);
 }
 
-/* Lines `LABEL<tab>0 or 1<tab>PATH`; 1 says that the second goal is about the row. */
+/* Lines `LABEL<tab>KIND<tab>PATH`; the kind is history, close (no history, but looked at as closely) or other. */
 static void read_rows(const char *path)
 {
     FILE *file = fopen(path, "r");
     if (file == NULL)
         stop("%s can't be read", path);
-    int history;
+    char kind[16];
     while (row_count < MOST_ROWS) {
         struct row *row = &rows[row_count];
-        if (fscanf(file, " %63[^\t] %d %255s", row->label, &history, row->path) != 3)
+        if (fscanf(file, " %63[^\t] %15s %255s", row->label, kind, row->path) != 3)
             break;
-        row->history = history;
+        row->history = strcmp(kind, "history") == 0;
+        row->close = row->history || strcmp(kind, "close") == 0;
         row_count++;
     }
     fclose(file);
@@ -1029,28 +1093,47 @@ static void read_rows(const char *path)
         read_table(&rows[r]);
 }
 
-/* The ceilings that the two last checkpoints are, by name. */
-static const uint16_t *ceilings_of_lasts(const struct row *row)
+/* The counts less one at the processes of a set. */
+static const uint16_t *ceilings_of_set(const struct row *row, uint32_t set)
 {
     static uint16_t ceilings[KEEPER_MOST_PROCESSES];
-    memcpy(ceilings, row->counts, sizeof ceilings);
-    for (size_t e = 0; e < 2; e++)
-        ceilings[row->ends[e]] = row->lasts[e];
+    for (size_t p = 0; p < row->n; p++)
+        ceilings[p] = (uint16_t)(row->counts[p] - (set >> p & 1));
     return ceilings;
 }
 
 static void compare_rows(void)
 {
     for (size_t r = 0; r < row_count; r++) {
-        compare(&rows[r]);
-        rows[r].passes_of_recovery = (double)plain_passes_of_recovery_line(rows[r].table);
-        rows[r].passes_of_halves = (double)plain_passes_under(rows[r].table, rows[r].halves);
-        rows[r].passes_of_lasts = (double)plain_passes_under(rows[r].table, ceilings_of_lasts(&rows[r]));
-        struct marking marking = plain_marking_under(rows[r].table, rows[r].halves);
-        rows[r].rounds_of_marking = (double)marking.rounds;
-        rows[r].passes_of_marking = (double)marking.passes;
-        rows[r].passes_of_holders = (double)plain_passes_of_holders(rows[r].table) / (double)rows[r].n;
+        struct row *row = &rows[r];
+        compare(row);
+        const uint16_t *lasts = ceilings_of_set(row, 1u | 1u << row->ends[1]);
+        row->looks_of_lasts = (double)plain_looks_under(row->table, lasts);
+        row->looks_of_recovery = (double)plain_looks_under(row->table, ceilings_of_set(row, UINT32_MAX));
+        row->looks_of_halves = (double)plain_looks_under(row->table, row->halves);
+        row->looks_of_holders = (double)plain_looks_of_holders(row->table) / (double)row->n;
+        row->passes_of_recovery = (double)plain_passes_under(row->table, ceilings_of_set(row, UINT32_MAX));
+        row->passes_of_halves = (double)plain_passes_under(row->table, row->halves);
+        for (size_t p = 0; p < row->n; p++)
+            row->passes_of_holders += (double)plain_passes_under(row->table, ceilings_of_set(row, 1u << p)) / (double)row->n;
+        struct marking marking = plain_marking_under(row->table, row->halves);
+        row->rounds_of_marking = (double)marking.rounds;
+        row->passes_of_marking = (double)marking.passes;
     }
+}
+
+/* Measures each row and leaves what was found in a file. */
+static void measure_to(const char *path, void (*measure_one)(struct row *, double), double budget)
+{
+    FILE *file = fopen(path, "wb");
+    if (file == NULL)
+        stop("%s can't be written", path);
+    for (size_t r = 0; r < row_count; r++) {
+        measure_one(&rows[r], budget);
+        fwrite(&rows[r].here, sizeof rows[r].here, 1, file);
+    }
+    if (fclose(file) != 0)
+        stop("%s can't be written", path);
 }
 
 int main(int argc, char **argv)
@@ -1074,15 +1157,7 @@ int main(int argc, char **argv)
     }
     if (argc == 4 && strcmp(argv[1], "measure") == 0) {
         read_rows(argv[2]);
-        FILE *file = fopen(argv[3], "wb");
-        if (file == NULL)
-            stop("%s can't be written", argv[3]);
-        for (size_t r = 0; r < row_count; r++) {
-            measure_row(&rows[r], 0.02);
-            fwrite(&rows[r].here, sizeof rows[r].here, 1, file);
-        }
-        if (fclose(file) != 0)
-            stop("%s can't be written", argv[3]);
+        measure_to(argv[3], measure_row, 0.02);
         return 0;
     }
     if (argc < 7 || strcmp(argv[1], "report") != 0)

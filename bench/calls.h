@@ -7,7 +7,7 @@
 /* A call of an implementation, which takes what the archive's takes. */
 #define AS_KEEPER(prefix, name) __typeof__(keeper_##name) prefix##_##name
 
-/* Plain C: the same passes, after the same checks of the table; for the line by marking the same rounds of
+/* Plain C: lines in the same way, after the same checks of the table; for the line by marking the same rounds of
    passes, over the same bits. */
 AS_KEEPER(plain, check_table);
 AS_KEEPER(plain, line_of_set);
@@ -32,7 +32,7 @@ AS_KEEPER(bare, receive);
 AS_KEEPER(bare, fall_back);
 AS_KEEPER(bare, keep_sheet);
 
-/* Rust: the same passes, after the same checks. */
+/* Rust: the same, after the same checks. */
 AS_KEEPER(rust, check_table);
 AS_KEEPER(rust, recovery_line);
 AS_KEEPER(rust, line_under);
@@ -59,11 +59,11 @@ AS_KEEPER(ranges, stand_together);
 AS_KEEPER(ranges, fall_back);
 AS_KEEPER(ranges, keep_sheet);
 
-/* How many passes over the messages the plain C version makes: of the recovery line, of a line under
-   ceilings, and of all single holders together. */
-size_t plain_passes_of_recovery_line(const uint8_t *table);
+/* How many messages the plain C version looks at: for a line under ceilings, and for the lines of a sheet, all single
+   holders together. And how many passes a line under ceilings would take by passes alone. */
+size_t plain_looks_under(const uint8_t *table, const uint16_t *ceilings);
+size_t plain_looks_of_holders(const uint8_t *table);
 size_t plain_passes_under(const uint8_t *table, const uint16_t *ceilings);
-size_t plain_passes_of_holders(const uint8_t *table);
 
 /* How many rounds the plain C version of the marking procedure makes under ceilings, and how many passes over
    the messages in all of them together. */

@@ -30,7 +30,7 @@ place 2 16 16
 place 3 32 48
 place 4 48 0
 
-# A row: its label, whether the second goal is about it, kind, seed, N, M. A chain has no seed.
+# A row: its label, whether it is a history, looked at as closely, or other, kind, seed, N, M. A chain has no seed.
 row() {
     file="$out/tables/$3-$4-$5-$6.table"
     case $3 in
@@ -39,34 +39,42 @@ row() {
     esac
     printf '%s\t%s\t%s\n' "$1" "$2" "$file" >>"$out/rows"
 }
-row 'random history' 1 history 1 2 512
-row 'random history' 1 history 1 2 4096
-row 'random history' 1 history 1 8 512
-row 'random history' 1 history 1 8 4096
-row 'random history, another' 1 history 4 8 4096
-row 'random history' 1 history 1 32 512
-row 'random history' 1 history 1 32 4096
-row 'random history, another' 1 history 4 32 4096
-row 'clustered' 1 clustered 1 2 4096
-row 'clustered' 1 clustered 1 8 4096
-row 'clustered' 1 clustered 1 32 512
-row 'clustered' 1 clustered 1 32 4096
-row 'random history with receipts' 1 history-unsaved 6 8 4096
-row 'random history with receipts' 1 history-unsaved 6 32 4096
-row 'clustered, with receipts' 1 clustered-unsaved 1 8 4096
-row 'clustered, with receipts' 1 clustered-unsaved 1 32 4096
-row 'domino, time order' 1 domino-time 1 2 512
-row 'domino, time order' 1 domino-time 1 2 4096
-row 'domino, by sender' 0 domino-by-sender 1 2 4096
-row 'ring domino, time order' 0 ring-time 1 8 4096
-row 'ring domino, by round' 0 ring-rounds-along 1 8 4096
-row 'ring domino, by chance' 0 ring-interleaved 1 8 4096
-row 'chain through all channels' 0 chain 1 8 4096
-row 'ring domino, time order' 0 ring-time 1 32 4096
-row 'ring domino, by round' 0 ring-rounds-along 1 32 4096
-row 'ring domino, by sender' 0 ring-by-sender 1 32 4096
-row 'ring domino, by chance' 0 ring-interleaved 1 32 4096
-row 'chain through all channels' 0 chain 1 32 4096
+row 'random history' history history 1 2 512
+row 'random history' history history 1 2 4096
+row 'random history' history history 1 8 512
+row 'random history' history history 1 8 4096
+row 'random history, another' history history 4 8 4096
+row 'random history' history history 1 32 512
+row 'random history' history history 1 32 4096
+row 'random history, another' history history 4 32 4096
+row 'clustered' history clustered 1 2 4096
+row 'clustered' history clustered 1 8 4096
+row 'clustered' history clustered 1 32 512
+row 'clustered' history clustered 1 32 4096
+row 'random history with receipts' history history-unsaved 6 8 4096
+row 'random history with receipts' history history-unsaved 6 32 4096
+row 'clustered, with receipts' history clustered-unsaved 1 8 4096
+row 'clustered, with receipts' history clustered-unsaved 1 32 4096
+row 'domino, time order' close domino-time 1 2 512
+row 'domino, time order' close domino-time 1 2 4096
+row 'domino, by sender' other domino-by-sender 1 2 4096
+row 'ring domino, time order' other ring-time 1 8 4096
+row 'ring domino, by round' other ring-rounds-along 1 8 4096
+row 'ring domino, by chance' other ring-interleaved 1 8 4096
+row 'ring, each has sent, time order' other ring-time-unsaved 1 8 4096
+row 'ring, each has sent, by chance' other ring-interleaved-unsaved 1 8 4096
+row 'chain through all channels' other chain 1 8 4096
+row 'ring domino, time order' other ring-time 1 32 4096
+row 'ring domino, by round' other ring-rounds-along 1 32 4096
+row 'ring domino, by sender' other ring-by-sender 1 32 4096
+row 'ring domino, by chance' other ring-interleaved 1 32 4096
+row 'ring, each has sent, time order' other ring-time-unsaved 1 32 4096
+row 'ring, each has sent, by chance' other ring-interleaved-unsaved 1 32 4096
+row 'sixteen dominoes, time order' other dominoes-time 1 32 4096
+row 'sixteen dominoes, by sender' other dominoes-by-sender 1 32 4096
+row 'staircase' other staircase-repeated 1 32 496
+row 'staircase, repeated' other staircase-repeated 1 32 4096
+row 'chain through all channels' other chain 1 32 4096
 
 if [ "${1-}" = stack ]; then
     say "measuring the stack"

@@ -1,8 +1,10 @@
-//! The keeper's calls in plain Rust: passes over the messages from the last to
-//! the first, from the ceiling of each line down, after the same checks of the
-//! table as the archive's. The line of a single holder whose rollback does not
-//! propagate is its ceiling. The line by marking takes rounds of such passes over
-//! the bits of the lent buffer. Safe code but for the slices that the C names take.
+//! The keeper's calls in plain Rust, after the same checks of the table as the
+//! archive's. Each line is found from its ceiling down by passes over the messages
+//! from the last to the first; where a few of these do not settle it, by a chase
+//! from sender to sender, and then by passes until one lowers nothing. The line of
+//! a single holder whose rollback does not propagate is its ceiling. The line by
+//! marking takes rounds of such passes over the bits of the lent buffer. Safe code
+//! but for the slices that the C names take.
 
 const MOST_PROCESSES: usize = 32;
 const MOST_MESSAGES: usize = 4096;
@@ -171,20 +173,125 @@ fn propagating(parts: &Parts) -> [bool; MOST_PROCESSES] {
     propagates
 }
 
-/// Lowers a line from its ceilings.
-fn lower(parts: &Parts, mut line: Line) -> Line {
-    loop {
-        let mut lowered = false;
-        for ((sender, sent), (receiver, received)) in parts.messages().rev() {
-            if received != 0 && sent >= line[sender] && received <= line[receiver] {
-                line[receiver] = received - 1;
-                lowered = true;
-            }
-        }
-        if !lowered {
-            return line;
+/// One pass: each orphan puts its receiver back. Answers whether there was one.
+#[inline(never)]
+fn pass(parts: &Parts, line: &mut Line) -> bool {
+    let mut lowered = false;
+    for ((sender, sent), (receiver, received)) in parts.messages().rev() {
+        if received != 0 && sent >= line[sender] && received <= line[receiver] {
+            line[receiver] = received - 1;
+            lowered = true;
         }
     }
+    lowered
+}
+
+/// Where the chase stands: the messages of a process from its cursor on make no
+/// orphan; the processes on the stack were put back since they were looked at. A
+/// cursor of 0 is that of a process without a message left.
+struct Chase {
+    cursor: [u16; MOST_PROCESSES],
+    stack: [u8; MOST_PROCESSES],
+    stacked: [bool; MOST_PROCESSES],
+    height: usize,
+}
+
+impl Chase {
+    /// Puts the receiver of a message back where that is an orphan, and on the stack
+    /// if it has a cursor.
+    fn lower_by(&mut self, line: &mut Line, receipt: &[u8; 4]) {
+        let (receiver, received) = entry(receipt);
+        if received == 0 || received > line[receiver] {
+            return;
+        }
+        line[receiver] = received - 1;
+        if self.cursor[receiver] != 0 && !self.stacked[receiver] {
+            self.stacked[receiver] = true;
+            self.stack[self.height] = receiver as u8;
+            self.height += 1;
+        }
+    }
+}
+
+/// Behind the last message of a process among these, or 0: eight at a time, each
+/// with an end of its own.
+fn behind_last(sends: &[[u8; 4]], process: usize) -> usize {
+    let (first, eights) = sends.as_rchunks::<8>();
+    for (e, eight) in eights.iter().enumerate().rev() {
+        for b in (0..8).rev() {
+            if entry(&eight[b]).0 == process {
+                return first.len() + 8 * e + b + 1;
+            }
+        }
+    }
+    let own = first.iter().rposition(|send| entry(send).0 == process);
+    own.map_or(0, |k| k + 1)
+}
+
+/// Lowers a line by following it from sender to sender. First from the last message
+/// on for all processes together, each until a message that it sent before the line;
+/// then for one process after another that was put back, from its cursor on.
+fn chase(parts: &Parts, line: &mut Line) {
+    let mut c = Chase {
+        cursor: [0; MOST_PROCESSES],
+        stack: [0; MOST_PROCESSES],
+        stacked: [false; MOST_PROCESSES],
+        height: 0,
+    };
+    let mut running = parts.n;
+    for (k, (send, receipt)) in parts.sends.iter().zip(parts.receipts).enumerate().rev() {
+        let (sender, sent) = entry(send);
+        if c.cursor[sender] != 0 {
+            continue;
+        }
+        if sent >= line[sender] {
+            c.lower_by(line, receipt);
+            continue;
+        }
+        c.cursor[sender] = k as u16 + 1;
+        running -= 1;
+        if running == 0 {
+            break;
+        }
+    }
+    while c.height > 0 {
+        c.height -= 1;
+        let p = usize::from(c.stack[c.height]);
+        c.stacked[p] = false;
+        let number = line[p];
+        let mut k = usize::from(c.cursor[p]);
+        loop {
+            k = behind_last(&parts.sends[..k], p);
+            if k == 0 || entry(&parts.sends[k - 1]).1 < number {
+                break;
+            }
+            k -= 1;
+            c.lower_by(line, &parts.receipts[k]);
+        }
+        c.cursor[p] = k as u16;
+    }
+}
+
+/// Lowers a line from its ceilings. Passes are tried while they cost no more than a
+/// chase may; where they do not settle the line they are not tried for the next one
+/// of a sheet.
+fn settle(parts: &Parts, line: &mut Line, passes_settle: &mut bool) {
+    if *passes_settle {
+        for _ in 0..parts.n / 4 + 2 {
+            if !pass(parts, line) {
+                return;
+            }
+        }
+        *passes_settle = false;
+    }
+    chase(parts, line);
+    while pass(parts, line) {}
+}
+
+/// A line alone.
+fn lower(parts: &Parts, mut line: Line) -> Line {
+    settle(parts, &mut line, &mut true);
+    line
 }
 
 fn line_of_set(parts: &Parts, set: u32) -> Line {
@@ -550,12 +657,12 @@ fn keep_sheet(table: &[u8], scratch: &mut [u16], answer: &mut [u8], written: &mu
         return 15;
     }
     let propagates = propagating(&parts);
+    let mut passes_settle = true;
     for (p, place) in scratch.chunks_exact_mut(n).take(n).enumerate() {
-        let line = if propagates[p] {
-            line_of_set(&parts, 1 << p)
-        } else {
-            ceiling_of_set(&parts, 1 << p)
-        };
+        let mut line = ceiling_of_set(&parts, 1 << p);
+        if propagates[p] {
+            settle(&parts, &mut line, &mut passes_settle);
+        }
         place.copy_from_slice(&line[..n]);
     }
     let lines = &scratch[..n * n];
