@@ -4,7 +4,8 @@
    leaves what it found in the file FIGURES: once for each place at which the code is linked. `bench stack
    ROWS` measures the stack of every exported call and prints the table of it. `bench report ROWS
    INSTRUCTIONS TEXT REPORT FIGURES...` takes all together and writes the report: TEXT with the tables of the
-   run in their places. Times are of the processor, not of the clock. */
+   run in their places. `bench beside ROWS FIGURES` measures the archive beside an older one that is linked too,
+   and `bench ratios ROWS FIGURES...` prints the table of that. Times are of the processor, not of the clock. */
 #define _GNU_SOURCE
 #include <stdarg.h>
 #include <stdbool.h>
@@ -29,7 +30,7 @@ enum { MOST_ANSWER = KEEPER_LARGEST_TABLE + 64, MOST_ROWS = 64 };
 /* ------------------------------------------------------------------------------------------------- */
 /* The implementations. */
 
-enum { ARCHIVE, PLAIN, BARE, RUST, MARKS, RANGES, UNDER, IMPLEMENTATIONS };
+enum { ARCHIVE, PLAIN, BARE, RUST, MARKS, RANGES, UNDER, OLD, IMPLEMENTATIONS };
 
 struct implementation {
     const char *name;
@@ -53,6 +54,7 @@ static const struct implementation implementations[IMPLEMENTATIONS] = {
     {"work-list-marks", marks_keep_sheet, marks_recovery_line, marks_line_under, NULL, marks_stand_together, marks_fall_back, NULL, NULL, NULL, NULL},
     {"work-list-ranges", ranges_keep_sheet, ranges_recovery_line, ranges_line_under, NULL, ranges_stand_together, ranges_fall_back, NULL, NULL, NULL, NULL},
     {"archive-line-under", NULL, NULL, keeper_line_under, NULL, NULL, NULL, NULL, NULL, NULL, NULL},
+    {"older-archive", old_keeper_keep_sheet, old_keeper_recovery_line, old_keeper_line_under, NULL, old_keeper_stand_together, old_keeper_fall_back, NULL, NULL, NULL, old_keeper_check_table},
 };
 
 /* A line under ceilings twice: under half of each count, and under the counts. By marking too; beside that, an
@@ -197,8 +199,26 @@ static uint32_t call(const struct row *row, int which, int call)
     }
 }
 
+/* The calls by which an older archive is measured, where it has them. */
+static bool has_old(int call)
+{
+    switch (call) {
+    case SHEET_CALL: return old_keeper_keep_sheet != NULL;
+    case LINE_CALL: return old_keeper_recovery_line != NULL;
+    case HALVES_CALL:
+    case COUNTS_CALL: return old_keeper_line_under != NULL;
+    case STAND_LASTS_CALL:
+    case STAND_LINE_CALL: return old_keeper_stand_together != NULL;
+    case FALL_BACK_CALL: return old_keeper_fall_back != NULL;
+    case CHECK_CALL: return old_keeper_check_table != NULL;
+    default: return false;
+    }
+}
+
 static bool has(int which, int call)
 {
+    if (which == OLD)
+        return has_old(call);
     if (call == CHECK_CALL)
         return implementations[which].check != NULL;
     if (which == UNDER || is_marking(call))
@@ -1122,6 +1142,61 @@ static void compare_rows(void)
     }
 }
 
+/* ------------------------------------------------------------------------------------------------- */
+/* An older archive beside this one. */
+
+static void run_beside(void *context, int which)
+{
+    struct call_context *c = context;
+    if (c->call == CHECK_CALL)
+        sink = (which == OLD ? old_keeper_check_table : keeper_check_table)(c->row->table, c->row->length);
+    else
+        call(c->row, which, c->call);
+}
+
+static void measure_beside(struct row *row, double budget)
+{
+    for (int c = 0; c < CALLS; c++)
+        if (has_old(c)) {
+            struct call_context context = {row, c};
+            struct times times[2];
+            double ratio[2];
+            measure(run_beside, &context, (const int[]){ARCHIVE, OLD}, 2, budget, times, ratio);
+            row->here.ratio[c][OLD] = ratio[1];
+        }
+}
+
+/* The archive's time divided by the older one's, and the least and the most of it on histories. */
+static void say_beside(void)
+{
+    SAY("| table | N | M |");
+    for (int c = 0; c < CALLS; c++)
+        if (has_old(c))
+            SAY(" %s |", call_titles[c]);
+    SAY("\n|---|---|---|");
+    for (int c = 0; c < CALLS; c++)
+        if (has_old(c))
+            SAY("---|");
+    for (size_t r = 0; r < row_count; r++) {
+        SAY("\n| %s | %zu | %zu |", rows[r].label, rows[r].n, rows[r].m);
+        for (int c = 0; c < CALLS; c++)
+            if (has_old(c))
+                SAY(" %.*f |", rows[r].here.ratio[c][OLD] < 0.1 ? 4 : 2, rows[r].here.ratio[c][OLD]);
+    }
+    for (int most = 0; most < 2; most++) {
+        SAY("\n| histories, the %s | | |", most ? "most" : "least");
+        for (int c = 0; c < CALLS; c++)
+            if (has_old(c)) {
+                double end = most ? 0 : 1e9;
+                for (size_t r = 0; r < row_count; r++)
+                    if (rows[r].history && (rows[r].here.ratio[c][OLD] > end) == most)
+                        end = rows[r].here.ratio[c][OLD];
+                SAY(" %.2f |", end);
+            }
+    }
+    SAY("\n");
+}
+
 /* Measures each row and leaves what was found in a file. */
 static void measure_to(const char *path, void (*measure_one)(struct row *, double), double budget)
 {
@@ -1160,8 +1235,20 @@ int main(int argc, char **argv)
         measure_to(argv[3], measure_row, 0.02);
         return 0;
     }
+    if (argc == 4 && strcmp(argv[1], "beside") == 0) {
+        read_rows(argv[2]);
+        measure_to(argv[3], measure_beside, 0.05);
+        return 0;
+    }
+    if (argc >= 4 && strcmp(argv[1], "ratios") == 0) {
+        read_rows(argv[2]);
+        take_together(argv + 3, argc - 3);
+        report = stdout;
+        say_beside();
+        return 0;
+    }
     if (argc < 7 || strcmp(argv[1], "report") != 0)
-        stop("usage: bench compare ROWS, bench instructions ROWS, bench measure ROWS FIGURES, bench stack ROWS, or bench report ROWS INSTRUCTIONS TEXT REPORT FIGURES...");
+        stop("usage: bench compare ROWS, bench instructions ROWS, bench measure ROWS FIGURES, bench stack ROWS, bench report ROWS INSTRUCTIONS TEXT REPORT FIGURES..., bench beside ROWS FIGURES, or bench ratios ROWS FIGURES...");
     read_rows(argv[2]);
     compare_rows();
     take_together(argv + 6, argc - 6);

@@ -59,6 +59,16 @@ AS_KEEPER(ranges, stand_together);
 AS_KEEPER(ranges, fall_back);
 AS_KEEPER(ranges, keep_sheet);
 
+/* An older archive's calls under other names, where one is linked beside this one. */
+#define OLD(name) __attribute__((weak)) AS_KEEPER(old_keeper, name)
+OLD(check_table);
+OLD(recovery_line);
+OLD(line_under);
+OLD(stand_together);
+OLD(fall_back);
+OLD(keep_sheet);
+#undef OLD
+
 /* How many messages the plain C version looks at: for a line under ceilings, and for the lines of a sheet, all single
    holders together. And how many passes a line under ceilings would take by passes alone. */
 size_t plain_looks_under(const uint8_t *table, const uint16_t *ceilings);

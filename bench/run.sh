@@ -2,13 +2,28 @@
 # The benchmark: makes the tables, builds what is compared, counts instructions where valgrind is there,
 # measures, and writes docs/BENCHMARKS.md. Run from the repository's root, with the archives in place.
 # `sh bench/run.sh stack` only measures the stack of the calls, and prints the report's table of it.
+# `sh bench/run.sh beside OLD.a` only measures the archive beside an older libkeeper.a, in one program, and prints the
+# archive's times divided by the older one's; the check of a table tells how much of that is chance.
 set -eu
-case "${1-}" in '' | stack) ;; *) echo "usage: sh bench/run.sh [stack]" >&2; exit 2;; esac
 out=target/bench
+say() { echo "bench: $*" >&2; }
+lacks() { say "$* is not there"; exit 1; }
+case "$#:${1-}" in
+0: | 1:stack) ;;
+2:beside)
+    [ -f "$2" ] || lacks "$2"
+    for tool in nm objcopy; do command -v "$tool" >/dev/null || lacks "$tool"; done
+    ;;
+*)
+    echo "usage: sh bench/run.sh [stack | beside OLD.a]" >&2
+    exit 2
+    ;;
+esac
+for archive in keeper listing_text run_table; do
+    [ -f "target/staticlib/lib$archive.a" ] || lacks "target/staticlib/lib$archive.a (make archives)"
+done
 rm -rf "$out"
 mkdir -p "$out/tables" "$out/callgrind"
-
-say() { echo "bench: $*" >&2; }
 
 say "building"
 cargo --quiet build --release --manifest-path tests/reference/Cargo.toml --target-dir target/cargo
@@ -17,18 +32,37 @@ for part in bench plain marking worklist; do
     gcc -std=gnu11 -Wall -Wextra -Werror -O3 -Iinclude -c -o "$out/$part.o" "bench/$part.c"
 done
 gcc -std=gnu11 -Wall -Wextra -Werror -O2 -o "$out/chain" bench/chain.c
-# The same code at four places: what is linked after a pad stands 16 bytes further for each 16 bytes of it.
+# An older archive's calls under other names.
+old=
+if [ "${1-}" = beside ]; then
+    nm -g --defined-only "$2" | awk 'NF == 3 { print $3, "old_" $3 }' >"$out/names"
+    for name in check_table recovery_line line_under stand_together fall_back keep_sheet; do
+        grep -q "^keeper_$name " "$out/names" || say "$2 has no keeper_$name: not compared"
+    done
+    objcopy --redefine-syms="$out/names" "$2" "$out/old.a"
+    old="-Wl,--undefined=old_keeper_check_table $out/old.a"
+fi
+# The same code at four places: what is linked after a pad stands 16 bytes further for each 16 bytes of it. Beside an
+# older archive it is two places, and either archive comes first at each: so two that are the same come out the same.
 place() {
     gcc -c -DPAD="$2" -o "$out/pad-c-$1.o" bench/pad.S
     gcc -c -DPAD="$3" -o "$out/pad-archive-$1.o" bench/pad.S
+    # shellcheck disable=SC2086 # several words
     gcc -o "$out/bench-$1" "$out/bench.o" "$out/pad-c-$1.o" "$out/plain.o" "$out/marking.o" "$out/worklist.o" "$out/pad-archive-$1.o" \
-        target/staticlib/libkeeper.a target/staticlib/liblisting_text.a target/staticlib/librun_table.a \
+        ${4-} target/staticlib/libkeeper.a $old target/staticlib/liblisting_text.a target/staticlib/librun_table.a \
         target/cargo/release/libpasses.a -lpthread -ldl -lm
 }
-place 1 0 0
-place 2 16 16
-place 3 32 48
-place 4 48 0
+if [ -n "$old" ]; then
+    place 1 0 0
+    place 2 0 0 "$old"
+    place 3 32 48
+    place 4 32 48 "$old"
+else
+    place 1 0 0
+    place 2 16 16
+    place 3 32 48
+    place 4 48 0
+fi
 
 # A row: its label, whether it is a history, looked at as closely, or other, kind, seed, N, M. A chain has no seed.
 row() {
@@ -84,6 +118,15 @@ fi
 
 say "comparing the answers"
 "$out/bench-1" compare "$out/rows"
+
+if [ "${1-}" = beside ]; then
+    for place in 1 2 3 4; do
+        say "measuring, $place of 4"
+        "$out/bench-$place" beside "$out/rows" "$out/figures-$place"
+    done
+    "$out/bench-1" ratios "$out/rows" "$out"/figures-[1-4]
+    exit 0
+fi
 
 if command -v valgrind >/dev/null 2>&1; then
     say "counting instructions"
