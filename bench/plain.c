@@ -7,9 +7,11 @@
 
 #define EVERYONE 0xFFFFFFFFu
 
-/* One pass: each orphan puts its receiver back. Answers whether there was one. Compiled once, so that it is the
-   same code wherever it is called. */
-__attribute__((noinline)) static int pass(uint16_t *line, struct parts t)
+/* Compiled once and apart: the code of a short loop, and its time, is then the same wherever it is called from. */
+#define APART __attribute__((noinline)) static
+
+/* One pass: each orphan puts its receiver back. Answers whether there was one. */
+APART int pass(uint16_t *line, struct parts t)
 {
     int lowered = 0;
     for (size_t k = t.m; k-- > 0;) {
@@ -64,8 +66,8 @@ static inline size_t behind_last(const uint8_t *sends, size_t k, size_t p)
 /* Lowers a line by following it from sender to sender. First from the last message on for all processes together,
    each until a message that it sent before the line; then for one process after another that was put back, from its
    cursor on. So nothing is left to lower where the send numbers of no sender fall with the position. Answers how many
-   messages were looked at; where nobody asks for it the compiler drops the count. */
-static inline size_t chase(uint16_t *line, struct parts t)
+   messages were looked at. */
+APART size_t chase(uint16_t *line, struct parts t)
 {
     struct chase c = {.height = 0};
     size_t k = t.m;
@@ -154,7 +156,7 @@ static inline void mark_propagating(bool *propagates, struct parts t)
 }
 
 /* The lines of single holders, for a sheet. Answers how many messages were looked at. */
-static inline size_t lines_of_holders(uint16_t *lines, struct parts t)
+APART size_t lines_of_holders(uint16_t *lines, struct parts t)
 {
     bool propagates[KEEPER_MOST_PROCESSES] = {false}, passes_settle = true;
     size_t looks = 0;
