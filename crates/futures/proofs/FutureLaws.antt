@@ -7,6 +7,7 @@
 --     still-there-count                a checkpoint that is still there is a checkpoint of the last table
 --     followed-in                      so is a message one of its messages, with the sender, send number and receiver that it had
 --     followed-order                   messages that are still there keep their order
+--     end-in-order, run-in-order       the messages of each sender stay in the order sent, and are so in a run that began without messages
 --     needs-checkpoint-now, needs-message-now            the empty future needs what the table's own recovery line needs
 --     survival-holds                   what is claimed of all that is still there holds in every table
 -- Assumes nothing.
@@ -23,19 +24,21 @@ use lib.Dec.{eqb}
 use lib.ListN.{length, take}
 use Rattle.consistency.specs.Ceilings.{recoveryLine}
 use Rattle.consistency.specs.Lines.{AtOrBelow, asLine}
+use Rattle.steps.proofs.SendOrderLaws.{nothing-sent, step-in-order}
 use Rattle.steps.proofs.StepLaws.{Receives, checkpoint-receives, putBack-receiver, putBack-sender, putBack-sent, receipt-receives, receipt-waiting}
 use Rattle.steps.proofs.StepLaws.{receivedAt-listed, receivedAt-unlisted, receives-message, receives-messages, rollback-count, rollback-message}
 use Rattle.steps.proofs.StepLaws.{putBack-after, putBack-before, rollback-order, stays-sent}
-use Rattle.steps.proofs.StepLaws.{rollback-place, send-count, send-message-new, send-message-old, send-messages, step-cases}
+use Rattle.steps.proofs.StepLaws.{rollback-place, send-count, send-message-new, send-message-old, send-messages, step-cases, step-well-formed}
 use Rattle.futures.specs.Futures.{FollowedTo, Future, NeedsCheckpoint, NeedsMessage, Place, StepKeeps, StillThere, at-position, endOf, gone, moved}
 use Rattle.futures.specs.Futures.{placeOf}
 use Rattle.futures.specs.Survival.{EachLine, NotBelow, SameMessage, SentBefore, Survival}
+use Rattle.steps.specs.SendOrder.{SentInOrder}
 use Rattle.steps.specs.Steps.{Step, afterCheckpoint, afterReceipt, afterRollback, afterSend, checkpoint, putBack, receiptChecks, receive, receivedAt}
 use Rattle.steps.specs.Steps.{remaining, rollback, send, sendChecks, stays, step}
 use Rattle.tables.proofs.FormatLaws.{known-process, message-beyond}
-use Rattle.tables.specs.Checks.{firstCaught}
+use Rattle.tables.specs.Checks.{WellFormed, firstCaught}
 use Rattle.tables.specs.Lists.{any}
-use Rattle.tables.specs.Table.{Message, Table, countOf, messageCount, messageOf}
+use Rattle.tables.specs.Table.{Message, Table, countOf, messageCount, messageOf, tableOf}
 
 -- ---- one step
 -- How a message goes on in a send, a receipt or a checkpoint: it is received at most once, and after every checkpoint that there was.
@@ -250,6 +253,16 @@ followed-order t (s ∷ rest) a b a′ b′ h l e f =
     let y = followed-first t s rest b b′ f in
     followed-order (step t s) rest (x .0) (y .0) a′ b′ (moved-order t s a b (x .0) (y .0) h l (x .1) (y .1))
     (moved-inside t s b (y .0) l (y .1)) (x .2) (y .2)
+
+-- ---- the order of a sender's messages
+pub end-in-order : (t : Table) → WellFormed t → SentInOrder t → (future : Future) → SentInOrder (endOf t future)
+unfolding endOf
+end-in-order t w o [] = o
+end-in-order t w o (s ∷ rest) = end-in-order (step t s) (step-well-formed t w s) (step-in-order t w o s) rest
+
+-- a run from its beginning: some checkpoints of each process, and no message yet
+pub run-in-order : (counts : List ℕ) → WellFormed (tableOf counts []) → (future : Future) → SentInOrder (endOf (tableOf counts []) future)
+run-in-order counts w = end-in-order (tableOf counts []) w (nothing-sent counts)
 
 -- ---- the empty future
 pub needs-checkpoint-now : (t : Table) (i c : ℕ) → NeedsCheckpoint t [] i c ↔ ((c < countOf t i) × (asLine (recoveryLine t) i ≡ c))

@@ -1,6 +1,6 @@
 -- Laws of the steps: what each one does, that each leaves a well formed table well formed, and that none puts the recovery line back.
 --     send-processes .. send-message-new, sent-since   the table after a send; its message was sent after the last checkpoint
---     send-each                                        what holds of the old messages and of the new one holds of all
+--     send-each, send-pairs                            what holds of the old messages and of the new one holds of all; of each two
 --     quiet-send, send-quiet                           what it means that nothing catches a send
 --     Waiting, waits-for .. waiting-position           the positions that a receipt or a checkpoint may list
 --     rising                                           the order of a list that is rising
@@ -92,6 +92,17 @@ module _ (t : Table) (j i : ℕ) where
       go (no b) =
           let last : k ≡ messageCount t = omega (arith, send-messages) in
           subst⁻¹ P (ap (messageOf (afterSend t j i)) last ∙ send-message-new) new
+
+  pub send-pairs : (R : Message → Message → Type 0) → ((q k : ℕ) → q < k → k < messageCount t → R (messageOf t q) (messageOf t k))
+      → ((q : ℕ) → q < messageCount t → R (messageOf t q) (newMessage t j i))
+      → (q k : ℕ) → q < k → k < messageCount (afterSend t j i) → R (messageOf (afterSend t j i) q) (messageOf (afterSend t j i) k)
+  send-pairs R old new q k before l = go (decLt k (messageCount t))
+    where
+      go : Dec (k < messageCount t) → R (messageOf (afterSend t j i) q) (messageOf (afterSend t j i) k)
+      go (yes b) = rw (send-message-old q (omega arith), send-message-old k b) (old q k before b)
+      go (no b) =
+          let last : k ≡ messageCount t = omega (arith, send-messages) in
+          rw (send-message-old q (omega arith), ap (messageOf (afterSend t j i)) last ∙ send-message-new) (new q (omega arith))
 
   pub quiet-send : firstCaught (sendChecks t j i) ≡ 0 → (j < processCount t) × (i < processCount t) × (j ≡ i → ⊥)
   unfolding sendChecks
@@ -679,21 +690,11 @@ module _ (m later : Message) (turn : Turn m later) where
 
 -- the new message waits, and was sent last
 send-in-turn : (t : Table) → Orderly t → (j i : ℕ) → ChannelsInTurn (afterSend t j i)
-send-in-turn t o j i q k before l = go (decLt k (messageCount t))
-  where
-    after : Table
-    after = afterSend t j i
-
-    newest : q < messageCount t → Turn (messageOf t q) (newMessage t j i)
-    newest b channel =
-        let sender : countOf t (messageOf t q .sender) ≡ countOf t j = ap (countOf t) (one-channel (messageOf t q) (newMessage t j i) channel .0) in
-        waiting-turn (messageOf t q) (newMessage t j i) (omega (arith, o .well-formed .good-messages q b .sent-below)) refl
-
-    go : Dec (k < messageCount t) → Turn (messageOf after q) (messageOf after k)
-    go (yes b) = rw (send-message-old t j i q (omega arith), send-message-old t j i k b) (o .in-turn q k before b)
-    go (no b) =
-        let last : k ≡ messageCount t = omega (arith, send-messages t j i) in
-        rw (send-message-old t j i q (omega arith), ap (messageOf after) last ∙ send-message-new t j i) (newest (omega arith))
+send-in-turn t o j i =
+    send-pairs t j i Turn (o .in-turn)
+    (λ q l channel.
+    let sender : countOf t (messageOf t q .sender) ≡ countOf t j = ap (countOf t) (one-channel (messageOf t q) (newMessage t j i) channel .0) in
+    waiting-turn (messageOf t q) (newMessage t j i) (omega (arith, o .well-formed .good-messages q l .sent-below)) refl)
 
 receives-in-turn : (t : Table) → Orderly t → (i : ℕ) (list : List ℕ) (t′ : Table) → Receives t i list t′
     → firstCaught (receiptChecks t i list) ≡ 0 → ChannelsInTurn t′
