@@ -18,12 +18,15 @@
 //! * `listing` - the text of the listing program, and the share in it
 //! * `gen`     - tables made by chance, by pattern and by enumeration; ceilings
 //!   and names
+//! * `passes`  - tables whose lines take many passes over the messages, and how
+//!   many
 
 pub mod futures;
 pub mod gen;
 pub mod lines;
 pub mod listing;
 pub mod marking;
+pub mod passes;
 pub mod sheet;
 pub mod steps;
 pub mod table;

@@ -6,7 +6,8 @@
 //! What a name promises is checked before anything is written: `refused_N_...`
 //! is refused with N and nothing else is refused (the cases of the document and
 //! what is accepted since document 02, §4, apart), `share_N_...` ends in that
-//! share, `..._of_V_by_K_of_S` keeps K of S states, which is V percent, and the
+//! share, `..._of_V_by_K_of_S` keeps K of S states, which is V percent, the lines
+//! of `passes_...` take as many passes over the messages as it says, and the
 //! document's own cases, the first ones with unsaved messages, those of zigzag
 //! paths and those of channels have the texts that were worked out by hand from
 //! the documents. `refused_23_NAME` is what NAME was before document 02, §7, where
@@ -16,8 +17,9 @@ use std::collections::BTreeSet;
 use std::path::Path;
 use std::process::ExitCode;
 
-use reference::gen::{self, Rng};
+use reference::gen::{self, Order, Rng};
 use reference::lines::{ceiling, hold_lines, line_by_enumeration, single_holder};
+use reference::passes::{self, beside, lifted, passes_of_holders, passes_of_run, sends_fall};
 use reference::steps::do_fall_back;
 use reference::table::MOST_BYTES;
 use reference::{listing, messages, processes, Message, Table};
@@ -1445,6 +1447,107 @@ fn by_chance(list: &mut Vec<Named>) {
 }
 
 // ---------------------------------------------------------------------------
+// Many passes.
+
+/// A domino of two processes by sender, down to 3 3: half as many passes as
+/// messages, and two.
+fn by_sender(m: usize) -> Table {
+    lifted(gen::domino_chain(&mut Rng::new(1), m, Order::BySender), 3)
+}
+
+/// A ring in which every holder puts the others back, down to 1.
+fn ring_of_all(n: usize, m: usize, order: Order) -> Table {
+    let ring = gen::ring_domino(&mut Rng::new(1), n, m, order);
+    lifted(passes::all_have_sent(ring), 1)
+}
+
+/// Tables whose lines take ten passes over the messages, eleven, twelve and many:
+/// whoever tries ten and then something else has to end with the same lines.
+/// `_of_holders_` says the passes of the line of each, 0 where nobody else is put
+/// back. Where a name has `falling`, the send numbers of a sender fall.
+fn many_passes(list: &mut Vec<Named>) {
+    let mut add = |name: &str, table: Table| add(list, name, table.to_bytes());
+    // The boundary: the tenth pass lowers nothing, it lowers the last, and one is
+    // left behind it.
+    add("passes_10_domino_by_sender", by_sender(16));
+    add("passes_11_domino_by_sender", by_sender(18));
+    add("passes_12_domino_by_sender", by_sender(20));
+    // Of senders with one receiver, and with several.
+    add(
+        "passes_12_sixteen_dominoes_by_sender",
+        beside(&vec![by_sender(20); 16]),
+    );
+    add(
+        "passes_23_ring_in_the_order_of_sending_of_holders_26_26_25_24_23",
+        ring_of_all(5, 40, Order::Time),
+    );
+    add(
+        "passes_30_ring_by_sender_of_holders_34_33_32_31_30",
+        ring_of_all(5, 40, Order::BySender),
+    );
+    add(
+        "passes_32_chain_by_sender",
+        lifted(passes::by_sender(passes::chain(5, 60)), 2),
+    );
+    // Numbers that fall along the chain.
+    add(
+        "passes_17_falling_chain_of_three",
+        lifted(passes::chain(3, 18), 1),
+    );
+    add(
+        "passes_40_falling_chain_of_five",
+        lifted(passes::chain(5, 40), 2),
+    );
+    // Lines of many passes and of few on one sheet, and holders between them from
+    // whom no pass is needed.
+    let few = || gen::domino_chain(&mut Rng::new(1), 4, Order::Time);
+    let falling = passes::falling_pair;
+    add(
+        "passes_of_holders_12_0_2_0",
+        beside(&[by_sender(20), few()]),
+    );
+    add(
+        "passes_of_holders_2_0_12_0",
+        beside(&[few(), by_sender(20)]),
+    );
+    add(
+        "passes_of_holders_2_0_12_0_2_0",
+        beside(&[few(), by_sender(20), few()]),
+    );
+    for m in [16, 18, 20] {
+        let first = m / 2 + 2;
+        add(
+            &format!("passes_of_holders_{first}_0_2_0_0_falling_behind_it"),
+            beside(&[by_sender(m), falling()]),
+        );
+    }
+    add(
+        "passes_of_holders_2_0_0_12_0_2_0_0_falling_round_it",
+        beside(&[falling(), by_sender(20), falling()]),
+    );
+    add(
+        "passes_of_holders_17_0_0_2_0_0_2_0_falling",
+        beside(&[passes::chain(3, 18), falling(), few()]),
+    );
+}
+
+/// `passes_P_..._of_holders_P_P...`: stops unless the recovery line and the lines of
+/// the single holders take as many passes, and unless a name with `falling` is that
+/// of a table in which the numbers of a sender fall.
+fn promised_passes(name: &str, bytes: &[u8]) {
+    let table = Table::read(bytes).expect("a table with passes");
+    let number = |word: &str| word.parse::<usize>().ok();
+    if let Some(told) = name.split('_').nth(1).and_then(number) {
+        assert_eq!(passes_of_run(&table), told, "{name}");
+    }
+    if let Some((_, back)) = name.split_once("of_holders_") {
+        let told: Vec<usize> = back.split('_').map_while(number).collect();
+        assert_eq!(passes_of_holders(&table), told, "{name}");
+    }
+    assert_eq!(sends_fall(&table), name.contains("falling"), "{name}");
+}
+
+// ---------------------------------------------------------------------------
 // All of it.
 
 /// All entries: name, table, expected text.
@@ -1462,6 +1565,7 @@ fn corpus() -> Vec<(String, Vec<u8>, String)> {
     digits(&mut list);
     largest(&mut list);
     by_chance(&mut list);
+    many_passes(&mut list);
     let mut all = Vec::new();
     let by_hand = [of_the_document(), of_unsaved(), of_zigzag(), of_channels()];
     for (name, bytes, text) in by_hand.into_iter().flatten() {
@@ -1490,6 +1594,7 @@ fn promised(name: &str, bytes: &[u8], text: &str) {
             assert!(text.ends_with(&format!("\nshare {number}\n")), "{name}");
             promised_value(name, bytes, text);
         }
+        Some("passes") => promised_passes(name, bytes),
         _ => assert!(text.starts_with("line "), "{name}: {text}"),
     }
 }
