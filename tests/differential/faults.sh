@@ -3,9 +3,10 @@
 #
 # Shows that the comparisons can fail. The model of the fuzzer (fuzz/model.c) stands in the library's place: as
 # it is, with which all must agree, and then with one fault of faults.txt at a time; with a PATTERN, as grep takes
-# it, those alone in whose names it is. The differential tests (CALLS calls) must find each fault; what small
-# scopes and the replay of the fuzzer's inputs say is printed too. Needs gcc, cargo and the archives. All the
-# model's calls stand in one archive, which has both names.
+# it, those alone in whose names it is. The differential tests (CALLS calls) must find each fault, and the listings of
+# the corpus each of passes, but for that of ceilings, which no listing takes; what small scopes, the replay of the
+# fuzzer's inputs and the corpus say is printed of all. Needs gcc, cargo and the archives. All the model's calls stand
+# in one archive, which has both names.
 set -u
 calls=${1:-100000}
 pattern=${2:-.}
@@ -19,7 +20,7 @@ cp target/staticlib/librun_table.a "$work/"
 
 # add NUMBER: the model in $work/model.c with the names of that fault.
 add() {
-    gcc -std=c11 -w -O2 -DPREFIX=fault$1_ -Ifuzz -Iinclude -c -o "$work/fault$1.o" "$work/model.c" || exit 1
+    gcc -std=c11 -w -O2 -DPREFIX=fault$1_ -Ifuzz -Iinclude -Itests/differential -c -o "$work/fault$1.o" "$work/model.c" || exit 1
     echo "FAULT($1)" >>"$work/faults.inc"
 }
 
@@ -39,7 +40,8 @@ done <"$work/faults.txt"
 gcc -std=c11 -Wall -Wextra -Werror -O2 -Iinclude -I"$work" -c -o "$work/faults.o" tests/differential/faults.c &&
 ar rcs "$work/libkeeper.a" "$work"/*.o && cp "$work/libkeeper.a" "$work/liblisting_text.a" &&
 (cd tests/differential && KEEPER_LIB_DIR=$work cargo --quiet build --release --target-dir "$work/cargo") &&
-gcc -std=c11 -O2 -Iinclude -o "$work/replay" fuzz/replay.c fuzz/target.c fuzz/model.c "$work/libkeeper.a" || exit 1
+gcc -std=c11 -O2 -Iinclude -o "$work/replay" fuzz/replay.c fuzz/target.c fuzz/model.c "$work/libkeeper.a" &&
+gcc -std=c11 -Wall -Wextra -Werror -O2 -Iinclude -o "$work/listing" tests/differential/listing.c "$work/liblisting_text.a" || exit 1
 
 # verdict COMMAND: a fault may make a call that never ends; that is found too.
 verdict() {
@@ -58,6 +60,7 @@ of_scopes() {
 export FAULT=0
 "$work/cargo/release/calls" "$calls" >"$work/log" || { cat "$work/log"; exit 1; }
 "$work/replay" fuzz/corpus/* >"$work/log" || { cat "$work/log"; exit 1; }
+sh tests/corpus/run.sh "$work/listing" >"$work/log" || { cat "$work/log"; exit 1; }
 test "$(of_scopes)" = agrees || { cat "$work/log"; exit 1; }
 echo "with no fault: the model agrees with the second implementation ($calls calls, and small scopes)"
 missed=0
@@ -67,10 +70,16 @@ while IFS='|' read -r name edit; do
     export FAULT=$number
     by_scopes=$(of_scopes)
     by_replay=$(verdict "$work/replay" fuzz/corpus/*)
+    by_corpus=$(verdict sh tests/corpus/run.sh "$work/listing")
     by_calls=$(verdict "$work/cargo/release/calls" "$calls")
     after=$(sed -n 's/^FAILED after \([0-9]*\) calls.*/\1/p' "$work/log")
-    echo "$name: calls: $by_calls${after:+ after $after}; scopes lines, under, marked, stand and steps 3 2 2, listing 8 1: $by_scopes; replay: $by_replay"
-    test "$by_calls" = found || missed=$((missed + 1))
+    echo "$name: calls: $by_calls${after:+ after $after}; scopes lines, under, marked, stand and steps 3 2 2, listing 8 1: $by_scopes; replay: $by_replay; corpus: $by_corpus"
+    must=$by_calls
+    case $name in
+        'passes: under ceilings'*) ;;
+        passes:*) test "$by_corpus" = found || must=agrees ;;
+    esac
+    test "$must" = found || missed=$((missed + 1))
 done <"$work/faults.txt"
-echo "$number faults, $missed not found by the differential tests"
+echo "$number faults, $missed not found by the tests that must find them"
 test "$missed" -eq 0

@@ -14,6 +14,7 @@ use reference::gen::Rng;
 use reference::Outcome;
 
 use crate::lend::{Element, Lent};
+use crate::passes::Passes;
 use crate::share::{self, ROUNDINGS};
 use crate::show;
 
@@ -493,6 +494,8 @@ pub struct Comparison {
     pub shares: [u64; ROUNDINGS.len()],
     /// How often named states can't stand together, and how often they can.
     pub stands: [u64; STANDS.len()],
+    /// How many passes the lines of the tables by chance take.
+    pub passes: Passes,
 }
 
 /// The two answers to whether named states stand together.
@@ -676,8 +679,9 @@ impl Comparison {
     }
 
     /// What the numbers of the calls made, and the checks of each call, have
-    /// without the other; the ways to round a share that were not met; and the
-    /// answers to whether named states stand together that were not met.
+    /// without the other; the ways to round a share that were not met; the
+    /// answers to whether named states stand together that were not met; and the
+    /// lines that too few tables by chance had.
     pub fn strays(&self) -> Vec<String> {
         let mut strays = Vec::new();
         for (place, name) in NAMES.iter().enumerate() {
@@ -706,6 +710,7 @@ impl Comparison {
                 strays.push(format!("no named states were told {answer}"));
             }
         }
+        strays.extend(self.passes.strays());
         strays
     }
 
@@ -717,7 +722,7 @@ impl Comparison {
     }
 
     /// The calls by name and number, a line for each name; then how often named
-    /// states stand together, and the shares.
+    /// states stand together, the shares, and the passes of lines.
     pub fn report(&self) -> String {
         let mut text = String::new();
         for (place, name) in NAMES.iter().enumerate() {
@@ -729,6 +734,7 @@ impl Comparison {
         }
         let [no, yes] = self.stands;
         text += &format!("named states that stand together: no: {no}, yes: {yes}\n");
-        text + &format!("shares of listings: {}\n", share::report(&self.shares))
+        text += &format!("shares of listings: {}\n", share::report(&self.shares));
+        text + &format!("lines by chance, {}\n", self.passes.report())
     }
 }

@@ -3,6 +3,7 @@
 use keeper::LISTING_ROOM;
 use reference::gen::{self, Fault, Order, Rng};
 use reference::marking::mark_bytes;
+use reference::passes;
 use reference::table::{MOST_MESSAGES, MOST_STATES};
 use reference::{Message, Outcome, Table, TABLE_CHECKS};
 
@@ -10,23 +11,25 @@ use crate::compare::{Call, Comparison, Difference};
 
 /// The kinds of tables, each with the number of rounds out of a hundred that
 /// it gets.
-const KINDS: [(&str, usize); 22] = [
-    ("small history", 10),
+const KINDS: [(&str, usize); 24] = [
+    ("small history", 9),
     ("history", 8),
-    ("small arbitrary", 11),
-    ("arbitrary", 7),
+    ("small arbitrary", 9),
+    ("arbitrary", 6),
     ("clustered", 5),
     ("unsaved", 4),
-    ("waiting", 9),
-    ("domino", 4),
+    ("waiting", 8),
+    ("domino", 3),
     ("ring", 3),
+    ("many passes", 4),
+    ("falling sends", 4),
     ("staircase", 2),
     ("many waiting", 2),
     ("many unsaved", 2),
     ("full", 1),
-    ("random body", 4),
+    ("random body", 3),
     ("random bytes", 3),
-    ("damaged", 7),
+    ("damaged", 6),
     ("damaged more than once", 6),
     ("damaged after the last check", 2),
     ("a few bytes changed", 3),
@@ -124,6 +127,20 @@ fn with_numbers(rng: &mut Rng, kind: &str) -> Table {
             let order = Order::ALL[rng.between(0, 5)];
             gen::ring_domino(rng, n, m, order)
         }
+        "many passes" => {
+            let many = rng.between(1, 3);
+            let mut parts = vec![long(rng)];
+            parts.resize_with(many, || part(rng));
+            side_by_side(rng, parts)
+        }
+        "falling sends" => {
+            // Behind a long part, before it or among it.
+            let mut parts = vec![long(rng), falling(rng)];
+            if rng.chance(1, 2) {
+                parts.push(part(rng));
+            }
+            side_by_side(rng, parts)
+        }
         "staircase" => {
             let n = rng.between(1, 32);
             let count = n + 1 + rng.between(0, 8);
@@ -176,6 +193,62 @@ fn with_numbers(rng: &mut Rng, kind: &str) -> Table {
             table
         }
         _ => unreachable!("{kind} is no kind of accepted table"),
+    }
+}
+
+/// A table whose lines take many passes over the messages, or nearly so many, and in
+/// which no sender's numbers fall.
+fn long(rng: &mut Rng) -> Table {
+    match rng.between(0, 3) {
+        // From eight passes to fourteen.
+        0 | 1 => {
+            let order = [Order::BySender, Order::RoundsAlong][rng.between(0, 1)];
+            let m = rng.between(12, 25);
+            gen::domino_chain(rng, m, order)
+        }
+        2 => {
+            let (n, m) = (rng.between(2, 6), rng.between(20, 60));
+            let order = Order::ALL[rng.between(0, Order::ALL.len() - 1)];
+            passes::all_have_sent(gen::ring_domino(rng, n, m, order))
+        }
+        _ => {
+            let (n, m) = (rng.between(3, 5), rng.between(16, 60));
+            passes::by_sender(passes::chain(n, m))
+        }
+    }
+}
+
+/// A table in which a sender's numbers fall, so that passes alone find its lines: many
+/// of them, or few.
+fn falling(rng: &mut Rng) -> Table {
+    if rng.chance(1, 2) {
+        return passes::falling_pair();
+    }
+    let (n, m) = (rng.between(3, 5), rng.between(6, 50));
+    passes::chain(n, m)
+}
+
+/// A part of a table: long, or of few messages.
+fn part(rng: &mut Rng) -> Table {
+    if rng.chance(1, 3) {
+        return long(rng);
+    }
+    let (n, m) = (rng.between(1, 4), rng.between(0, 8));
+    gen::history(rng, n, m)
+}
+
+/// The parts as one table, in any order, one's messages behind another's or among
+/// them. The lines of each stop above 0, or at it.
+fn side_by_side(rng: &mut Rng, mut parts: Vec<Table>) -> Table {
+    rng.shuffle(&mut parts);
+    for part in &mut parts {
+        let states = rng.between(0, 3) as u32;
+        *part = passes::lifted(part.clone(), states);
+    }
+    if rng.chance(1, 2) {
+        passes::among(rng, &parts)
+    } else {
+        passes::beside(&parts)
     }
 }
 

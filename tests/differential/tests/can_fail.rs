@@ -3,8 +3,10 @@
 
 use differential::compare::{against_line_under, checks_of, Call, Comparison, NAMES, STANDS};
 use differential::lend::Lent;
+use differential::passes::LINES;
 use differential::share::ROUNDINGS;
-use reference::gen::{arbitrary, Rng};
+use reference::gen::{arbitrary, domino_chain, Order, Rng};
+use reference::passes::{beside, falling_pair};
 use reference::{Message, Outcome, Table, TABLE_CHECKS};
 
 fn example_a() -> Table {
@@ -642,6 +644,40 @@ fn the_answers_to_names_are_counted() {
         assert!(comparison.call(rng, "example A", bytes, &call).is_ok());
     }
     assert_eq!(comparison.stands, [2, 1]);
+}
+
+/// Lines that too few tables by chance have count, once there are many tables.
+#[test]
+fn the_passes_of_lines_count() {
+    let by_sender = |m: usize| domino_chain(&mut Rng::new(1), m, Order::BySender);
+    // Lines of nine passes; of ten; of eleven, with numbers that fall behind it, and
+    // before it; of twelve with another behind it; and a table that is refused.
+    let mut comparison = all_met();
+    for table in [
+        by_sender(14),
+        by_sender(16),
+        beside(&[by_sender(18), falling_pair()]),
+        beside(&[falling_pair(), by_sender(18)]),
+        beside(&[by_sender(20), by_sender(4)]),
+    ] {
+        comparison.passes.add(&table.to_bytes());
+    }
+    comparison.passes.add(&[0; 3]);
+    assert_eq!(comparison.passes.accepted, 5);
+    assert_eq!(comparison.passes.times, [3, 1, 2, 2, 1]);
+    for (place, (kind, share)) in LINES.iter().enumerate() {
+        let mut comparison = all_met();
+        comparison.passes.times = LINES.map(|(_, share)| 2 * share);
+        comparison.passes.times[place] = 2 * share - 1;
+        comparison.passes.accepted = 999;
+        assert_eq!(comparison.strays(), [""; 0]);
+        comparison.passes.accepted = 2_000;
+        let [stray] = &comparison.strays()[..] else {
+            panic!("{kind}: one of them");
+        };
+        let wanted = format!("fewer than {share} of 1,000 tables have lines of {kind}: ");
+        assert!(stray.starts_with(&wanted), "{stray}");
+    }
 }
 
 /// An outcome of another table is seen.

@@ -10,6 +10,7 @@ use differential::compare::{Call, Comparison, Difference};
 use differential::{make, share};
 use reference::gen::{self, Fault, Order, Rng};
 use reference::marking::mark_bytes;
+use reference::passes;
 use reference::{Message, Outcome, Table, TABLE_CHECKS};
 
 const CALLS: u64 = 450_000;
@@ -46,6 +47,14 @@ fn limits(comparison: &mut Comparison, seed: u64) -> Result<(), Box<Difference>>
         tables.push(gen::domino_chain(rng, 1_500, order));
         tables.push(gen::ring_domino(rng, 7, 1_000, order));
     }
+    // A ring in which every holder puts the others back, and chains through all
+    // channels: by sender, with send numbers that fall, and with such behind it.
+    let ring = gen::ring_domino(rng, 7, 1_000, Order::Time);
+    tables.push(passes::all_have_sent(ring));
+    let chain = passes::by_sender(passes::chain(5, 1_000));
+    tables.push(passes::beside(&[chain.clone(), passes::falling_pair()]));
+    tables.push(chain);
+    tables.push(passes::chain(5, 1_000));
     for (number, table) in tables.iter().enumerate() {
         let made_by = format!("limits, seed {seed}, table {number}");
         let bytes = table.to_bytes();
@@ -807,7 +816,7 @@ fn run(comparison: &mut Comparison, calls: u64, seed: u64) -> Result<(), Box<Dif
         done = total;
     };
     limits(comparison, seed)?;
-    part(comparison, "limits and long dominoes");
+    part(comparison, "limits, long dominoes and chains");
     truncations(comparison, seed + 1)?;
     part(comparison, "every truncation");
     bounds(comparison, seed + 5)?;
@@ -831,6 +840,7 @@ fn run(comparison: &mut Comparison, calls: u64, seed: u64) -> Result<(), Box<Dif
     while comparison.total() < calls || round < LEAST_TABLES {
         let rng = &mut Rng::new(seed.wrapping_mul(0x1_0000_0001).wrapping_add(round));
         let (kind, bytes) = make::table(rng);
+        comparison.passes.add(&bytes);
         let made_by = format!("round {round} of seed {seed}, a table of the kind '{kind}'");
         make::battery(comparison, rng, &made_by, &bytes, bytes.len() > 8_000)?;
         round += 1;
