@@ -5,7 +5,6 @@
 --     sweep-lowers                  an orphan puts its receiver back
 -- Assumes nothing.
 use mathlib.Core.List.{List}
-use mathlib.Core.Path.{_≡_}
 use Prim.Native.Nat.{ℕ, _+_, _-_, _≤_, _<_}
 use native.Mathlib.Omega.{arith}
 use lib.ListN.{getD, set}
@@ -47,14 +46,14 @@ module _ {m : ℕ} {sends receipts start line cursors : List ℕ} {stopped k : �
       within = omega (arith, w .within, more);
     }
 
-    pub sweep-lowers : {j y i r : ℕ} → MessageRead m sends receipts k j y i r → (r ≡ 0 → ⊥) → getD line j 0 ≤ y → r ≤ getD line i 0
+    pub sweep-lowers : {j y i r : ℕ} → MessageRead m sends receipts k j y i r → 0 < r → getD line j 0 ≤ y → r ≤ getD line i 0
         → Sweeps m sends receipts start (set line i (r - 1)) cursors stopped (k - 1)
-    sweep-lowers {j} {y} {i} {r} x delivered s b = record {
+    sweep-lowers {j} {y} {i} {r} x d s b = record {
       given = w .given;
       down =
           down-more (w .down)
           (down-put-back line (k - 1) (record { sender = j; sent = y; receiver = i; received = r }) (message-is x)
-          (record { delivered = omega (arith, delivered); sent-after = s; received-before = b }));
+          (record { delivered = d; sent-after = s; received-before = b }));
       placed = w .placed;
       within = omega (arith, w .within);
     }

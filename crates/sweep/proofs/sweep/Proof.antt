@@ -112,7 +112,7 @@ sweep-spec =
     (λ c. omega arith)
     (λ c.
     let here = turn (looked (own (c .before .before) .before)) in
-    sweep-lowers (here .before .sweep .inv) (here .sweep-test .taken) (read (c .before .before)) (c .before .if4 .left)
+    sweep-lowers (here .before .sweep .inv) (here .sweep-test .taken) (read (c .before .before)) (omega (arith, c .before .if4 .left))
     (own (c .before .before) .if2 .left) (c .if5 .left))
     (λ c. (c .before .sweep .inv .down, c .before .sweep .inv .placed))
     -- all have stopped
