@@ -67,13 +67,13 @@ pub record Chases (m : ℕ) (sends receipts start cursors line stack : List ℕ)
   pub room : height + idle stacked ≤ mostProcesses
 
 -- at first every process is on the stack
-pub chase-begins : {n m : ℕ} {sends receipts cursors : List ℕ} (start : List ℕ) → Messages mostProcesses m sends receipts → n ≤ mostProcesses
-    → Placed m cursors → Chases m sends receipts start cursors start (tabulate 32 (λ h. h)) (tabulate 32 (λ _. true)) n
-chase-begins start given few placed = record {
+pub chase-begins : {n m : ℕ} {sends receipts cursors stack : List ℕ} (start : List ℕ) → Messages mostProcesses m sends receipts → n ≤ mostProcesses
+    → Placed m cursors → stack ≡ tabulate 32 (λ p. p) → Chases m sends receipts start cursors start stack (tabulate 32 (λ _. true)) n
+chase-begins start given few placed all = record {
   given = given;
   down = down-none start;
   placed = placed;
-  known = every-tabulate (λ p. p < mostProcesses) 32 (λ h. h) (omega arith) (λ _ l. l);
+  known = rw all (every-tabulate (λ p. p < mostProcesses) 32 (λ p. p) (omega arith) (λ _ l. l));
   flags = length-tabulate 32 (λ _. true);
   room = omega (arith, none-idle, few);
 }

@@ -5,6 +5,7 @@ ghost use Prim.Native.Nat.{_*_, _-_, _≤_, _<_};
 ghost use lib.ListN.{length};
 ghost use Rattle.sweep.specs.Cursors.{Placed};
 ghost use Rattle.lowering.specs.Lowered.{BroughtDown, messagesOf};
+ghost use Rattle.tables.specs.Lists.{tabulate};
 ghost use Rattle.tables.specs.Numbers.{u16At};
 ghost use Rattle.tables.specs.Parts.{Messages};
 ghost use Rattle.tables.specs.Table.{mostProcesses};
@@ -36,6 +37,19 @@ fn last_sent(sends: &[u8], p: usize, k: usize) -> usize
     0
 }
 
+// Each process at its own place.
+fn every_process() -> [u16; 32]
+    ensures { λ r. ⌜ r ≡ tabulate 32 (λ p. p) ⌝ }
+{
+    let mut all = [0u16; 32];
+    let mut p = 0;
+    while p < 32 {
+        all[p] = p as u16;
+        p += 1;
+    }
+    all
+}
+
 // A start, brought down by the m messages of a part of sends and a part of receipts, from the cursors of n
 // processes. On the stack are those whose line may have fallen since they last went back: at first all.
 pub fn go_back(
@@ -53,40 +67,7 @@ pub fn go_back(
 {
     let mut line = start;
     let mut cursors = places;
-    let mut stack: [u16; 32] = [
-        0,
-        1,
-        2,
-        3,
-        4,
-        5,
-        6,
-        7,
-        8,
-        9,
-        10,
-        11,
-        12,
-        13,
-        14,
-        15,
-        16,
-        17,
-        18,
-        19,
-        20,
-        21,
-        22,
-        23,
-        24,
-        25,
-        26,
-        27,
-        28,
-        29,
-        30,
-        31,
-    ];
+    let mut stack = every_process();
     let mut stacked = [true; 32];
     let mut height = n;
     'chase: while 0 < height {

@@ -3,6 +3,7 @@
 -- leaves it, and none is put there but the line falls. The invariant of a process that goes back: the same from its line then, with that
 -- measure no higher, and it stands at a message of its own. The measure is its position.
 -- Assumes nothing.
+use borrow.Author.Needs.{needs}
 use native.Mathlib.Omega.{arith}
 use mathlib.Core.Path.{sym}
 use denote.Ref.{now}
@@ -31,7 +32,7 @@ abbrev μ-chase : tie.MeasureT-chase
 -- ---- the places: the entry, from a turn of the chase; that, from a process that goes back; there, from where its message was sent after the
 -- line, and from where all of the message was read and the next one found
 abbrev entry : tie.In-chase Inv-back μ-back Inv-chase μ-chase → tie.Start Inv-back μ-back Inv-chase μ-chase
-entry c = c .before .before .before .before
+entry c = c .before .before .before .before .before
 
 abbrev turn : tie.In-back Inv-back μ-back Inv-chase μ-chase → tie.In-chase Inv-back μ-back Inv-chase μ-chase
 turn c = c .before .before .before
@@ -93,7 +94,10 @@ go-back-spec =
     μ-back
     Inv-chase
     μ-chase
-    (λ c. chase-begins _ (c .before .before .pre .0) (c .before .before .pre .1 .0) (c .before .before .pre .1 .1))
+    (λ c κs. search needs)
+    (λ c.
+    let asked = c .before .before .before .pre in
+    chase-begins _ (asked .0) (asked .1 .0) (asked .1 .1) (c .every-process .ensures))
     -- a process leaves the stack
     (λ c. omega arith)
     (λ c. omega (arith, c .before .chase .inv .room))
