@@ -5,7 +5,6 @@ pub mod scratch;
 
 use lines::ceiling_of_set;
 use lines::settled_line;
-use lowering::few::Lowered;
 use number_writer::store_numbers;
 use process_set::bit;
 use tables::parts;
@@ -37,20 +36,17 @@ pub fn propagating(table: &[u8]) -> [bool; 32]
 }
 
 // The line of process k alone in an accepted table. Where a rollback of k does not propagate, it is the
-// ceiling, and nothing is looked at. A few passes are tried first where `few` says so; the result says
-// whether they may be tried again.
-pub fn line_of_holder(table: &[u8], k: usize, propagates: bool, few: bool) -> Lowered
+// ceiling, and nothing is looked at. Else a few passes are tried first where `few` says so, and it says
+// afterwards whether they settled the line.
+pub fn line_of_holder(table: &[u8], k: usize, propagates: bool, few: &mut bool) -> [u16; 32]
     requires { ⌜ tableRefusal (now table) ≡ 0 ⌝ }
     requires { ⌜ k < 32 ⌝ }
     requires { ⌜ propagates ≡ propagatesFrom (decode (now table)) k ⌝ }
-    ensures { λ r. ⌜ r .line ≡ arrayOf (lineOf (decode (now (table .entry))) (member (2 ^ k))) ⌝ }
+    ensures { λ r. ⌜ r ≡ arrayOf (lineOf (decode (now (table .entry))) (member (2 ^ k))) ⌝ }
 {
     let ceiling = ceiling_of_set(table, bit(k));
     if !propagates {
-        return Lowered {
-            line: ceiling,
-            settled: few,
-        };
+        return ceiling;
     }
     settled_line(table, ceiling, few)
 }
@@ -69,9 +65,7 @@ pub fn fill_lines(table: &[u8], scratch: &mut [u16])
     let mut at = 0;
     let mut k = 0;
     while k < n {
-        let found = line_of_holder(table, k, propagates[k], few);
-        few = found.settled;
-        let line = found.line;
+        let line = line_of_holder(table, k, propagates[k], &mut few);
         store_numbers(scratch, at, &line[..n]);
         at += n;
         k += 1;

@@ -3,7 +3,6 @@
 pub mod ceilings;
 pub mod settling;
 
-use lowering::few::Lowered;
 use number_writer::put_numbers;
 use settling::settle;
 use tables::parts;
@@ -19,11 +18,11 @@ ghost use Rattle.tables.specs.Format.{decode};
 ghost use Rattle.tables.specs.Numbers.{putAt, u16s};
 ghost use Rattle.tables.specs.Table.{processCount};
 
-// The line under a ceiling in an accepted table. A few passes are tried first where `few` says so; the
-// result says whether they settled the line.
-pub fn settled_line(table: &[u8], ceiling: [u16; 32], few: bool) -> Lowered
+// The line under a ceiling in an accepted table. A few passes are tried first where `few` says so; it
+// says afterwards whether they settled the line.
+pub fn settled_line(table: &[u8], ceiling: [u16; 32], few: &mut bool) -> [u16; 32]
     requires { ⌜ tableRefusal (now table) ≡ 0 ⌝ }
-    ensures { λ r. ⌜ r .line ≡ lineUnder (decode (now (table .entry)) .messages) ceiling ⌝ }
+    ensures { λ r. ⌜ r ≡ lineUnder (decode (now (table .entry)) .messages) ceiling ⌝ }
 {
     let n = parts::process_count(table);
     let m = parts::message_count(table);
@@ -42,8 +41,8 @@ pub fn line_under(table: &[u8], ceiling: [u16; 32]) -> [u16; 32]
     requires { ⌜ tableRefusal (now table) ≡ 0 ⌝ }
     ensures { λ r. ⌜ r ≡ lineUnder (decode (now (table .entry)) .messages) ceiling ⌝ }
 {
-    let found = settled_line(table, ceiling, true);
-    found.line
+    let mut few = true;
+    settled_line(table, ceiling, &mut few)
 }
 
 // The ceiling of a set in an accepted table.

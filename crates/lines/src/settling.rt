@@ -1,7 +1,6 @@
 // Lines settled by the messages of two parts of a table: by a few passes, and where these are not enough, by
 // a chase and then passes to the end.
 use chase::chase;
-use lowering::few::Lowered;
 use lowering::few::few_passes;
 use lowering::passes::lower;
 ghost use mathlib.Core.Path.{_≡_};
@@ -21,34 +20,22 @@ fn chase_and_lower(start: [u16; 32], n: usize, sends: &[u8], receipts: &[u8], m:
 }
 
 // The line under a ceiling, of the m messages between n processes. A few passes are tried first where
-// `few` says so; the result says whether they settled the line.
+// `few` says so; it says afterwards whether they settled the line.
 pub fn settle(
     ceiling: [u16; 32],
     n: usize,
     sends: &[u8],
     receipts: &[u8],
     m: usize,
-    few: bool,
-) -> Lowered
+    few: &mut bool,
+) -> [u16; 32]
     requires { ⌜ Messages mostProcesses m (now sends) (now receipts) ⌝ }
     requires { ⌜ n ≤ mostProcesses ⌝ }
-    ensures { λ r. ⌜ r .line ≡ lineUnder (messagesOf m (now (sends .entry)) (now (receipts .entry))) ceiling ⌝ }
+    ensures { λ r. ⌜ r ≡ lineUnder (messagesOf m (now (sends .entry)) (now (receipts .entry))) ceiling ⌝ }
 {
-    if !few {
-        let line = chase_and_lower(ceiling, n, sends, receipts, m);
-        return Lowered {
-            line,
-            settled: false,
-        };
+    let line = few_passes(ceiling, n, sends, receipts, m, few);
+    if *few {
+        return line;
     }
-    let tried = few_passes(ceiling, n, sends, receipts, m);
-    if tried.settled {
-        return tried;
-    }
-    let start = tried.line;
-    let line = chase_and_lower(start, n, sends, receipts, m);
-    Lowered {
-        line,
-        settled: false,
-    }
+    chase_and_lower(line, n, sends, receipts, m)
 }

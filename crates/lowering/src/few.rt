@@ -8,23 +8,29 @@ ghost use Rattle.lowering.specs.Lowered.{BroughtDown, messagesOf};
 ghost use Rattle.tables.specs.Parts.{Messages};
 ghost use Rattle.tables.specs.Table.{mostProcesses};
 
-// A line that was brought down, and whether the last pass over the messages found no orphan.
-pub struct Lowered {
-    pub line: [u16; 32],
-    pub settled: bool,
-}
-
 // A ceiling, brought down by a few passes over the m messages of a part of sends and a part of receipts
-// between n processes: as many as cost about what a chase does, and ten at most.
-pub fn few_passes(ceiling: [u16; 32], n: usize, sends: &[u8], receipts: &[u8], m: usize) -> Lowered
+// between n processes: as many as cost about what a chase does, ten at most, and none where `few` says that
+// they are not worth a try. It says afterwards whether they settled the line.
+pub fn few_passes(
+    ceiling: [u16; 32],
+    n: usize,
+    sends: &[u8],
+    receipts: &[u8],
+    m: usize,
+    few: &mut bool,
+) -> [u16; 32]
     requires { ⌜ Messages mostProcesses m (now sends) (now receipts) ⌝ }
     requires { ⌜ n ≤ mostProcesses ⌝ }
-    ensures { λ r. ⌜ BroughtDown (messagesOf m (now (sends .entry)) (now (receipts .entry))) ceiling (r .line) ⌝ }
-    ensures { λ r. ⌜ (r .settled ≡ true
-        → r .line ≡ lineUnder (messagesOf m (now (sends .entry)) (now (receipts .entry))) ceiling) ⌝ }
+    ensures { λ r. ⌜ BroughtDown (messagesOf m (now (sends .entry)) (now (receipts .entry))) ceiling r ⌝ }
+    ensures { λ r. ⌜ (now (few .exit) ≡ true
+        → r ≡ lineUnder (messagesOf m (now (sends .entry)) (now (receipts .entry))) ceiling) ⌝ }
 {
     let mut line = ceiling;
-    let mut left = n / 4 + 2;
+    let mut left = 0;
+    if *few {
+        left = n / 4 + 2;
+    }
+    *few = false;
     'passes: while 0 < left {
         left -= 1;
         let mut lowered = false;
@@ -48,14 +54,9 @@ pub fn few_passes(ceiling: [u16; 32], n: usize, sends: &[u8], receipts: &[u8], m
             lowered = true;
         }
         if !lowered {
-            return Lowered {
-                line,
-                settled: true,
-            };
+            *few = true;
+            return line;
         }
     }
-    Lowered {
-        line,
-        settled: false,
-    }
+    line
 }

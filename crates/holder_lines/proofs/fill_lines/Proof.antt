@@ -22,14 +22,14 @@ abbrev entry : tie.After-process-count Inv-loop μ-loop → tie.Start Inv-loop �
 entry c = c .before .before .before
 
 abbrev turn : tie.After-line-of-holder Inv-loop μ-loop → tie.In-loop Inv-loop μ-loop
-turn c = c .before
+turn c = c .before .before
 
 abbrev lined : tie.After-store-numbers Inv-loop μ-loop → tie.After-line-of-holder Inv-loop μ-loop
-lined c = c .before .before .before .before
+lined c = c .before .before .before
 
 -- ---- what is known there: the first N numbers of the line are a list of N
 front : (c : tie.After-line-of-holder Inv-loop μ-loop)
-    → length (take (turn c .before .before .before .process-count .result) (c .line-of-holder .result .line))
+    → length (take (turn c .before .before .before .process-count .result) (c .line-of-holder .result))
     ≡ turn c .before .before .before .process-count .result
 front c = length-take-le _ _ (lining-fits (turn c .before .loop .inv) (turn c .loop-test .taken) (c .line-of-holder .ensures))
 
@@ -48,15 +48,16 @@ fill-lines-spec =
     -- the line
     (λ c. omega arith)
     (λ c κs.
-    let lining = c .before .loop .inv in
-    (lining .given .accepted, (omega arith, lining-mark lining (c .loop-test .taken))))
+    let here = c .before in
+    let lining = here .before .loop .inv in
+    (lining .given .accepted, (omega arith, lining-mark lining (here .loop-test .taken))))
     -- it is stored
     (λ c.
-    let found = c .before .before in
+    let found = c .before in
     omega (arith, lining-fits (turn found .before .loop .inv) (turn found .loop-test .taken) (found .line-of-holder .ensures)))
-    (λ c. sym (front (c .before .before .before)))
+    (λ c. sym (front (c .before .before)))
     (λ c κs.
-    let found = c .before .before .before in
+    let found = c .before .before in
     omega (arith, front found, lining-room (turn found .before .loop .inv) (turn found .loop-test .taken)))
     (λ c.
     let turn = turn (lined (c .before .before)) in

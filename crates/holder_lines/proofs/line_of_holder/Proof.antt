@@ -38,5 +38,5 @@ line-of-holder-spec =
     -- one may
     (λ c κs. search needs)
     (λ c.
-    let found = c .before .before in
+    let found = c .before .before .before in
     c .settled-line .ensures ∙ ap (lineUnder _) (ceiling-is found) ∙ set-read _ (entry found .pre .0) _))

@@ -25,6 +25,7 @@ settled-line-spec =
     (tie.spec
     (λ c κs. search needs) (λ c κs. search needs) (λ c κs. search needs) (λ c κs. search needs)
     (λ c κs.
-    let few = processes-few _ (entry c .pre) in
-    (messages-known (read c) few, omega (arith, few, c .before .before .before .process-count .ensures)))
-    (λ c. c .settle .ensures ∙ line-read (read (c .before)) _))
+    let parted = c .before in
+    let few = processes-few _ (entry parted .pre) in
+    (messages-known (read parted) few, omega (arith, few, parted .before .before .before .process-count .ensures)))
+    (λ c. c .settle .ensures ∙ line-read (read (c .before .before)) _))

@@ -11,8 +11,6 @@ settle-spec =
     tie.close
     (tie.spec
     (λ c κs. search needs)
-    (λ c. c .chase-and-lower .ensures)
+    (λ c. c .before .few-passes .ensures .1 (c .if1 .taken))
     (λ c κs. search needs)
-    (λ c. c .before .few-passes .ensures .1 (c .if2 .taken))
-    (λ c κs. search needs)
-    (λ c. c .chase-and-lower2 .ensures ∙ c .before .before .before .few-passes .ensures .0 .same-line))
+    (λ c. c .chase-and-lower .ensures ∙ c .before .before .few-passes .ensures .0 .same-line))
