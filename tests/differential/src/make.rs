@@ -209,7 +209,7 @@ fn long(rng: &mut Rng) -> Table {
         2 => {
             let (n, m) = (rng.between(2, 6), rng.between(20, 60));
             let order = Order::ALL[rng.between(0, Order::ALL.len() - 1)];
-            passes::all_have_sent(gen::ring_domino(rng, n, m, order))
+            gen::ring_unsaved(rng, n, m, order)
         }
         _ => {
             let (n, m) = (rng.between(3, 5), rng.between(16, 60));

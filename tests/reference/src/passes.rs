@@ -114,12 +114,28 @@ pub fn lifted(mut table: Table, states: u32) -> Table {
     table
 }
 
-/// A ring domino (`gen::ring_domino`) before the last save of all processes but 0:
-/// whoever holds has sent since its last state, and puts the others back all the
-/// way round.
-pub fn all_have_sent(mut ring: Table) -> Table {
-    ring.counts[1..].iter_mut().for_each(|count| *count -= 1);
-    ring
+/// The table with its messages further apart: each so many positions behind the one
+/// before it as the distances say, one after another and then over again. Between
+/// them stand messages of a further process to another, sent after any state of the
+/// table and received early. They are orphans of no line, but would be as messages of
+/// any other sender.
+pub fn apart(table: Table, distances: &[usize]) -> Table {
+    let (n, most) = (table.processes(), table.counts.iter().max());
+    let sent = *most.expect("a process");
+    let between = Message::new((n, sent), (n + 1, 1));
+    let mut all = Table {
+        counts: table.counts.clone(),
+        messages: Vec::new(),
+    };
+    all.counts.extend([sent + 2, 2]);
+    for (k, &message) in table.messages.iter().enumerate() {
+        if k > 0 {
+            let distance = distances[(k - 1) % distances.len()];
+            all.messages.extend(vec![between; distance - 1]);
+        }
+        all.messages.push(message);
+    }
+    all
 }
 
 /// Two messages of one sender, the earlier sent one behind the other: the line of

@@ -1,6 +1,6 @@
 //! The tables whose lines take many passes are what they are said to be.
 
-use reference::gen::{domino_chain, ring_domino, Order, Rng};
+use reference::gen::{domino_chain, ring_unsaved, Order, Rng};
 use reference::lines::{hold_lines, line_of_run};
 use reference::passes::*;
 use reference::*;
@@ -56,8 +56,8 @@ fn chains() {
 fn rings_of_all() {
     for order in Order::ALL {
         for n in 2..=6 {
-            let ring = ring_domino(&mut Rng::new(3), n, 8 * n, order);
-            let all = lifted(all_have_sent(ring), 5);
+            let ring = ring_unsaved(&mut Rng::new(3), n, 8 * n - 1, order);
+            let all = lifted(ring, 5);
             assert_eq!(check_table(&all.to_bytes()), 0, "{order:?} {n}");
             assert!(!sends_fall(&all));
             assert!(!passes_of_holders(&all).contains(&0));
@@ -65,6 +65,54 @@ fn rings_of_all() {
                 assert_eq!(line, vec![5; n], "{order:?} {n}");
             }
         }
+    }
+}
+
+/// By sender, the last sender first, a ring takes a pass for each of its rounds, and
+/// from any holder but 0 one more.
+#[test]
+fn rings_of_a_pass_a_round() {
+    for n in 2..=32 {
+        for passes in 2..=12 {
+            let m = n * (passes - 1);
+            let ring = ring_unsaved(&mut Rng::new(1), n, m, Order::BySenderBackward);
+            assert_eq!(passes_of_run(&ring), passes, "{n}");
+            let mut of_holders = vec![passes + 1; n];
+            of_holders[0] = passes;
+            assert_eq!(passes_of_holders(&ring), of_holders, "{n}");
+        }
+    }
+}
+
+/// Apart, a table has the same lines, of as many passes. Of what stands between, all
+/// that is taken for a message of another sender is an orphan.
+#[test]
+fn apart_lines_stay() {
+    let parts = [
+        domino(30, Order::BySender),
+        chain(4, 30),
+        ring_unsaved(&mut Rng::new(2), 3, 20, Order::BySender),
+    ];
+    for part in parts {
+        let n = part.processes();
+        let mut alone = line_of_run(&part);
+        let mut passes = passes_of_holders(&part);
+        let all = apart(part, &[1, 3]);
+        assert_eq!(check_table(&all.to_bytes()), 0);
+        let places = all.messages.iter().enumerate();
+        let places: Vec<usize> = places
+            .filter(|(_, message)| message.sender < n)
+            .map(|(place, _)| place)
+            .collect();
+        assert_eq!(places[..5], [0, 1, 4, 5, 8]);
+        for message in all.messages.iter().filter(|message| message.sender == n) {
+            assert!(all.counts[..n].iter().all(|&count| count <= message.sent));
+        }
+        alone.extend(&all.counts[n..]);
+        alone[n..].iter_mut().for_each(|state| *state -= 1);
+        passes.extend([0, 0]);
+        assert_eq!(line_of_run(&all), alone);
+        assert_eq!(passes_of_holders(&all), passes);
     }
 }
 

@@ -1455,39 +1455,55 @@ fn by_sender(m: usize) -> Table {
     lifted(gen::domino_chain(&mut Rng::new(1), m, Order::BySender), 3)
 }
 
-/// A ring in which every holder puts the others back, down to 1.
+/// A ring in which every holder puts the others back, and no line goes below 1.
 fn ring_of_all(n: usize, m: usize, order: Order) -> Table {
-    let ring = gen::ring_domino(&mut Rng::new(1), n, m, order);
-    lifted(passes::all_have_sent(ring), 1)
+    lifted(gen::ring_unsaved(&mut Rng::new(1), n, m, order), 1)
 }
 
-/// Tables whose lines take ten passes over the messages, eleven, twelve and many:
-/// whoever tries ten and then something else has to end with the same lines.
+/// Tables whose lines take many passes over the messages: whoever tries N / 4 + 2 of
+/// them, or another number, and then something else has to end with the same lines.
 /// `_of_holders_` says the passes of the line of each, 0 where nobody else is put
 /// back. Where a name has `falling`, the send numbers of a sender fall.
 fn many_passes(list: &mut Vec<Named>) {
     let mut add = |name: &str, table: Table| add(list, name, table.to_bytes());
-    // The boundary: the tenth pass lowers nothing, it lowers the last, and one is
-    // left behind it.
-    add("passes_10_domino_by_sender", by_sender(16));
-    add("passes_11_domino_by_sender", by_sender(18));
+    // The boundary: the last of N / 4 + 2 passes lowers nothing, and lowers the last.
+    // A ring by sender, the last sender first, takes a pass for each round; in the
+    // sheet it takes one more from process 1 on.
+    for n in [2, 4, 8, 32] {
+        for passes in [n / 4 + 2, n / 4 + 3] {
+            let ring = ring_of_all(n, n * (passes - 1), Order::BySenderBackward);
+            let mut name = format!("passes_{passes}_ring_of_{n}");
+            if n < 32 {
+                let others = format!("_{}", passes + 1).repeat(n - 1);
+                name += &format!("_of_holders_{passes}{others}");
+            }
+            add(&name, ring);
+        }
+    }
+    // Many more, of senders with one receiver, and with several.
     add("passes_12_domino_by_sender", by_sender(20));
-    // Of senders with one receiver, and with several.
     add(
         "passes_12_sixteen_dominoes_by_sender",
         beside(&vec![by_sender(20); 16]),
     );
     add(
-        "passes_23_ring_in_the_order_of_sending_of_holders_26_26_25_24_23",
-        ring_of_all(5, 40, Order::Time),
+        "passes_23_ring_in_the_order_of_sending_of_holders_23_26_25_24_23",
+        ring_of_all(5, 39, Order::Time),
     );
     add(
-        "passes_30_ring_by_sender_of_holders_34_33_32_31_30",
-        ring_of_all(5, 40, Order::BySender),
+        "passes_30_ring_by_sender_of_holders_30_33_32_31_30",
+        ring_of_all(5, 39, Order::BySender),
     );
     add(
         "passes_32_chain_by_sender",
         lifted(passes::by_sender(passes::chain(5, 60)), 2),
+    );
+    // The messages of a sender at distances up to eight, of just two eights and of one
+    // more, with those of another between them: whoever looks for them some at a time
+    // has to come to each, from every holder.
+    add(
+        "passes_11_ring_of_2_apart_of_holders_11_11_0_0",
+        passes::apart(ring_of_all(2, 19, Order::BySender), &APART),
     );
     // Numbers that fall along the chain.
     add(
@@ -1499,22 +1515,14 @@ fn many_passes(list: &mut Vec<Named>) {
         lifted(passes::chain(5, 40), 2),
     );
     // Lines of many passes and of few on one sheet, and holders between them from
-    // whom no pass is needed.
+    // whom no pass is needed. Of five processes, three passes are N / 4 + 2.
     let few = || gen::domino_chain(&mut Rng::new(1), 4, Order::Time);
     let falling = passes::falling_pair;
-    add(
-        "passes_of_holders_12_0_2_0",
-        beside(&[by_sender(20), few()]),
-    );
-    add(
-        "passes_of_holders_2_0_12_0",
-        beside(&[few(), by_sender(20)]),
-    );
     add(
         "passes_of_holders_2_0_12_0_2_0",
         beside(&[few(), by_sender(20), few()]),
     );
-    for m in [16, 18, 20] {
+    for m in [2, 4, 20] {
         let first = m / 2 + 2;
         add(
             &format!("passes_of_holders_{first}_0_2_0_0_falling_behind_it"),
@@ -1530,6 +1538,10 @@ fn many_passes(list: &mut Vec<Named>) {
         beside(&[passes::chain(3, 18), falling(), few()]),
     );
 }
+
+/// How far the messages of a sender stand apart. With 1 and 17 first, the first
+/// messages are found where fewer than eight are left, at once and behind two eights.
+const APART: [usize; 6] = [1, 17, 7, 8, 9, 16];
 
 /// `passes_P_..._of_holders_P_P...`: stops unless the recovery line and the lines of
 /// the single holders take as many passes, and unless a name with `falling` is that
