@@ -127,6 +127,8 @@ fn with_numbers(rng: &mut Rng, kind: &str) -> Table {
             let order = Order::ALL[rng.between(0, 5)];
             gen::ring_domino(rng, n, m, order)
         }
+        "many passes" if rng.chance(1, 3) => boundary(rng),
+        "many passes" if rng.chance(1, 3) => apart(rng),
         "many passes" => {
             let many = rng.between(1, 3);
             let mut parts = vec![long(rng)];
@@ -200,10 +202,10 @@ fn with_numbers(rng: &mut Rng, kind: &str) -> Table {
 /// which no sender's numbers fall.
 fn long(rng: &mut Rng) -> Table {
     match rng.between(0, 3) {
-        // From eight passes to fourteen.
+        // From three passes to fourteen.
         0 | 1 => {
             let order = [Order::BySender, Order::RoundsAlong][rng.between(0, 1)];
-            let m = rng.between(12, 25);
+            let m = rng.between(2, 25);
             gen::domino_chain(rng, m, order)
         }
         2 => {
@@ -216,6 +218,21 @@ fn long(rng: &mut Rng) -> Table {
             passes::by_sender(passes::chain(n, m))
         }
     }
+}
+
+/// A table whose lines take N / 4 + 2 passes and up to two more, from every holder.
+fn boundary(rng: &mut Rng) -> Table {
+    let n = rng.between(2, 32);
+    let m = n * (n / 4 + rng.between(1, 2));
+    let ring = gen::ring_unsaved(rng, n, m, Order::BySenderBackward);
+    passes::lifted(ring, rng.between(0, 2) as u32)
+}
+
+/// A table whose lines take many passes, with up to two eights of messages of another
+/// sender between any two of theirs.
+fn apart(rng: &mut Rng) -> Table {
+    let distances: Vec<usize> = (0..12).map(|_| rng.between(1, 17)).collect();
+    passes::apart(passes::lifted(long(rng), 1), &distances)
 }
 
 /// A table in which a sender's numbers fall, so that passes alone find its lines: many

@@ -6,18 +6,25 @@
 use reference::passes::{passes_of_holders, passes_of_run, sends_fall};
 use reference::Table;
 
-/// The passes that may be tried first.
-const TRIED: usize = 10;
+/// The passes that may be tried first, for so many processes.
+fn tried(processes: usize) -> usize {
+    processes / 4 + 2
+}
+
+/// From so many processes on, few lines by chance take as many passes as may be tried.
+const WIDE: usize = 8;
 
 /// What the lines of an accepted table, the recovery line and those of single
 /// holders, may be like, and of how many tables out of a thousand they are so at the
 /// least.
-pub const LINES: [(&str, u64); 5] = [
-    ("ten passes or eleven", 10),
-    ("more than eleven", 80),
-    ("more than ten, and send numbers that fall", 25),
-    ("more than ten, and of a later holder fewer", 12),
-    ("the same, and send numbers that fall", 8),
+pub const LINES: [(&str, u64); 7] = [
+    ("N / 4 + 2 passes", 150),
+    ("N / 4 + 3", 25),
+    ("N / 4 + 2 or N / 4 + 3, of 8 processes or more", 15),
+    ("more than N / 4 + 3", 90),
+    ("more than N / 4 + 2, and send numbers that fall", 35),
+    ("more than N / 4 + 2, and of a later holder fewer", 18),
+    ("the same, and send numbers that fall", 10),
 ];
 
 /// With fewer tables the shares are left to chance.
@@ -36,21 +43,26 @@ impl Passes {
         let Ok(table) = Table::read(bytes) else {
             return;
         };
+        let tried = tried(table.processes());
         let of_holders = passes_of_holders(&table);
         let of_run = passes_of_run(&table);
         let lines = || of_holders.iter().copied().chain([of_run]);
-        let many = |passes: usize| passes > TRIED;
-        let few = |passes: usize| 0 < passes && passes <= TRIED;
+        let many = |passes: usize| passes > tried;
+        let few = |passes: usize| 0 < passes && passes <= tried;
         let mut later = of_holders
             .iter()
             .copied()
             .skip_while(|&passes| !many(passes));
         let before = later.any(few);
+        let last = lines().any(|passes| passes == tried);
+        let next = lines().any(|passes| passes == tried + 1);
         let falling = sends_fall(&table);
         self.accepted += 1;
         for (times, so) in self.times.iter_mut().zip([
-            lines().any(|passes| passes == TRIED || passes == TRIED + 1),
-            lines().any(|passes| passes > TRIED + 1),
+            last,
+            next,
+            (last || next) && table.processes() >= WIDE,
+            lines().any(|passes| passes > tried + 1),
             lines().any(many) && falling,
             before,
             before && falling,

@@ -650,21 +650,28 @@ fn the_answers_to_names_are_counted() {
 #[test]
 fn the_passes_of_lines_count() {
     let by_sender = |m: usize| domino_chain(&mut Rng::new(1), m, Order::BySender);
-    // Lines of nine passes; of ten; of eleven, with numbers that fall behind it, and
-    // before it; of twelve with another behind it; and a table that is refused.
     let mut comparison = all_met();
     for table in [
-        by_sender(14),
-        by_sender(16),
-        beside(&[by_sender(18), falling_pair()]),
-        beside(&[falling_pair(), by_sender(18)]),
-        beside(&[by_sender(20), by_sender(4)]),
+        // Of two processes: two passes, three, and four.
+        by_sender(1),
+        by_sender(2),
+        by_sender(4),
+        // Of five, four passes, with numbers that fall behind it, and before it.
+        beside(&[by_sender(4), falling_pair()]),
+        beside(&[falling_pair(), by_sender(4)]),
+        // Of four, five passes, and behind it three.
+        beside(&[by_sender(6), by_sender(2)]),
+        // Of seven, three passes; of eight, four, and five.
+        beside(&[by_sender(2), falling_pair(), by_sender(2)]),
+        beside(&vec![by_sender(4); 4]),
+        beside(&vec![by_sender(6); 4]),
     ] {
         comparison.passes.add(&table.to_bytes());
     }
+    // Nothing of a table that is refused.
     comparison.passes.add(&[0; 3]);
-    assert_eq!(comparison.passes.accepted, 5);
-    assert_eq!(comparison.passes.times, [3, 1, 2, 2, 1]);
+    assert_eq!(comparison.passes.accepted, 9);
+    assert_eq!(comparison.passes.times, [4, 4, 2, 2, 2, 2, 1]);
     for (place, (kind, share)) in LINES.iter().enumerate() {
         let mut comparison = all_met();
         comparison.passes.times = LINES.map(|(_, share)| 2 * share);

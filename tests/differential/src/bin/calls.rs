@@ -54,6 +54,9 @@ fn limits(comparison: &mut Comparison, seed: u64) -> Result<(), Box<Difference>>
     tables.push(passes::beside(&[chain.clone(), passes::falling_pair()]));
     tables.push(chain);
     tables.push(passes::chain(5, 1_000));
+    // Messages of a sender at distances of up to two eights and one.
+    let ring = gen::ring_unsaved(rng, 2, 19, Order::BySender);
+    tables.push(passes::apart(ring, &[1, 17, 7, 8, 9, 16]));
     for (number, table) in tables.iter().enumerate() {
         let made_by = format!("limits, seed {seed}, table {number}");
         let bytes = table.to_bytes();
