@@ -1,5 +1,6 @@
 /* The calls of archives in the library's place: those of one of several faulty models, which the environment
-   variable FAULT names by number; 0 is the model as it is. "faults.inc" has a line FAULT(k) for each. */
+   variable FAULT names by number; 0 is the model as it is, and 1 that with a chase. "faults.inc" has a line FAULT(k)
+   for each. */
 #include "listing_text.h"
 
 #include <stdlib.h>
