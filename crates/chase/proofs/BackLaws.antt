@@ -1,4 +1,4 @@
--- Processes that go back over their messages, as the loops of `back::go_back` go.
+-- Processes that go back over their messages, as the loops of `chase` go.
 --     Chases                      the invariant of the chase, relative to its start
 --     chase-begins                how it begins
 --     Sent                        where a message of a process stands

@@ -1,26 +1,31 @@
 // The sweep that begins a chase: one for all processes, from the last message to the first.
 use tables::numbers::u16_at;
+ghost use mathlib.Core.Path.{_≡_};
+ghost use lib.ListN.{length};
 ghost use Rattle.sweep.specs.Cursors.{Placed};
 ghost use Rattle.lowering.specs.Lowered.{BroughtDown, messagesOf};
 ghost use Rattle.tables.specs.Parts.{Messages};
 ghost use Rattle.tables.specs.Table.{mostProcesses};
 
-// A line that was brought down, and of each process the cursor: where its messages are looked at next, or 0
-// where all were.
-pub struct Swept {
-    pub line: [u16; 32],
-    pub cursors: [u16; 32],
-}
-
-// A start, brought down by those of the m messages that no message of their sender before the line stands
-// behind. A process stops at such a message; the sweep ends where all n have.
-pub fn sweep(start: [u16; 32], n: usize, sends: &[u8], receipts: &[u8], m: usize) -> Swept
+// Brings a line down by those of the m messages that no message of their sender before the line stands
+// behind. A process stops at such a message; the sweep ends where all n have. Of a process that stopped the
+// cursor is left behind its message there; the cursors of the others stay 0.
+pub fn sweep(
+    line: &mut [u16],
+    cursors: &mut [u16],
+    n: usize,
+    sends: &[u8],
+    receipts: &[u8],
+    m: usize,
+)
     requires { ⌜ Messages mostProcesses m (now sends) (now receipts) ⌝ }
-    ensures { λ r. ⌜ BroughtDown (messagesOf m (now (sends .entry)) (now (receipts .entry))) start (r .line) ⌝ }
-    ensures { λ r. ⌜ Placed m (r .cursors) ⌝ }
+    requires { ⌜ length (now line) ≡ mostProcesses ⌝ }
+    requires { ⌜ length (now cursors) ≡ mostProcesses ⌝ }
+    requires { ⌜ Placed m (now cursors) ⌝ }
+    ensures { λ _. ⌜ BroughtDown (messagesOf m (now (sends .entry)) (now (receipts .entry))) (now (line .entry))
+        (now (line .exit)) ⌝ }
+    ensures { λ _. ⌜ Placed m (now (cursors .exit)) ⌝ }
 {
-    let mut line = start;
-    let mut cursors = [0u16; 32];
     let mut stopped = 0;
     let mut k = m;
     'sweep: while 0 < k {
@@ -48,5 +53,4 @@ pub fn sweep(start: [u16; 32], n: usize, sends: &[u8], receipts: &[u8], m: usize
         }
         line[receiver] = received - 1;
     }
-    Swept { line, cursors }
 }

@@ -1,4 +1,4 @@
--- `back::last_sent` meets its contract. The invariant of its loops: they stand at or below k, whose messages are there. The measure is the place;
+-- `last_sent` meets its contract. The invariant of its loops: they stand at or below k, whose messages are there. The measure is the place;
 -- among eight it is what is left of them.
 -- Assumes nothing.
 use native.Mathlib.Omega.{arith}
@@ -6,8 +6,8 @@ use mathlib.Core.List.{List}
 use mathlib.Core.Path.{sym, _∙_}
 use Prim.Native.Nat.{ℕ, _*_, _-_, _≤_}
 use lib.ListN.{length}
-use Rattle.chase.proofs.back.last_sent.Statement.{statement}
-use Rattle.chase.proofs.back.last_sent.Tie as tie
+use Rattle.chase.proofs.last_sent.Statement.{statement}
+use Rattle.chase.proofs.last_sent.Tie as tie
 
 abbrev Among : List ℕ → ℕ → ℕ → Type 0
 Among sends k at = (at ≤ k) × (4 * k ≤ length sends)

@@ -1,11 +1,11 @@
--- `back::every_process` meets its contract. The loop's invariant: the first p entries are their places. The measure is what is left of 32.
+-- `every_process` meets its contract. The loop's invariant: the first p entries are their places. The measure is what is left of 32.
 -- Assumes nothing.
 use native.Mathlib.Omega.{arith}
 use mathlib.Core.Path.{refl}
 use Prim.Native.Nat.{_-_}
 use Rattle.tables.proofs.ArrayLaws.{Filling, filled-list, filling-more, filling-none}
-use Rattle.chase.proofs.back.every_process.Statement.{statement}
-use Rattle.chase.proofs.back.every_process.Tie as tie
+use Rattle.chase.proofs.every_process.Statement.{statement}
+use Rattle.chase.proofs.every_process.Tie as tie
 
 abbrev Inv-loop : tie.InvT-loop
 Inv-loop all₀ p₀ all p = Filling (λ q. q) 32 p all
