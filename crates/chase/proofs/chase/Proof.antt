@@ -32,8 +32,11 @@ abbrev μ-chase : tie.MeasureT-chase
 
 -- ---- the places: the entry, from a turn of the chase; that, from a process that goes back; there, from where its message was sent after the
 -- line, and from where all of the message was read and the next one found
+abbrev swept : tie.In-chase Inv-back μ-back Inv-chase μ-chase → tie.After-sweep Inv-back μ-back Inv-chase μ-chase
+swept c = c .before .before .before .before .before
+
 abbrev entry : tie.In-chase Inv-back μ-back Inv-chase μ-chase → tie.Start Inv-back μ-back Inv-chase μ-chase
-entry c = c .before .before .before .before .before .before .before .before .before .before
+entry c = swept c .before .before .before .before .before
 
 abbrev turn : tie.In-back Inv-back μ-back Inv-chase μ-chase → tie.In-chase Inv-back μ-back Inv-chase μ-chase
 turn c = c .before .before .before

@@ -65,8 +65,8 @@ stopped : (c : tie.Then2 Inv-sweep μ-sweep)
     → (let here = turn (looked (c .before .before)) in
     let args = entry here .args in
     let w = here .before .sweep in
-    Sweeps (args .m) (now (args .sends)) (now (args .receipts)) (now (args .line)) (w .line) (set (w .cursors) (looked (c .before .before) .u16-at .result) (w .k - 1 + 1))
-    (w .stopped + 1) (w .k - 1))
+    Sweeps (args .m) (now (args .sends)) (now (args .receipts)) (now (args .line)) (w .line)
+    (set (w .cursors) (looked (c .before .before) .u16-at .result) (w .k - 1 + 1)) (w .stopped + 1) (w .k - 1))
 stopped c =
     let here = turn (looked (c .before .before)) in
     sweep-stops (here .before .sweep .inv) (here .sweep-test .taken) _
@@ -112,11 +112,15 @@ sweep-spec =
     sweep-lowers (here .before .sweep .inv) (here .sweep-test .taken) (read (c .before .before .before)) (omega (arith, c .before .before .if4 .left))
     (own (c .before .before .before) .if2 .left) (c .if5 .left))
     (λ c. c .before .sweep .inv .line-size ∙ sym (c .before .before .before .before .before .before .pre .1 .0))
-    (λ c. c .before .sweep .inv .cursors-size ∙ sym (c .before .before .before .before .before .before .pre .1 .1 .0))
+    (λ c.
+    let asked = c .before .before .before .before .before .before .pre in
+    c .before .sweep .inv .cursors-size ∙ sym (asked .1 .1 .0))
     (λ c. (c .before .sweep .inv .down, c .before .sweep .inv .placed))
     -- all have stopped
     (λ c. stopped (c .before) .line-size ∙ sym (entry (turn (looked (c .before .before .before))) .pre .1 .0))
-    (λ c. stopped (c .before) .cursors-size ∙ sym (entry (turn (looked (c .before .before .before))) .pre .1 .1 .0))
+    (λ c.
+    let asked = entry (turn (looked (c .before .before .before))) .pre in
+    stopped (c .before) .cursors-size ∙ sym (asked .1 .1 .0))
     (λ c.
     let stops = stopped (c .before) in
     (stops .down, stops .placed)))
