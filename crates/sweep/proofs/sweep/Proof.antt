@@ -40,8 +40,8 @@ sender-small c =
 read : (c : tie.After-u16-at4 Inv-sweep μ-sweep)
     → (let here = looked (own c .before .before) in
     let args = entry (turn here) .args in
-    MessageRead (args .m) (now (args .sends)) (now (args .receipts)) (turn here .before .sweep .k) (here .u16-at .result) (own c .before .before .u16-at2 .result)
-    (c .before .u16-at3 .result) (c .u16-at4 .result))
+    MessageRead (args .m) (now (args .sends)) (now (args .receipts)) (turn here .before .sweep .k) (here .u16-at .result)
+    (own c .before .before .u16-at2 .result) (c .before .u16-at3 .result) (c .u16-at4 .result))
 read c =
     let here = turn (looked (own c .before .before)) in
     record {
