@@ -1,5 +1,5 @@
--- `few::few_passes` meets its contract. The invariant of the passes: they have not settled the line, which was brought down from the ceiling. The measure is the
--- number of passes left. The invariant of one pass, and its measure, are those of `passes::lower`.
+-- `few::few_passes` meets its contract. The invariant of the passes: they have not settled the line, which was brought down from the ceiling.
+-- The measure is the number of passes left. The invariant of one pass, and its measure, are those of `passes::lower`.
 -- Assumes nothing.
 use borrow.Author.Needs.{needs}
 use borrow.Author.Tests.{not-true}
