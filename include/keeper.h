@@ -182,7 +182,7 @@ uint32_t keeper_check_table(const uint8_t *table, size_t length);
 
 /* The recovery line of the run: the latest consistent line at whose every process stands a checkpoint
    that the table has: the line under the last checkpoint of each. Checks: the table's, 16. The answer is N
-   numbers by process, 2N bytes. Stack: 2248. */
+   numbers by process, 2N bytes. Stack: 2360. */
 uint32_t keeper_recovery_line(const uint8_t *table, size_t length, uint8_t *answer, size_t room,
                               size_t *written);
 
@@ -191,7 +191,7 @@ uint32_t keeper_recovery_line(const uint8_t *table, size_t length, uint8_t *answ
    stand at their counts, with all that they have received. So where the processes of the set have failed and
    start again from a checkpoint, it says which of the others can go on as they are, and how far back the
    rest have to go. For the set of all N it is the recovery line, for the empty one it is the counts.
-   Checks: the table's, 12, 16. The answer is N numbers by process, 2N bytes. Stack: 2248. */
+   Checks: the table's, 12, 16. The answer is N numbers by process, 2N bytes. Stack: 2344. */
 uint32_t keeper_line_of_set(const uint8_t *table, size_t length, uint32_t set, uint8_t *answer,
                             size_t room, size_t *written);
 
@@ -202,7 +202,7 @@ uint32_t keeper_line_of_set(const uint8_t *table, size_t length, uint32_t set, u
    recovery line. Nor does the keep sheet protect it: whoever discards by sheets may no longer have its
    checkpoints, or the logs of messages that cross it. Under the ceilings of a set the answer is that of
    keeper_line_of_set, byte for byte. Checks: the table's, 17, 18, 16. The answer is N numbers by process,
-   2N bytes. Stack: 2264. */
+   2N bytes. Stack: 2360. */
 uint32_t keeper_line_under(const uint8_t *table, size_t length, const uint16_t *ceilings,
                            size_t ceilings_length, uint8_t *answer, size_t room, size_t *written);
 
@@ -251,7 +251,7 @@ uint32_t keeper_marked_line(const uint8_t *table, size_t length, const uint16_t 
    Under KEEPER_OK `*written` tells the two apart. Yes: 2N, and the answer is N numbers by process, the latest
    of all consistent lines that have the named checkpoints. No: 0, and the answer buffer is unchanged, however
    short it is: check 16 is of a yes alone. What is said at keeper_line_under of what may be discarded holds
-   here too. Checks: the table's, 20, 21, 22, 16. Stack: 2344. */
+   here too. Checks: the table's, 20, 21, 22, 16. Stack: 2376. */
 uint32_t keeper_stand_together(const uint8_t *table, size_t length, const uint16_t *processes,
                                size_t processes_length, const uint16_t *states, size_t states_length,
                                uint8_t *answer, size_t room, size_t *written);
@@ -327,7 +327,7 @@ uint32_t keeper_fall_back(const uint8_t *table, size_t length, uint8_t *answer, 
    Under KEEPER_OK, and under KEEPER_ANSWER_TOO_SHORT too, the first N * N numbers of the scratch are the
    N lines, N numbers each, that of holding process 0 first, as numbers of this machine. Under any other
    refusal, and beyond N * N always, the scratch is unchanged. `numbers` counts its 16-bit numbers.
-   Stack: 2728. */
+   Stack: 2760. */
 uint32_t keeper_keep_sheet(const uint8_t *table, size_t length, uint16_t *scratch, size_t numbers,
                            uint8_t *answer, size_t room, size_t *written);
 

@@ -101,8 +101,9 @@ chase-spec =
     (λ c. search needs)
     (λ c. refl)
     (λ c κs.
-    let asked = c .before .before .before .before .pre in
-    (asked .0, (search needs, (refl, every-tabulate (λ k. k ≤ c .before .before .before .before .args .m) 32 (λ _. 0) (omega arith) (λ _ _. omega arith)))))
+    let start = c .before .before .before .before in
+    let zeros = every-tabulate (λ k. k ≤ start .args .m) 32 (λ _. 0) (omega arith) (λ _ _. omega arith) in
+    (start .pre .0, (search needs, (refl, zeros))))
     (λ c κs. search needs)
     (λ c.
     let swept = c .before .before .before in
