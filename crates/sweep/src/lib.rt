@@ -7,9 +7,10 @@ ghost use Rattle.lowering.specs.Lowered.{BroughtDown, messagesOf};
 ghost use Rattle.tables.specs.Parts.{Messages};
 ghost use Rattle.tables.specs.Table.{mostProcesses};
 
-// Brings a line down by those of the m messages that no message of their sender before the line stands
-// behind. A process stops at such a message; the sweep ends where all n have. Of a process that stopped the
-// cursor is left behind its message there; the cursors of the others stay 0.
+// Brings a line down, by the m messages of a part of sends and a part of receipts. A process stops at the
+// first message of its own that was sent before the line, and its cursor is left behind that message; what
+// it sent behind it puts receivers back. The sweep ends where all n have stopped; a cursor of 0 is that of a
+// process that has not.
 pub fn sweep(
     line: &mut [u16],
     cursors: &mut [u16],
