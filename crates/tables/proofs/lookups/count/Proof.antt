@@ -12,7 +12,7 @@ count_spec =
     (tie.spec
     (λ c κs. search rules) (λ c. search rules)
     -- p is N or above
-    (λ c. sym (count_none _ c.before.u16-or-zero.ensures c.if1.true))
+    (λ c. sym (count_none _ c.before.u16_or_zero-n.ensures c.if-n-p.true))
     -- it is below
     (λ c. search rules) (λ c. search rules) (λ c κs. search rules)
-    (λ c. c.u16-or-zero2.ensures ∙ sym (count_some _ c.before.before.u16-or-zero.ensures c.before.if1.false)))
+    (λ c. c.u16_or_zero.ensures ∙ sym (count_some _ c.before.before.u16_or_zero-n.ensures c.before.if-n-p.false)))

@@ -17,12 +17,12 @@ none_number Receiver = refl
 none_number Received = refl
 
 -- ---- the places: the entry, from where N and M were read
-abbrev entry : tie.After-u16-or-zero2 → tie.Start
+abbrev entry : tie.After-u16_or_zero-m → tie.Start
 entry c = c.before.before.before
 
 -- ---- what is known there: N and M
-sizes : (c : tie.After-u16-or-zero2) → ReadSizes (entry c).args.table.now c.before.u16-or-zero.result c.u16-or-zero2.result
-sizes c = record { n_is = c.before.u16-or-zero.ensures; m_is = c.u16-or-zero2.ensures }
+sizes : (c : tie.After-u16_or_zero-m) → ReadSizes (entry c).args.table.now c.before.u16_or_zero-n.result c.u16_or_zero-m.result
+sizes c = record { n_is = c.before.u16_or_zero-n.ensures; m_is = c.u16_or_zero-m.ensures }
 
 -- ---- the needs, in the code's course
 pub message_number_spec : {M : Type 1} → statement M
@@ -33,7 +33,7 @@ message_number_spec =
     -- k is M or above
     (λ c.
     let field = (entry c.before).args.field in
-    sym (ap (number_of field) (message_none (sizes c.before) c.if1.true) ∙ none_number field))
+    sym (ap (number_of field) (message_none (sizes c.before) c.if-m-k.true) ∙ none_number field))
     -- it is below: the sender
     (λ c. search rules) (λ c κs. search rules) (λ c. search rules) (λ c. search rules) (λ c κs. search rules)
     -- its checkpoint
@@ -45,21 +45,21 @@ message_number_spec =
     -- what was read is the field's
     (λ c.
     let told = c.before.before in
-    let some = told.before.before in
-    rw told.enum_told.given.1
-    (sender_there (sizes some.before) some.if1.false c.before.sends_at_lem.ensures c.u16-or-zero3.ensures))
+    let some = told.before in
+    rw told.in-Sender.is
+    (sender_there (sizes some.before) some.if-m-k.false c.before.sends_at.ensures c.u16_or_zero.ensures))
     (λ c.
     let told = c.before.before in
-    let some = told.before.before in
-    rw told.enum-told2.given.1
-    (sent_there (sizes some.before) some.if1.false c.before.sends-at2.ensures c.u16-or-zero4.ensures))
+    let some = told.before in
+    rw told.in-Sent.is
+    (sent_there (sizes some.before) some.if-m-k.false c.before.sends_at-in-Sent.ensures c.u16_or_zero-in-Sent.ensures))
     (λ c.
     let told = c.before.before in
-    let some = told.before.before in
-    rw told.enum-told3.given.1
-    (receiver_there (sizes some.before) some.if1.false c.before.receipts_at_lem.ensures c.u16-or-zero5.ensures))
+    let some = told.before in
+    rw told.in-Receiver.is
+    (receiver_there (sizes some.before) some.if-m-k.false c.before.receipts_at.ensures c.u16_or_zero-in-Receiver.ensures))
     (λ c.
     let told = c.before.before in
-    let some = told.before.before in
-    rw told.enum-told4.given.1
-    (received-there (sizes some.before) some.if1.false c.before.receipts-at2.ensures c.u16-or-zero6.ensures)))
+    let some = told.before in
+    rw told.in-Received.is
+    (received-there (sizes some.before) some.if-m-k.false c.before.receipts_at-in-Received.ensures c.u16_or_zero-in-Received.ensures)))

@@ -12,10 +12,10 @@ u16_or_zero_spec =
     tie.close
     (tie.spec
     -- beyond the end
-    (λ c. sym (number_at_beyond 2 _ _ c.if1.true))
+    (λ c. sym (number_at_beyond 2 _ _ c.if-len-at.true))
     -- at its last byte
     (λ c. search rules) (λ c. search rules) (λ c κs. search rules)
-    (λ c. c.u16-of.ensures ∙ sym (u16_at_last _ _ (omega arith)))
+    (λ c. c.u16_of.ensures ∙ sym (u16_at_last _ _ (omega arith)))
     -- within
     (λ c κs. search rules)
     (λ c. search rules))

@@ -7,7 +7,7 @@ use Rattle.tables.proofs.parts.counts.Statement.{statement}
 use Rattle.tables.proofs.parts.counts.Tie as tie
 
 -- ---- the places: the entry, from where N was read
-abbrev entry : tie.After-process-count → tie.Start
+abbrev entry : tie.After-process_count → tie.Start
 entry c = c.before.before
 
 -- ---- the needs, in the code's course
@@ -21,4 +21,4 @@ counts_spec =
     (λ c. omega (arith, whole _ (entry c.before).requires))
     (λ c.
     let read = c.before.before in
-    counts_taken _ (entry read).requires read.process_count_lem.ensures c.before.sends_at_lem.ensures))
+    counts_taken _ (entry read).requires read.process_count.ensures c.before.sends_at-end.ensures))

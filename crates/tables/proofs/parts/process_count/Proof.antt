@@ -16,4 +16,4 @@ process_count_spec =
     (tie.spec
     (λ c κs. omega (arith, long_enough _ c.before.requires))
     (λ c. search rules)
-    (λ c. c.u16-at.ensures ∙ sym (decode-processes _)))
+    (λ c. c.u16_at.ensures ∙ sym (decode-processes _)))

@@ -7,7 +7,7 @@ use Rattle.tables.proofs.parts.receipts.Statement.{statement}
 use Rattle.tables.proofs.parts.receipts.Tie as tie
 
 -- ---- the places: the entry, from where N and M were read
-abbrev entry : tie.After-message-count → tie.Start
+abbrev entry : tie.After-message_count → tie.Start
 entry c = c.before.before.before
 
 -- ---- the needs, in the code's course
@@ -22,4 +22,4 @@ receipts_spec =
     (λ c. search rules)
     (λ c.
     let read = c.before.before in
-    receipts_taken _ (entry read).requires read.before.process_count_lem.ensures read.message_count_lem.ensures c.before.receipts_at_lem.ensures))
+    receipts_taken _ (entry read).requires read.before.process_count.ensures read.message_count.ensures c.before.receipts_at-start.ensures))

@@ -7,10 +7,10 @@ use Rattle.tables.proofs.parts.sends.Statement.{statement}
 use Rattle.tables.proofs.parts.sends.Tie as tie
 
 -- ---- the places: the entry; where N was read, from where M was
-abbrev entry : tie.After-process-count → tie.Start
+abbrev entry : tie.After-process_count-n → tie.Start
 entry c = c.before.before
 
-abbrev sized : tie.After-message-count → tie.After-process-count
+abbrev sized : tie.After-message_count → tie.After-process_count-n
 sized c = c.before.before
 
 -- ---- the needs, in the code's course
@@ -29,5 +29,5 @@ sends_spec =
     (λ c.
     let read = c.before.before in
     let n = sized read in
-    sends_taken _ (entry n).pre n.process_count_lem.ensures read.message_count_lem.ensures read.before.sends_at_lem.ensures
-    c.before.receipts_at_lem.ensures))
+    sends_taken _ (entry n).requires n.process_count-n.ensures read.message_count.ensures read.before.sends_at-start.ensures
+    c.before.receipts_at-end.ensures))
