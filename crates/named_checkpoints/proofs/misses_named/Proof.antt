@@ -14,19 +14,19 @@ use Rattle.tables.proofs.SearchedLaws.{Searched, searched_all, searched_here, se
 use Rattle.named_checkpoints.proofs.misses_named.Statement.{statement}
 use Rattle.named_checkpoints.proofs.misses_named.Tie as tie
 
-abbrev invariant-loop : tie.invariant-loop
-invariant-loop processes states line k₀ k =
+abbrev invariant-loop-k : tie.invariant-loop-k
+invariant-loop-k processes states line k₀ k =
     Parallel most_processes processes states
     × Searched (length processes) (λ j. not (eqb (get_or line (get_or processes j 0) 0) (get_or states j 0))) k
 
-abbrev decreases-loop : tie.decreases-loop
-decreases-loop processes states line k₀ k = length processes - k
+abbrev decreases-loop-k : tie.decreases-loop-k
+decreases-loop-k processes states line k₀ k = length processes - k
 
 -- ---- the places: a turn of the loop, from where its process was read; that, from where its number was
-abbrev turn : tie.After-shared-slice-known invariant-loop decreases-loop → tie.In-loop invariant-loop decreases-loop
+abbrev turn : tie.After-shared_slice_known-1 invariant-loop-k decreases-loop-k → tie.In-loop-k invariant-loop-k decreases-loop-k
 turn c = c.before
 
-abbrev named : tie.After-shared-slice-known2 invariant-loop decreases-loop → tie.After-shared-slice-known invariant-loop decreases-loop
+abbrev named : tie.After-shared_slice_known-in-loop-k-1 invariant-loop-k decreases-loop-k → tie.After-shared_slice_known-1 invariant-loop-k decreases-loop-k
 named c = c.before
 
 -- ---- the needs, in the code's course
@@ -35,23 +35,23 @@ unfolding misses
 misses_named_spec =
     tie.close
     (tie.spec
-    invariant-loop
-    decreases-loop
+    invariant-loop-k
+    decreases-loop-k
     (λ c. (c.requires, searched_none))
     -- the process and the number
     (λ c. omega arith) (λ c. omega arith)
-    (λ c. omega (arith, (turn c).before.loop.invariant.0.known _ (turn c).loop-test.true))
-    (λ c. omega (arith, (turn c).before.loop.invariant.0.known _ (turn c).loop-test.true))
-    (λ c. omega (arith, (turn c).before.loop.invariant.0.known _ (turn c).loop-test.true))
+    (λ c. omega (arith, (turn c).before.loop-k.invariant.0.known _ (turn c).loop-k-test.true))
+    (λ c. omega (arith, (turn c).before.loop-k.invariant.0.known _ (turn c).loop-k-test.true))
+    (λ c. omega (arith, (turn c).before.loop-k.invariant.0.known _ (turn c).loop-k-test.true))
     (λ c. omega arith)
-    (λ c. omega (arith, (turn (named c)).before.loop.inv.0.for_each))
+    (λ c. omega (arith, (turn (named c)).before.loop-k.invariant.0.for_each))
     -- the line has another number
     (λ c.
     let here = turn (named c.before) in
-    searched_here here.before.loop.inv.1 here.loop-test.taken (ap not (ne_eqb _ _ c.if1.true)))
+    searched_here here.before.loop-k.invariant.1 here.loop-k-test.true (ap not (ne_eqb _ _ c.if-line-p.true)))
     -- it has this one
     (λ c. omega arith) (λ c. omega arith)
     (λ c.
     let here = turn (named c.before) in
-    (here.before.loop.inv.0, searched_more here.before.loop.inv.1 here.loop-test.taken (ap not (eq-eqb _ _ c.if1.false))))
-    (λ c. searched_all c.before.loop.invariant.1 c.loop-test.false))
+    (here.before.loop-k.invariant.0, searched_more here.before.loop-k.invariant.1 here.loop-k-test.true (ap not (eq-eqb _ _ c.if-line-p.false))))
+    (λ c. searched_all c.before.loop-k.invariant.1 c.loop-k-test.false))

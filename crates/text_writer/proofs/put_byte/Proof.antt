@@ -7,10 +7,10 @@ use Rattle.text_writer.proofs.put_byte.Statement.{statement}
 use Rattle.text_writer.proofs.put_byte.Tie as tie
 
 returns : tie.Need-returns
-returns c = laid_beyond _ _ _ c.if1.true
+returns c = laid_beyond _ _ _ c.if-text-at.true
 
 returns-2 : tie.Need-returns-2
-returns-2 c = laid_byte _ _ _ (omega (arith, c.if1.false))
+returns-2 c = laid_byte _ _ _ (omega (arith, c.if-text-at.false))
 
 pub put_byte_spec : {M : Type 1} → statement M
 put_byte_spec =
