@@ -35,7 +35,7 @@ begun c = c.before.before.before
 -- ---- what is known there: no byte beyond the marks was changed
 kept : (c : tie.After-root_marked invariant-loop-roots decreases-loop-roots)
     → (let args = (entry (begun (round c)).before.before.before).args in
-    Kept (decode args.table.now) args.marks-1.now (round c).loop-roots.marks)
+    Kept (decode args.table.now) args.marks.now (round c).loop-roots.marks)
 kept c = kept_both (begun (round c)).start.ensures.kept (round c).loop-roots.invariant.kept
 
 -- ---- the needs, in the code's course

@@ -39,7 +39,7 @@ start c = c.before.before.before.before
 at_receipt : (c : tie.After-u16_at-receiver invariant-loop-k decreases-loop-k)
     → (let here = (turn c).before in
     let args = (entry (start (turn c))).args in
-    AtReceipt args.table.now args.first.now args.roots.now args.marks-1.now here.loop-k.marks here.loop-k.marked
+    AtReceipt args.table.now args.first.now args.roots.now args.marks.now here.loop-k.marks here.loop-k.marked
     (start (turn c)).message_count-m.result here.before.before.sends-sends.result.now here.before.receipts-receipts.result.now here.loop-k.k
     c.u16_at-receiver.result c.before.before.u16_at-received.result)
 at_receipt c = record {
@@ -53,7 +53,7 @@ at_send : (c : tie.After-u16_at-sent invariant-loop-k decreases-loop-k)
     → (let read = (receipt c).before in
     let here = (turn read).before in
     let args = (entry (start (turn read))).args in
-    AtSend args.table.now args.first.now args.roots.now args.marks-1.now here.loop-k.marks here.loop-k.marked
+    AtSend args.table.now args.first.now args.roots.now args.marks.now here.loop-k.marks here.loop-k.marked
     (start (turn read)).message_count-m.result here.before.before.sends-sends.result.now here.before.receipts-receipts.result.now here.loop-k.k
     read.u16_at-receiver.result read.before.before.u16_at-received.result (receipt c).state_bit-receipt.result c.before.u16_at-sender.result c.u16_at-sent.result)
 at_send c = record {

@@ -37,7 +37,7 @@ module _ (c : tie.After-count_array-counts) where
 
   abbrev grown : List ℕ
   grown =
-      set c.count_array-counts.result (entry c).args.process (get_or c.count_array-counts.result (entry c).args.process 0 + (entry c).args.true)
+      set c.count_array-counts.result (entry c).args.process (get_or c.count_array-counts.result (entry c).args.process 0 + (entry c).args.taken)
 
   grown_size : length grown ≡ 32
   grown_size = length-set c.count_array-counts.result (entry c).args.process _ ∙ known.counts_size
@@ -45,7 +45,7 @@ module _ (c : tie.After-count_array-counts) where
   front : (sized c).process_count-n.result ≡ length (take (sized c).process_count-n.result grown)
   front = front_size known _ grown_size
 
-  room : table_length (sized c).process_count-n.result c.before.message_count-m.result ≤ length (entry c).args.answer-1.now
+  room : table_length (sized c).process_count-n.result c.before.message_count-m.result ≤ length (entry c).args.answer.now
   room = omega (arith, known.n_is, known.m_is)
 
 -- ---- the needs, in the code's course

@@ -35,7 +35,7 @@ module _ (c : tie.After-count_array-counts) where
   front : (sized c).process_count-n.result ≡ length (take (sized c).process_count-n.result c.count_array-counts.result)
   front = front_size known _ known.counts_size
 
-  room : table_length (sized c).process_count-n.result (c.before.message_count-m.result + 1) ≤ length (entry c).args.answer-1.now
+  room : table_length (sized c).process_count-n.result (c.before.message_count-m.result + 1) ≤ length (entry c).args.answer.now
   room = omega (arith, known.n_is, known.m_is)
 
 -- ---- the needs, in the code's course
