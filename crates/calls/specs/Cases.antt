@@ -85,9 +85,9 @@ same_answer (refused n) (answered ys) = false
 same_answer (answered xs) (refused m) = false
 same_answer (answered xs) (answered ys) = same_bytes xs ys
 
-unfoldable pub all_hold_lem : List Case → Bool
-all_hold_lem [] = true
-all_hold_lem (c ∷ rest) = same_answer (answer_of c.table c.call) c.expected && all_hold_lem rest
+unfoldable pub all_hold : List Case → Bool
+all_hold [] = true
+all_hold (c ∷ rest) = same_answer (answer_of c.table c.call) c.expected && all_hold rest
 
 -- ---- the cases
 unfoldable pub marked_cases : List Case
