@@ -83,7 +83,7 @@ def main():
         if not os.path.exists(path) or (only and folder.split("/")[-1] not in only):
             continue
         text = open(path, encoding="utf-8").read()
-        new = turned(text, it)
+        new = "\n".join(l if l.startswith("use ") else turned(l, it) for l in text.split("\n"))
         if new != text:
             open(path, "w", encoding="utf-8").write(new)
             print("turned", folder)

@@ -33,7 +33,7 @@ line_of_holder_spec =
     -- no rollback propagates
     (λ c.
     let asked = (entry c.before).requires in
-    ceiling_is c.before ∙ ap array_of (holder_ceiling _ asked.0 _ (sym asked.1.1 ∙ not-true _ c.if1.true)))
+    ceiling_is c.before ∙ ap array_of (holder_ceiling _ asked.0 _ (sym asked.1.1 ∙ c.if1.true)))
     -- one may
     (λ c κs. search rules)
     (λ c.

@@ -32,7 +32,7 @@ latest_unmarked_spec =
       set_behind = λ y l l'. absurd (omega arith);
     })
     (λ c. omega arith) (λ c. omega arith) (λ c κs. omega arith)
-    (λ c. lands c.before.before.loop.invariant (sym c.before.is_marked.ensures ∙ not-true _ c.if1.true))
-    (λ c. omega (arith, descends_from c.before.before.loop.invariant (sym c.before.is_marked.ensures ∙ not-false _ c.if1.false)))
-    (λ c. omega (arith, descends_from c.before.before.loop.invariant (sym c.before.is_marked.ensures ∙ not-false _ c.if1.false)))
-    (λ c. descends c.before.before.loop.invariant (sym c.before.is_marked.ensures ∙ not-false _ c.if1.false)))
+    (λ c. lands c.before.before.loop.invariant (sym c.before.is_marked.ensures ∙ c.if1.true))
+    (λ c. omega (arith, descends_from c.before.before.loop.invariant (sym c.before.is_marked.ensures ∙ c.if1.false)))
+    (λ c. omega (arith, descends_from c.before.before.loop.invariant (sym c.before.is_marked.ensures ∙ c.if1.false)))
+    (λ c. descends c.before.before.loop.invariant (sym c.before.is_marked.ensures ∙ c.if1.false)))

@@ -33,6 +33,6 @@ mark_reachable_spec =
     record { lent = asked.0; grown = grown_none; ready = asked.1 })
     (λ c κs. (c.before.loop.invariant.lent, c.before.loop.invariant.ready))
     (λ c. (passes_more (passes c.before.before.before).loop.inv c.before.before.before.pass.ensures).grown.kept.same_length)
-    (λ c. passes_end (passes c.before.before.before).loop.inv c.before.before.before.pass.ensures (not-true _ c.if1.true))
-    (λ c. c.before.before.before.pass.ensures.falls (not-false _ c.if1.false))
+    (λ c. passes_end (passes c.before.before.before).loop.inv c.before.before.before.pass.ensures c.if1.true)
+    (λ c. c.before.before.before.pass.ensures.falls c.if1.false)
     (λ c. passes_more (passes c.before.before.before).loop.inv c.before.before.before.pass.ensures))

@@ -93,7 +93,7 @@ pass_spec =
     (λ c. omega arith) (λ c κs. omega arith) (λ c. search rules) (λ c. omega arith) (λ c. omega arith) (λ c κs. omega arith)
     (λ c κs. send-there (at_send c.before))
     (λ c. omega arith)
-    (λ c. skips_unreached (at_send (send c.before)) (sym c.before.is-root-or-marked.ensures ∙ not-true _ c.if3.true))
+    (λ c. skips_unreached (at_send (send c.before)) (sym c.before.is-root-or-marked.ensures ∙ c.if3.true))
     -- the row
     (λ c κs.
     let at = (at_send (send c.before)).receipt in
@@ -101,7 +101,7 @@ pass_spec =
     (λ c κs.
     let judged = c.before.before in
     let at = at_send (send judged.before) in
-    let from-there = sym judged.before.is-root-or-marked.ensures ∙ not-false _ judged.if3.false in
+    let from-there = sym judged.before.is-root-or-marked.ensures ∙ judged.if3.false in
     (end_in at from-there c.before.row_end.ensures, row_ready at from-there c.before.row_end.ensures))
     (λ c. omega arith)
     (λ c.
@@ -109,7 +109,7 @@ pass_spec =
     let found = marked.before.before in
     let judged = found.before in
     pass_marks (at_send (send judged.before)) (sym judged.before.is-root-or-marked.ensures
-    ∙ not-false _ judged.if3.false) found.row_end.ensures
+    ∙ judged.if3.false) found.row_end.ensures
     marked.mark-from.ensures)
     -- the end
     (λ c. c.before.loop.invariant.grown.kept.same_length)

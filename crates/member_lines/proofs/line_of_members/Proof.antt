@@ -42,7 +42,7 @@ line_of_members_spec =
     (λ c. omega arith)
     (λ c.
     let here = turn c.before in
-    minimizing_other here.before.loop.inv here.loop-test.taken (sym c.before.is_member.ensures ∙ not-true _ c.if1.true))
+    minimizing_other here.before.loop.inv here.loop-test.taken (sym c.before.is_member.ensures ∙ c.if1.true))
     -- a member: its line in the scratch
     (λ c. omega (arith, row_small (turn c.before).before.loop.inv (turn c.before).loop-test.taken))
     (λ c. search rules)
@@ -57,5 +57,5 @@ line_of_members_spec =
     let lowered = c.before in
     let member = asked lowered.before.before in
     minimizing_member (turn member).before.loop.inv (turn member).loop-test.taken
-    (sym member.is_member.ensures ∙ not-false _ lowered.before.before.before.if1.false) lowered.lower-to.ensures)
+    (sym member.is_member.ensures ∙ lowered.before.before.before.if1.false) lowered.lower-to.ensures)
     (λ c. minimizing_all c.before.loop.invariant c.loop-test.false))

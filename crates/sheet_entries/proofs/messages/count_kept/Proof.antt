@@ -47,12 +47,12 @@ count_kept_spec =
     (λ c.
     let judged = c.before in
     let inv = (turn judged).before.loop.invariant in
-    (inv.0, tallied_skip inv.1 (turn judged).loop-test.true judged.is-kept.ensures (not-true _ c.if1.true)))
+    (inv.0, tallied_skip inv.1 (turn judged).loop-test.true judged.is-kept.ensures c.if1.true))
     -- it is kept
     (λ c. omega (arith, tallied_small (turn c.before).before.loop.inv.1))
     (λ c. omega arith)
     (λ c.
     let judged = c.before in
     let inv = (turn judged).before.loop.invariant in
-    (inv.0, tallied_more inv.1 (turn judged).loop-test.true judged.is-kept.ensures (not-false _ c.if1.false)))
+    (inv.0, tallied_more inv.1 (turn judged).loop-test.true judged.is-kept.ensures c.if1.false))
     (λ c. tallied_all c.before.loop.invariant.1 c.loop-test.false))
