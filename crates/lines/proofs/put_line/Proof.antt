@@ -22,7 +22,7 @@ sized c = c.before.before.before
 few : (c : tie.After-process_count-n) → c.process_count-n.result ≤ most_processes
 few c = omega (arith, processes_few _ (entry c).requires.0)
 
-front : (c : tie.After-process_count-n) → length (take c.process_count-n.result (entry c).args.t2) ≡ c.process_count-n.result
+front : (c : tie.After-process_count-n) → length (take c.process_count-n.result (entry c).args.line) ≡ c.process_count-n.result
 front c = length-take-le _ _ (omega (arith, few c))
 
 -- ---- the needs, in the code's course
