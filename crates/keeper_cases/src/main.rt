@@ -215,6 +215,7 @@ fn scratch_of(sheet: bool, list: &[u64; 16]) -> usize {
 
 // How many numbers of the scratch a call for n processes fills: a keep sheet, also under 16, with n
 // lines of n numbers.
+#[tactic(auto, unfolding(crate::specs::Places::line_numbers))]
 fn line_numbers(sheet: bool, number: u32, n: usize) -> usize
     ensures { (result ≤ 1024) × (result ≡ line_numbers sheet number n) }
 {
