@@ -33,5 +33,5 @@ put_receipts_spec =
       room = (entry put).requires.1.1;
       copy = put.copy_numbers.ensures;
       set_there = set.set_receipts.ensures;
-      same_length = set.set_receipts.auto.0;
+      same_length = set.set_receipts.auto.receipts;
     })))
