@@ -4,7 +4,8 @@
 
 pub mod guards;
 
-ghost use Rattle.std.specs.Prelude.{[], OnOk, ◌++◌, ◌∷◌, ◌≡◌, ◌<◌, codes, get_or, length, set, take};
+ghost use Rattle.std.specs.Prelude.{[], OnOk, ◌++◌, ◌∷◌, ◌≡◌, ◌<◌, codes};
+ghost use Rattle.std.specs.Prelude.{get_or, length, set, take};
 ghost use Rattle.std.specs.Fmt.{decimal};
 ghost use Rattle.std.specs.Io.KnownBytes.{Appends};
 ghost use Rattle.tables.specs.Arrays.{Filled};

@@ -1,3 +1,3 @@
 -- The laws of reading.
---     Reading    what a read adds to what was read
-mod Reading
+--     InputLaws    what a read adds to what was read
+mod InputLaws

@@ -13,7 +13,8 @@ pub fn read_into<R: Read>(input: &mut R, buffer: &mut [u8]) -> io::Result<usize>
     ensures within { IfOk result (λ len. len ≤ length buffer.new) }
     ensures front { IfOk result (λ len. IfSome (R.remaining input.old)
         (λ bytes. take len buffer.new ≡ take (length buffer.new) bytes)) }
-    ensures rest { IfOk result (λ len. Consumes (R.remaining input.old) (R.remaining input.new) (take len buffer.new)) }
+    ensures rest { IfOk result (λ len.
+        Consumes (R.remaining input.old) (R.remaining input.new) (take len buffer.new)) }
 {
     let mut len = 0;
     while len < buffer.len() {

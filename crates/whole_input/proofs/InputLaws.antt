@@ -2,7 +2,8 @@
 --     front_put      the front of a buffer, once bytes are put behind what stands there
 --     lost_more      what an input has lost, once it has lost more
 -- Assumes nothing.
-use Rattle.std.proofs.Common.{◌≡◌, ◌∙◌, ap, sym, ℕ, ◌+◌, ◌≤◌, List, ◌++◌, append_assoc, arith, drop, drop_at, length, length-take-le, take}
+use Rattle.std.proofs.Common.{◌≡◌, ◌∙◌, ap, sym, ℕ, ◌+◌, ◌≤◌, arith}
+use Rattle.std.proofs.Common.{List, ◌++◌, append_assoc, drop, drop_at, length, length-take-le, take}
 use Rattle.std.proofs.lemmas.Slice.{take-put_mid_below}
 use Rattle.std.specs.Io.KnownBytes.{Consumes}
 use Rattle.std.specs.Prelude.{Option, None, Some}
@@ -16,7 +17,8 @@ front_put a k n xs ys within fits =
     take-add a n (put_mid a k xs ys) ∙ ap (λ l. l ++ take n (drop a (put_mid a k xs ys))) before
     ∙ ap (λ l. take a xs ++ take n l) behind ∙ ap (λ l. take a xs ++ l) (take-append-le n ys (post_of a k xs) fits)
 
-pub lost_more : (old mid new : Option (List ℕ)) (front part : List ℕ) → Consumes old mid front → Consumes mid new part → Consumes old new (front ++ part)
+pub lost_more : (old mid new : Option (List ℕ)) (front part : List ℕ) → Consumes old mid front → Consumes mid new part
+    → Consumes old new (front ++ part)
 lost_more None mid new front part first second = tt
 lost_more (Some xs) None new front part first second = absurd first
 lost_more (Some xs) (Some ys) None front part first second = absurd second
