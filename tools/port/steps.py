@@ -60,7 +60,7 @@ def turned(text, it):
         return "." + step_bare.get(bare(name), name)
 
     # a step is always followed by what is known of it; `_lem` is from rename.py, which took a step for a lemma
-    text = re.sub(r"\.([a-z][A-Za-z0-9_\-]*)(?=\.)", lambda m: step(m) if bare(m.group(1)) in step_bare else m.group(0), text)
+    text = re.sub(r"(?<!args)\.([a-z][A-Za-z0-9_\-]*)(?=\.)", lambda m: step(m) if bare(m.group(1)) in step_bare else m.group(0), text)
     for old, new in loops.items():
         for kind in ("invariant", "decreases"):
             text = re.sub(rf"(?<![\w\-]){kind}-{re.escape(old)}(?![\w\-])", f"{kind}-{new}", text)
@@ -83,7 +83,7 @@ def main():
         if not os.path.exists(path) or (only and folder.split("/")[-1] not in only):
             continue
         text = open(path, encoding="utf-8").read()
-        new = turned(text, it)
+        new = "\n".join(l if l.startswith("use ") else turned(l, it) for l in text.split("\n"))
         if new != text:
             open(path, "w", encoding="utf-8").write(new)
             print("turned", folder)

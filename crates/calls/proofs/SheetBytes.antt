@@ -9,13 +9,13 @@ use Prim.Native.Nat.{ℕ, suc, ◌+◌, ◌*◌, ◌<◌}
 use native.Mathlib.Omega.{arith}
 use lib.ListN.{length, get_or, drop, length-append, length-map, get_or-append, get_or-map}
 use lib.Seq.{get_or-append-add}
-use Rattle.futures.proofs.Demand3.{demand_3}
+use Rattle.run_futures.proofs.Demand3.{demand_3}
 use Rattle.tables.proofs.FormatLaws.{known_process}
 use Rattle.keep_sheet.proofs.FewLaws.{kept_few}
 use Rattle.keep_sheet.proofs.KeptLaws.{any_default, checkpoints_listed, keeps_checkpoint_lem, listed_at, messages_listed}
-use Rattle.futures.specs.Demand3.{Demand3}
+use Rattle.run_futures.specs.Demand3.{Demand3}
 use Rattle.tables.specs.Lists.{Listed}
-use Rattle.futures.specs.Futures.{CheckpointNeeded, MessageNeeded}
+use Rattle.run_futures.specs.Futures.{CheckpointNeeded, MessageNeeded}
 use Rattle.keep_sheet.specs.Sheet.{Checkpoint, kept_checkpoints, kept_messages, sheet}
 use Rattle.calls.proofs.AnswerLaws.{put_in_front}
 use Rattle.calls.specs.Calls.{HoldsSheet, ListsCheckpoint, ListsMessage}

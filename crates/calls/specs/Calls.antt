@@ -4,7 +4,7 @@ use Rattle.std.specs.Prelude.{cond, true, List, [], ◌++◌, ◌↔◌, ◌≡�
 use Rattle.consistency.specs.Ceilings.{ceiling_of, holder_lines, line_of}
 use Rattle.consistency.specs.Lines.{AtOrBelow, Latest, Line, as_line}
 use Rattle.consistency.specs.Lowering.{line_under}
-use Rattle.futures.specs.Futures.{CheckpointNeeded, MessageNeeded}
+use Rattle.run_futures.specs.Futures.{CheckpointNeeded, MessageNeeded}
 use Rattle.keep_sheet.specs.Sheet.{sheet}
 use Rattle.steps.specs.Steps.{after_checkpoint, after_receipt, after_rollback, after_send}
 use Rattle.calls.specs.Answers.{Answer, Yields, answer, answered}

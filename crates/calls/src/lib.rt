@@ -1,1 +1,2 @@
 // What each call answers: definitions and laws, and no code.
+#![tactic(auto)]

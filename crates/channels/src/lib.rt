@@ -1,5 +1,7 @@
 // Whether the messages of each channel are in turn (check 23), found in one loop over the messages: each
 // beside the one before it in its channel. The loop is that of `run_table::checks`.
+#![tactic(auto)]
+
 ghost use Rattle.std.specs.Prelude.{◌≡◌, ◌+◌, ◌*◌, ◌<◌, length};
 ghost use Rattle.channels.specs.Neighbours.{Lasts, behind_neighbour, channel_at};
 ghost use Rattle.tables.specs.Checks.{out_of_turn};

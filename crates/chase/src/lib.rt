@@ -1,6 +1,8 @@
 // A chase of rollbacks from process to process, in front of the passes: each process goes back over its own
 // messages as far as its line has fallen, and no further. In a table that a run writes, the send numbers of
 // a process never fall with the position, and a chase leaves no orphan.
+#![tactic(auto)]
+
 ghost use Rattle.std.specs.Prelude.{◌≡◌, ◌*◌, ◌-◌, ◌≤◌, ◌<◌, length};
 ghost use Rattle.lowering.specs.Lowered.{BroughtDown, messages_of};
 ghost use Rattle.tables.specs.Lists.{tabulate};

@@ -1,5 +1,7 @@
 // Ceilings that a caller chooses: a number for each process, the latest at which it may stand. A
 // checkpoint's number is below the process's count; the count stands for its virtual checkpoint.
+#![tactic(auto)]
+
 ghost use Rattle.std.specs.Prelude.{◌≡◌, ◌*◌, ◌≤◌, length};
 ghost use Rattle.consistency.specs.Ceilings.{above_counts};
 ghost use Rattle.consistency.specs.Lowering.{line_under};

@@ -1,5 +1,7 @@
 // The lines of single holders: the line of one process that takes no further checkpoint, and all N of them
 // in a scratch, one after another.
+#![tactic(auto)]
+
 pub mod propagation;
 pub mod scratch;
 

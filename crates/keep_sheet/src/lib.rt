@@ -1,1 +1,2 @@
 // The keep sheet: definitions and laws, and no code.
+#![tactic(auto)]

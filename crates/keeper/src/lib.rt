@@ -5,6 +5,8 @@
 //
 // Each call reads alike: its refusal by the checks before 16, the size of its answer, 16, the answer. A no
 // of `keeper_stand_together` has no bytes, and comes before 16.
+#![tactic(auto)]
+
 pub mod sizes;
 
 ghost use Rattle.std.specs.Prelude.{true, ◌≡◌, ℕ, length};

@@ -19,6 +19,8 @@
 //     # TEXT              printed as it stands
 // test_kit has the lines that build a table. A further call is a word of `call_of` and an arm of `ask`, with
 // LEN as its second number.
+#![tactic(auto)]
+
 ghost use Rattle.std.specs.Prelude.{◌≡◌, ◌+◌, ◌-◌, ◌≤◌, drop, length, take};
 ghost use Rattle.keeper_cases.specs.Places.{line_numbers, scratch_size};
 ghost use Rattle.test_kit.specs.Guards.{guards, most_room, space_size};

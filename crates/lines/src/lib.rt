@@ -1,5 +1,7 @@
 // Lines of a run table: the latest consistent line under a ceiling, and the ceiling of a process set. A
 // line is an array of 32 numbers by value; its entries at N and above are 0, and so are a ceiling's.
+#![tactic(auto)]
+
 pub mod ceilings;
 pub mod settling;
 

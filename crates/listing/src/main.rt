@@ -1,5 +1,7 @@
 // The listing program: reads a run table from standard input and prints its listing, or the number of
 // the check that refuses it.
+#![tactic(auto)]
+
 ghost use Rattle.std.specs.Prelude.{◌≤◌, ◌<◌, length, take};
 ghost use Rattle.io.specs.Counts.{IsPrefixLen};
 ghost use Rattle.listing.specs.Input.{ListsInput};

@@ -1,1 +1,2 @@
 // What a listing says: definitions and laws, and no code.
+#![tactic(auto)]

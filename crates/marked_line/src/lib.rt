@@ -1,5 +1,7 @@
 // The line under ceilings by the marking procedure: its root set is an array by value, its marks are the bits
 // of a lent buffer.
+#![tactic(auto)]
+
 ghost use Rattle.std.specs.Prelude.{false, ◌||◌, ◌≡◌, ◌+◌, ◌*◌, ◌/◌, ◌≤◌, ◌<◌, eqb, get_or, length, take};
 ghost use Rattle.consistency.specs.Ceilings.{Ceiling};
 ghost use Rattle.marked_line.specs.Marking.{BitThere, GaveWay, Given, Kept, LatestUnset, Lent, OnlyBehind};

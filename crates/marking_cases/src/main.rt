@@ -9,6 +9,8 @@
 //                         of which is FILL before the call
 //     # TEXT              printed as it stands
 // test_kit has the lines that build a table.
+#![tactic(auto)]
+
 ghost use Rattle.std.specs.Prelude.{◌≡◌, ◌+◌, ◌≤◌, length};
 ghost use Rattle.test_kit.specs.Guards.{guards, most_room, space_size};
 

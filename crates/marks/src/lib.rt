@@ -1,5 +1,7 @@
 // Marks of states as bits of a lent buffer, set and asked for in place: state y of process p has bit
 // first[p] + y, and bit b stands in byte b / 8.
+#![tactic(auto)]
+
 ghost use Rattle.std.specs.Prelude.{◌≡◌, ◌+◌, ◌*◌, ◌/◌, ◌≤◌, ◌<◌, get_or, length};
 ghost use Rattle.marks.specs.Bits.{Onwards, SetFrom, bit_at, first_bit, most_bits, with_bit};
 ghost use Rattle.marks.specs.Room.{cleared, marks_size};

@@ -1,4 +1,6 @@
 // The minimum, place by place, of the lines of a set's members.
+#![tactic(auto)]
+
 ghost use Rattle.std.specs.Prelude.{◌≡◌, ◌≤◌, min, get_or, length};
 ghost use Rattle.consistency.specs.Ceilings.{smallest};
 ghost use Rattle.consistency.specs.Lines.{as_line};

@@ -1,5 +1,7 @@
 // Checkpoints that a caller names, in two parallel lists of processes and of their checkpoints' numbers: what
 // the checks ask of them, the line under their ceiling, and whether that line has them all.
+#![tactic(auto)]
+
 ghost use Rattle.std.specs.Prelude.{◌≡◌};
 ghost use Rattle.named_checkpoints.specs.Lists.{Parallel};
 ghost use Rattle.tables.specs.Arrays.{array_of};

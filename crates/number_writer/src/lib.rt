@@ -1,4 +1,6 @@
 // Numbers put from a place of a buffer on: into bytes, of a slice or of a table's part; into another slice.
+#![tactic(auto)]
+
 ghost use Rattle.std.specs.Prelude.{◌≡◌, ◌+◌, ◌*◌, ◌≤◌, length};
 ghost use Rattle.tables.specs.Lists.{tabulate};
 ghost use Rattle.tables.specs.Numbers.{put_at, u16_at, u16s, u32_bytes};

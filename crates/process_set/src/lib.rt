@@ -1,5 +1,7 @@
 // Sets of processes: a set is a number of 32 bits, and process p is in it where bit p is set
 // (docs/MANUAL.md, "Lines": processes that hold).
+#![tactic(auto)]
+
 ghost use Rattle.std.specs.Prelude.{◌≡◌, ◌<◌, ◌^◌};
 ghost use Rattle.process_set.specs.Sets.{high_bit, member, some_high_bit};
 

@@ -1,5 +1,7 @@
 // The refusals of the calls: the number of the first check before 16 that catches, or 0. The table's
 // checks come first, so what stands behind them judges an accepted table.
+#![tactic(auto)]
+
 ghost use Rattle.std.specs.Prelude.{◌≡◌, leb};
 ghost use Rattle.call_checks.specs.CallChecks.{checkpoint_call_checks, full_of_checkpoints, full_of_messages};
 ghost use Rattle.call_checks.specs.CallChecks.{keep_sheet_checks, line_of_set_checks, line_under_checks, marked_line_checks};

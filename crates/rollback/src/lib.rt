@@ -1,4 +1,6 @@
 // A rollback of the run to its recovery line: how many messages stay, and the table that it leaves.
+#![tactic(auto)]
+
 ghost use Rattle.std.specs.Prelude.{◌≡◌, ◌+◌, ◌*◌, ◌≤◌, length};
 ghost use Rattle.steps.specs.Steps.{after_rollback};
 ghost use Rattle.tables.specs.Arrays.{array_of};

@@ -1,4 +1,6 @@
 // A quotient as a whole number.
+#![tactic(auto)]
+
 ghost use Rattle.std.specs.Prelude.{◌<◌};
 ghost use Rattle.rounding.specs.Rounding.{Rounded};
 

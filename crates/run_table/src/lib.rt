@@ -1,5 +1,7 @@
 // The run table: its checks, and its numbers by place (docs/MANUAL.md, "The run table"). It stands below
 // the keeper and knows nothing of it: plotting tools link it alone.
+#![tactic(auto)]
+
 pub mod checks;
 
 ghost use Rattle.std.specs.Prelude.{◌≡◌};

@@ -5,6 +5,8 @@
 //     lookup LEN P K     N, M, the count of P and the four numbers of message K in the first LEN bytes
 //     # TEXT             printed as it stands
 // test_kit has the lines that build a table.
+#![tactic(auto)]
+
 use libc::STDIN_FILENO;
 use test_kit::{SPACE, asked, build, comment, end, first, length_of, value};
 use test_script::{line_at, numbers_in, says, size};

@@ -8,6 +8,8 @@
 //                         32,968 at most; with a scratch of NUMBERS numbers, 1,100 at most
 //     # TEXT              printed as it stands
 // test_kit has the lines that build a table.
+#![tactic(auto)]
+
 ghost use Rattle.std.specs.Prelude.{◌≡◌, ◌+◌, ◌≤◌, ◌<◌, length};
 ghost use Rattle.test_kit.specs.Guards.{guards, most_room, space_size};
 

@@ -1,5 +1,7 @@
 // The lines of many sets: the lines of single holders are found once, and the line of each set is their
 // place-by-place minimum over its members. That of the empty set is the counts.
+#![tactic(auto)]
+
 ghost use Rattle.std.specs.Prelude.{◌≡◌, ◌*◌, ◌≤◌, get_or, length};
 ghost use Rattle.consistency.specs.Ceilings.{holder_lines, line_of};
 ghost use Rattle.holder_lines.specs.Scratch.{LinesOf};

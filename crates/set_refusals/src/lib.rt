@@ -1,5 +1,7 @@
 // What the call on a list of sets refuses before 16. The table's checks come first, so what stands behind
 // them judges an accepted table.
+#![tactic(auto)]
+
 ghost use Rattle.std.specs.Prelude.{◌≡◌};
 ghost use Rattle.call_checks.specs.CallChecks.{lines_of_sets_checks};
 ghost use Rattle.tables.specs.Checks.{first_caught};

@@ -1,4 +1,6 @@
 // The keep sheet, from a scratch with the lines of single holders: the sizes of its arrays, its bytes.
+#![tactic(auto)]
+
 pub mod writer;
 pub mod writing;
 

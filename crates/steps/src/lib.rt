@@ -1,1 +1,2 @@
 // Steps on tables: definitions and laws, and no code.
+#![tactic(auto)]

@@ -1,4 +1,6 @@
 // The sweep that begins a chase: one for all processes, from the last message to the first.
+#![tactic(auto)]
+
 ghost use Rattle.std.specs.Prelude.{◌≡◌, length};
 ghost use Rattle.sweep.specs.Cursors.{Placed};
 ghost use Rattle.lowering.specs.Lowered.{BroughtDown, messages_of};

@@ -1,4 +1,6 @@
 // What a table is written of, numbers apart: its entries and its head. The steps put a table together of these.
+#![tactic(auto)]
+
 ghost use Rattle.std.specs.Prelude.{[], ◌∷◌, ◌≡◌, ◌+◌, ◌<◌, ◌≤◌, length};
 ghost use Rattle.tables.specs.Format.{sends_at};
 ghost use Rattle.tables.specs.Numbers.{put_at, u16s};

@@ -1,5 +1,7 @@
 // What the test programs build tables and print their lines with. A place beyond the end of a buffer
 // is left out, so that every function takes any buffer.
+#![tactic(auto)]
+
 pub mod guards;
 
 ghost use Rattle.std.specs.Prelude.{◌≡◌, ◌<◌, get_or, length, set, take};

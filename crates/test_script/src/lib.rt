@@ -1,5 +1,7 @@
 // A test script: lines of a word and decimal numbers, as "message 0 1 2 3 4". A word is all that stands
 // before the first blank.
+#![tactic(auto)]
+
 ghost use Rattle.std.specs.Prelude.{true, ◌≡◌, ◌+◌, ◌%◌, ◌<◌, ◌≤◌, min, get_or, length, take};
 ghost use Rattle.tables.specs.Lists.{tabulate};
 ghost use Rattle.test_script.specs.Scripts.{ceiling_at, line_at, up_to, word_of};

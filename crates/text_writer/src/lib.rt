@@ -1,5 +1,7 @@
 // Text put into a buffer, one byte after another. Each function answers the next place. What lies
 // beyond the end of the buffer is counted and not written, so that an empty buffer measures a text.
+#![tactic(auto)]
+
 ghost use Rattle.std.specs.Prelude.{◌∷◌, [], ◌+◌, ◌<◌};
 ghost use Rattle.text_writer.specs.Text.{Fits, Laid, decimal, each, field};
 

@@ -40,51 +40,51 @@ entry c = (swept c).before.before.before.before.before
 abbrev turn : tie.In-back invariant-back decreases-back invariant-chase decreases-chase → tie.In-chase invariant-back decreases-back invariant-chase decreases-chase
 turn c = c.before.before.before
 
-abbrev back : tie.Else1 invariant-back decreases-back invariant-chase decreases-chase → tie.In-back invariant-back decreases-back invariant-chase decreases-chase
+abbrev back : tie.Else-u16_at-fallen invariant-back decreases-back invariant-chase decreases-chase → tie.In-back invariant-back decreases-back invariant-chase decreases-chase
 back c = c.before.before
 
-abbrev after : tie.After-last-sent2 invariant-back decreases-back invariant-chase decreases-chase → tie.Else1 invariant-back decreases-back invariant-chase decreases-chase
+abbrev after : tie.After-last_sent-k-in-back invariant-back decreases-back invariant-chase decreases-chase → tie.Else-u16_at-fallen invariant-back decreases-back invariant-chase decreases-chase
 after c = c.before.before.before
 
 -- ---- what is known there: the process that leaves the stack; the message; and that it is an orphan
 abbrev top : tie.In-chase invariant-back decreases-back invariant-chase decreases-chase → ℕ
 top c = get_or c.before.chase.stack (c.before.chase.height - 1) 0
 
-read : (c : tie.After-last-sent2 invariant-back decreases-back invariant-chase decreases-chase)
+read : (c : tie.After-last_sent-k-in-back invariant-back decreases-back invariant-chase decreases-chase)
     → (let here = back (after c) in
     let args = (entry (turn here)).args in
-    MessageRead args.m args.sends.now args.receipts.now here.before.back.k (top (turn here)) (after c).before.u16-at.result
-    c.before.before.u16-at2.result c.before.u16-at3.result)
+    MessageRead args.m args.sends.now args.receipts.now here.before.back.k (top (turn here)) (after c).before.u16_at.result
+    c.before.before.u16_at-receiver.result c.before.u16_at-received.result)
 read c =
     let here = back (after c) in
     record {
-      given = here.before.back.inv.chasing.given;
-      within = here.before.back.inv.sent.0;
-      more = here.back-test.taken;
-      sender = sym (here.before.back.inv.sent.1 here.back-test.taken);
-      sent = (after c).before.u16-at.ensures;
-      receiver = c.before.before.u16-at2.ensures;
-      received = c.before.u16-at3.ensures;
+      given = here.before.back.invariant.chasing.given;
+      within = here.before.back.invariant.sent.0;
+      more = here.back-test.true;
+      sender = sym (here.before.back.invariant.sent.1 here.back-test.true);
+      sent = (after c).before.u16_at.ensures;
+      receiver = c.before.before.u16_at-receiver.ensures;
+      received = c.before.u16_at-received.ensures;
     }
 
-orphan : (c : tie.Else3 invariant-back decreases-back invariant-chase decreases-chase)
+orphan : (c : tie.Else-line-receiver invariant-back decreases-back invariant-chase decreases-chase)
     → (let found = c.before.before in
     let here = back (after found) in
     let outer = turn here in
     let args = (entry outer).args in
     let b = here.before.back in
     AtOrphan args.m args.sends.now args.receipts.now outer.before.chase.line (outer.before.chase.height - 1)
-    outer.before.chase.cursors (top outer) b.line b.stack b.stacked b.height b.k found.last-sent2.result
-    (after found).before.u16-at.result found.before.before.u16-at2.result found.before.u16-at3.result)
+    outer.before.chase.cursors (top outer) b.line b.stack b.stacked b.height b.k found.last_sent-k-in-back.result
+    (after found).before.u16_at.result found.before.before.u16_at-receiver.result found.before.u16_at-received.result)
 orphan c =
     let found = c.before.before in
     record {
-      going = (back (after found)).before.back.inv;
-      next = found.last-sent2.ensures;
+      going = (back (after found)).before.back.invariant;
+      next = found.last_sent-k-in-back.ensures;
       message = read found;
-      sent_after = (after found).if1.false;
-      delivered = c.before.if2.false;
-      received-before = c.if3.false;
+      sent_after = (after found).if-u16_at-fallen.false;
+      delivered = c.before.if-received-eq0.false;
+      received-before = c.if-line-receiver.false;
     }
 
 -- ---- the needs, in the code's course
@@ -107,7 +107,7 @@ chase_spec =
     (λ c.
     let swept = c.before.before.before in
     let asked = swept.before.before.before.before.before.requires in
-    chase_begins _ asked.0 asked.1 swept.sweep.ensures.1 c.every-process.ensures)
+    chase_begins _ asked.0 asked.1 swept.sweep.ensures.1 c.every_process-stack.ensures)
     -- a process leaves the stack
     (λ c. omega arith)
     (λ c. omega (arith, c.before.chase.invariant.room))
@@ -121,7 +121,7 @@ chase_spec =
     (λ c. c.before.chase.invariant.known _)
     (λ c. omega (arith, c.before.chase.invariant.placed (top c)))
     (λ c κs. omega (arith, c.before.chase.invariant.placed (top c), c.before.chase.invariant.given.sends_size))
-    (λ c. back_begins c.before.before.chase.invariant c.before.chase-test.true c.last-sent.ensures)
+    (λ c. back_begins c.before.before.chase.invariant c.before.chase-test.true c.last_sent-k.ensures)
     -- where its message was sent
     (λ c. omega arith) (λ c. omega arith) (λ c. omega arith) (λ c κs. omega arith)
     -- its receipt, and the next message
@@ -129,13 +129,13 @@ chase_spec =
     (λ c κs. omega arith) (λ c. omega arith) (λ c κs. omega arith)
     -- it is undelivered
     (λ c. omega arith)
-    (λ c. back_skips (back (after c.before)).before.back.inv c.before.last-sent2.ensures)
+    (λ c. back_skips (back (after c.before)).before.back.invariant c.before.last_sent-k-in-back.ensures)
     -- it was received after the line
     (λ c. omega arith)
     (λ c. omega (arith, receiver_small (read c.before)))
     (λ c. receiver_small (read c.before))
     (λ c. omega arith)
-    (λ c. back_skips (back (after c.before.before)).before.back.inv c.before.before.last-sent2.ensures)
+    (λ c. back_skips (back (after c.before.before)).before.back.invariant c.before.before.last_sent-k-in-back.ensures)
     -- it is an orphan
     (λ c. omega arith)
     (λ c. omega arith)
@@ -149,9 +149,9 @@ chase_spec =
     (λ c. omega arith)
     (λ c. receiver_small (read c.before.before.before))
     (λ c. omega arith)
-    (λ c. stack_room (orphan c.before) c.if4.false)
+    (λ c. stack_room (orphan c.before) c.if-stacked-receiver.false)
     (λ c. omega arith) (λ c. omega arith)
-    (λ c. back_stacks (orphan c.before) c.if4.false)
+    (λ c. back_stacks (orphan c.before) c.if-stacked-receiver.false)
     -- the process has gone back
     (λ c. omega arith) (λ c. omega arith)
     (λ c. c.before.back.invariant.small)

@@ -45,7 +45,7 @@ last_sent_spec =
     -- one of eight
     (λ c. (c.eights-test.true, c.before.eights.invariant))
     (λ c. omega arith) (λ c. omega arith) (λ c. omega arith) (λ c κs. omega arith) (λ c. omega arith) (λ c. omega arith)
-    (λ c. (omega arith, λ _. sym c.before.u16-at.ensures ∙ c.if1.true))
+    (λ c. (omega arith, λ _. sym c.before.u16_at.ensures ∙ c.if-u16_at-p.true))
     (λ c. omega arith) (λ c. omega arith)
     (λ c. c.before.before.before.eight.invariant)
     (λ c. omega arith)
@@ -53,7 +53,7 @@ last_sent_spec =
     -- one of the rest
     (λ c. c.before.eights.invariant)
     (λ c. omega arith) (λ c. omega arith) (λ c κs. omega arith) (λ c. omega arith)
-    (λ c. (omega arith, λ _. sym c.before.u16-at2.ensures ∙ c.if2.true))
+    (λ c. (omega arith, λ _. sym c.before.u16_at-in-rest.ensures ∙ c.if-u16_at-p-2.true))
     (λ c. omega arith) (λ c. omega arith)
     (λ c. (omega arith, c.before.before.before.rest.invariant.1))
     -- none

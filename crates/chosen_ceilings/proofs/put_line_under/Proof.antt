@@ -8,10 +8,10 @@ use Rattle.chosen_ceilings.proofs.put_line_under.Statement.{statement}
 use Rattle.chosen_ceilings.proofs.put_line_under.Tie as tie
 
 -- ---- the places: the entry, from where the ceilings were read; that, from where the line was put
-abbrev entry : tie.After-number-array → tie.Start
+abbrev entry : tie.After-number_array → tie.Start
 entry c = c.before.before.before.before
 
-abbrev lined : tie.After-put-line → tie.After-line-under
+abbrev lined : tie.After-put_line → tie.After-line_under
 lined c = c.before.before
 
 -- ---- the needs, in the code's course
@@ -26,5 +26,5 @@ put_line_under_spec =
     (λ c.
     let put = c.before.before in
     let read = (lined put).before in
-    let asked = (entry read).pre in
-    rw (under_read _ asked.0 _ asked.1.0 read.number-array.ensures _ (lined put).line-under.ensures) at put.put-line.ensures))
+    let asked = (entry read).requires in
+    rw (under_read _ asked.0 _ asked.1.0 read.number_array.ensures _ (lined put).line_under.ensures) at put.put_line.ensures))

@@ -12,9 +12,9 @@ entry c = c.before.before.before.before.before
 
 -- ---- what is known there: the messages
 read : (c : tie.After-receipts)
-    → ReadMessages (entry c).args.table.now c.before.before.before.message_count_lem.result c.before.sends.result.now
+    → ReadMessages (entry c).args.table.now c.before.before.before.message_count-m.result c.before.sends.result.now
     c.receipts.result.now
-read c = messages_read (entry c).requires c.before.before.before.message_count_lem.ensures c.before.sends.ensures c.receipts.ensures
+read c = messages_read (entry c).requires c.before.before.before.message_count-m.ensures c.before.sends.ensures c.receipts.ensures
 
 -- ---- the needs, in the code's course
 pub propagating_spec : {M : Type 1} → statement M

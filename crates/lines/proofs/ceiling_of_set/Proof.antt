@@ -17,7 +17,7 @@ ceiling_of_set_spec =
     tie.close
     (tie.spec
     (λ c κs. search rules) (λ c κs. search rules)
-    (λ c κs. counts_known _ (entry c).requires c.before.process_count_lem.ensures c.counts.ensures)
+    (λ c κs. counts_known _ (entry c).requires c.before.process_count-n.ensures c.counts.ensures)
     (λ c.
     let read = c.before in
-    c.ceiling.ensures ∙ ceiling_read _ (entry read).requires read.before.process_count_lem.ensures read.counts.ensures _))
+    c.ceiling.ensures ∙ ceiling_read _ (entry read).requires read.before.process_count-n.ensures read.counts.ensures _))

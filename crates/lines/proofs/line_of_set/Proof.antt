@@ -14,4 +14,4 @@ line_of_set_spec =
     (λ c κs. search rules) (λ c κs. search rules)
     (λ c.
     let ceiling = c.before in
-    c.line-under.ensures ∙ ap (line_under _) ceiling.ceiling-of-set.ensures ∙ set_read _ ceiling.before.before.requires _))
+    c.line_under.ensures ∙ ap (line_under _) ceiling.ceiling_of_set.ensures ∙ set_read _ ceiling.before.before.requires _))

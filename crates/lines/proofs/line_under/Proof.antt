@@ -6,4 +6,4 @@ use Rattle.lines.proofs.line_under.Tie as tie
 
 -- ---- the needs, in the code's course
 pub line_under_spec : {M : Type 1} → statement M
-line_under_spec = tie.close (tie.spec (λ c κs. search rules) (λ c. c.settled-line.ensures))
+line_under_spec = tie.close (tie.spec (λ c κs. search rules) (λ c. c.settled_line.ensures))

@@ -12,17 +12,17 @@ use Rattle.lines.proofs.put_line.Statement.{statement}
 use Rattle.lines.proofs.put_line.Tie as tie
 
 -- ---- the places: the entry; where N was read
-abbrev entry : tie.After-process-count → tie.Start
+abbrev entry : tie.After-process_count-n → tie.Start
 entry c = c.before.before.before
 
-abbrev sized : tie.After-put-numbers → tie.After-process-count
+abbrev sized : tie.After-put_numbers → tie.After-process_count-n
 sized c = c.before.before.before
 
 -- ---- what is known there: N is small, and the part that is put has N numbers
-few : (c : tie.After-process-count) → c.process_count_lem.result ≤ most_processes
+few : (c : tie.After-process_count-n) → c.process_count-n.result ≤ most_processes
 few c = omega (arith, processes_few _ (entry c).requires.0)
 
-front : (c : tie.After-process-count) → length (take c.process_count_lem.result (entry c).args.t2) ≡ c.process_count_lem.result
+front : (c : tie.After-process_count-n) → length (take c.process_count-n.result (entry c).args.line) ≡ c.process_count-n.result
 front c = length-take-le _ _ (omega (arith, few c))
 
 -- ---- the needs, in the code's course
@@ -37,4 +37,4 @@ put_line_spec =
     (λ c. search rules)
     (λ c.
     let put = c.before.before in
-    rw (sized put).process_count_lem.ensures at put.put-numbers.ensures))
+    rw (sized put).process_count-n.ensures at put.put_numbers.ensures))

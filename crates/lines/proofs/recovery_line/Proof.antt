@@ -14,4 +14,4 @@ recovery_line_spec =
     tie.close
     (tie.spec
     (λ c κs. search rules)
-    (λ c. c.line-of-set.ensures ∙ ap array_of (all_hold _ c.before.before.requires)))
+    (λ c. c.line_of_set.ensures ∙ ap array_of (all_hold _ c.before.before.requires)))

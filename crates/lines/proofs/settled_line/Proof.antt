@@ -14,8 +14,8 @@ entry c = c.before.before.before.before.before
 
 -- ---- what is known there: the messages
 read : (c : tie.After-receipts)
-    → ReadMessages (entry c).args.table.now c.before.before.message_count_lem.result c.before.sends.result.now c.receipts.result.now
-read c = messages_read (entry c).requires c.before.before.message_count_lem.ensures c.before.sends.ensures c.receipts.ensures
+    → ReadMessages (entry c).args.table.now c.before.before.message_count-m.result c.before.sends.result.now c.receipts.result.now
+read c = messages_read (entry c).requires c.before.before.message_count-m.ensures c.before.sends.ensures c.receipts.ensures
 
 -- ---- the needs, in the code's course
 pub settled_line_spec : {M : Type 1} → statement M
@@ -26,5 +26,5 @@ settled_line_spec =
     (λ c κs.
     let parted = c.before in
     let few = processes_few _ (entry parted).requires in
-    (messages_known (read parted) few, omega (arith, few, parted.before.before.before.process_count_lem.ensures)))
+    (messages_known (read parted) few, omega (arith, few, parted.before.before.before.process_count-n.ensures)))
     (λ c. c.settle.ensures ∙ line_read (read c.before.before) _))

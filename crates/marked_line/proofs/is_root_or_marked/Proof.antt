@@ -7,7 +7,7 @@ use Rattle.marked_line.proofs.is_root_or_marked.Statement.{statement}
 use Rattle.marked_line.proofs.is_root_or_marked.Tie as tie
 
 -- ---- the places: the entry, from where the first bit was looked up
-abbrev entry : tie.After-state-bit → tie.Start
+abbrev entry : tie.After-state_bit → tie.Start
 entry c = c.before.before.before.before.before.before
 
 -- ---- the needs, in the code's course
@@ -16,7 +16,7 @@ is_root_or_marked_spec =
     tie.close
     (tie.spec
     (λ c. omega arith) (λ c. omega arith)
-    (λ c. at_root _ c.if1.true)
+    (λ c. at_root _ c.if-y-roots.true)
     (λ c κs. search rules)
-    (λ c κs. omega (arith, c.state-bit.ensures, (entry c).requires.inside))
-    (λ c. by_bit _ _ _ _ c.before.before.if1.false c.before.state-bit.ensures c.is_marked.ensures))
+    (λ c κs. omega (arith, c.state_bit.ensures, (entry c).requires.inside))
+    (λ c. by_bit _ _ _ _ c.before.before.if-y-roots.false c.before.state_bit.ensures c.is_marked.ensures))

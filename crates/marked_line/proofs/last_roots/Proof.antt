@@ -13,55 +13,55 @@ use Rattle.tables.specs.Table.{process_count}
 use Rattle.marked_line.proofs.last_roots.Statement.{statement}
 use Rattle.marked_line.proofs.last_roots.Tie as tie
 
-abbrev invariant-loop : tie.invariant-loop
-invariant-loop table ceilings first marks₀ roots₀ marks roots = Running table ceilings first roots marks₀ marks
+abbrev invariant-loop-roots : tie.invariant-loop-roots
+invariant-loop-roots table ceilings first marks₀ roots₀ marks roots = Running table ceilings first roots marks₀ marks
 
-abbrev decreases-loop : tie.decreases-loop
-decreases-loop table ceilings first marks₀ roots₀ marks roots = sum (take (process_count (decode table)) roots)
+abbrev decreases-loop-roots : tie.decreases-loop-roots
+decreases-loop-roots table ceilings first marks₀ roots₀ marks roots = sum (take (process_count (decode table)) roots)
 
 -- ---- the places: the entry, from where the ceilings were read; a round, from where it was asked whether a root is marked
-abbrev entry : tie.After-number-array invariant-loop decreases-loop → tie.Start invariant-loop decreases-loop
+abbrev entry : tie.After-number_array-roots invariant-loop-roots decreases-loop-roots → tie.Start invariant-loop-roots decreases-loop-roots
 entry c = c.before.before.before.before.before
 
-abbrev round : tie.After-root-marked invariant-loop decreases-loop → tie.At-loop invariant-loop decreases-loop
+abbrev round : tie.After-root_marked invariant-loop-roots decreases-loop-roots → tie.At-loop-roots invariant-loop-roots decreases-loop-roots
 round c = c.before.before.before
 
-abbrev was_asked : tie.After-next-round invariant-loop decreases-loop → tie.Then1 invariant-loop decreases-loop
+abbrev was_asked : tie.After-next_round-roots invariant-loop-roots decreases-loop-roots → tie.In-loop-roots invariant-loop-roots decreases-loop-roots
 was_asked c = c.before.before.before
 
-abbrev begun : tie.At-loop invariant-loop decreases-loop → tie.After-start invariant-loop decreases-loop
+abbrev begun : tie.At-loop-roots invariant-loop-roots decreases-loop-roots → tie.After-start invariant-loop-roots decreases-loop-roots
 begun c = c.before.before.before
 
 -- ---- what is known there: no byte beyond the marks was changed
-kept : (c : tie.After-root-marked invariant-loop decreases-loop)
+kept : (c : tie.After-root_marked invariant-loop-roots decreases-loop-roots)
     → (let args = (entry (begun (round c)).before.before.before).args in
-    Kept (decode args.table.now) args.marks.now (round c).loop.marks)
-kept c = kept_both (begun (round c)).start.ensures.kept (round c).loop.invariant.kept
+    Kept (decode args.table.now) args.marks.now (round c).loop-roots.marks)
+kept c = kept_both (begun (round c)).start.ensures.kept (round c).loop-roots.invariant.kept
 
 -- ---- the needs, in the code's course
 pub last_roots_spec : {M : Type 1} → statement M
 last_roots_spec =
     tie.close
     (tie.spec
-    invariant-loop
-    decreases-loop
+    invariant-loop-roots
+    decreases-loop-roots
     (λ c κs. given_few c.before.before.before.before.requires)
     (λ c. search rules)
-    (λ c κs. given_roots (entry c.before.before).pre c.before.before.number-array.ensures)
+    (λ c κs. given_roots (entry c.before.before).requires c.before.before.number_array-roots.ensures)
     (λ c. running_since c.before.before.start.ensures)
     -- a round
     (λ c. search rules)
-    (λ c κs. c.before.before.loop.invariant.stands.lent)
+    (λ c κs. c.before.before.loop-roots.invariant.stands.lent)
     (λ c. search rules)
-    (λ c κs. (round c.before.before.before).loop.inv.stands)
+    (λ c κs. (round c.before.before.before).loop-roots.invariant.stands)
     (λ c.
     let made = c.before.before in
     let asked = was_asked made in
-    running_falls (round asked.before).loop.inv (sym asked.if1.taken ∙ asked.before.root-marked.ensures) made.next-round.ensures)
+    running_falls (round asked.before).loop-roots.invariant (sym asked.loop-roots-test.true ∙ asked.before.root_marked.ensures) made.next_round-roots.ensures)
     (λ c.
     let made = c.before.before in
     let asked = was_asked made in
-    running_more (round asked.before).loop.inv (sym asked.if1.taken ∙ asked.before.root-marked.ensures) made.next-round.ensures)
+    running_more (round asked.before).loop-roots.invariant (sym asked.loop-roots-test.true ∙ asked.before.root_marked.ensures) made.next_round-roots.ensures)
     -- the end
     (λ c. (kept c.before).same_length)
-    (λ c. (running_ends (round c.before).loop.inv (sym c.if1.false ∙ c.before.root-marked.ensures), kept c.before)))
+    (λ c. (running_ends (round c.before).loop-roots.invariant (sym c.loop-roots-test.false ∙ c.before.root_marked.ensures), kept c.before)))

@@ -9,19 +9,19 @@ use Rattle.marked_line.proofs.RootLaws.{Descending, descends, descends_from, lan
 use Rattle.marked_line.proofs.latest_unmarked.Statement.{statement}
 use Rattle.marked_line.proofs.latest_unmarked.Tie as tie
 
-abbrev invariant-loop : tie.invariant-loop
-invariant-loop marks start root y₀ y = Descending marks start root y
+abbrev invariant-loop-start : tie.invariant-loop-start
+invariant-loop-start marks start root y₀ y = Descending marks start root y
 
-abbrev decreases-loop : tie.decreases-loop
-decreases-loop marks start root y₀ y = y
+abbrev decreases-loop-start : tie.decreases-loop-start
+decreases-loop-start marks start root y₀ y = y
 
 -- ---- the needs, in the code's course
 pub latest_unmarked_spec : {M : Type 1} → statement M
 latest_unmarked_spec =
     tie.close
     (tie.spec
-    invariant-loop
-    decreases-loop
+    invariant-loop-start
+    decreases-loop-start
     (λ c.
     let asked = c.before.requires in
     record {
@@ -32,7 +32,7 @@ latest_unmarked_spec =
       set_behind = λ y l l'. absurd (omega arith);
     })
     (λ c. omega arith) (λ c. omega arith) (λ c κs. omega arith)
-    (λ c. lands c.before.before.loop.invariant (sym c.before.is_marked.ensures ∙ not-true _ c.if1.true))
-    (λ c. omega (arith, descends_from c.before.before.loop.invariant (sym c.before.is_marked.ensures ∙ not-false _ c.if1.false)))
-    (λ c. omega (arith, descends_from c.before.before.loop.invariant (sym c.before.is_marked.ensures ∙ not-false _ c.if1.false)))
-    (λ c. descends c.before.before.loop.invariant (sym c.before.is_marked.ensures ∙ not-false _ c.if1.false)))
+    (λ c. lands c.before.before.loop-start.invariant (sym c.before.is_marked.ensures ∙ c.if-not-is_marked.true))
+    (λ c. omega (arith, descends_from c.before.before.loop-start.invariant (sym c.before.is_marked.ensures ∙ c.if-not-is_marked.false)))
+    (λ c. omega (arith, descends_from c.before.before.loop-start.invariant (sym c.before.is_marked.ensures ∙ c.if-not-is_marked.false)))
+    (λ c. descends c.before.before.loop-start.invariant (sym c.before.is_marked.ensures ∙ c.if-not-is_marked.false)))

@@ -15,7 +15,7 @@ abbrev decreases-loop : tie.decreases-loop
 decreases-loop table first roots marks₀ marks = unset marks (first_bit (decode table).counts (process_count (decode table)))
 
 -- ---- the places: the entry, from where the loop begins; a pass, from where it was made
-abbrev entry : tie.After-slice-known invariant-loop decreases-loop → tie.Start invariant-loop decreases-loop
+abbrev entry : tie.After-slice_known-1 invariant-loop decreases-loop → tie.Start invariant-loop decreases-loop
 entry c = c.before.before.before.before
 
 abbrev passes : tie.After-pass invariant-loop decreases-loop → tie.At-loop invariant-loop decreases-loop
@@ -32,7 +32,7 @@ mark_reachable_spec =
     let asked = (entry c).requires in
     record { lent = asked.0; grown = grown_none; ready = asked.1 })
     (λ c κs. (c.before.loop.invariant.lent, c.before.loop.invariant.ready))
-    (λ c. (passes_more (passes c.before.before.before).loop.inv c.before.before.before.pass.ensures).grown.kept.same_length)
-    (λ c. passes_end (passes c.before.before.before).loop.inv c.before.before.before.pass.ensures (not-true _ c.if1.true))
-    (λ c. c.before.before.before.pass.ensures.falls (not-false _ c.if1.false))
-    (λ c. passes_more (passes c.before.before.before).loop.inv c.before.before.before.pass.ensures))
+    (λ c. (passes_more (passes c.before.before.before).loop.invariant c.before.before.before.pass.ensures).grown.kept.same_length)
+    (λ c. passes_end (passes c.before.before.before).loop.invariant c.before.before.before.pass.ensures c.if-not-pass.true)
+    (λ c. c.before.before.before.pass.ensures.falls c.if-not-pass.false)
+    (λ c. passes_more (passes c.before.before.before).loop.invariant c.before.before.before.pass.ensures))

@@ -6,7 +6,7 @@ use Rattle.marked_line.proofs.next_round.Statement.{statement}
 use Rattle.marked_line.proofs.next_round.Tie as tie
 
 -- ---- the places: the entry, from where the roots gave way
-abbrev entry : tie.After-give-way → tie.Start
+abbrev entry : tie.After-give_way-next → tie.Start
 entry c = c.before.before.before.before.before.before
 
 -- ---- the needs, in the code's course
@@ -17,8 +17,8 @@ next_round_spec =
     (λ c κs. search rules) (λ c. search rules)
     (λ c κs.
     let gave = c.before.before in
-    (gave_lent (entry gave).requires gave.give-way.ensures, gave_ready (entry gave).requires gave.give-way.ensures))
-    (λ c. c.before.before.mark-reachable.ensures.kept.same_length)
+    (gave_lent (entry gave).requires gave.give_way-next.ensures, gave_ready (entry gave).requires gave.give_way-next.ensures))
+    (λ c. c.before.before.mark_reachable.ensures.kept.same_length)
     (λ c.
     let reached = c.before.before in
-    record { gave = reached.before.before.before.give-way.ensures; reached = reached.mark-reachable.ensures }))
+    record { gave = reached.before.before.before.give_way-next.ensures; reached = reached.mark_reachable.ensures }))

@@ -5,10 +5,10 @@ use Rattle.marked_line.proofs.put_marked_line.Statement.{statement}
 use Rattle.marked_line.proofs.put_marked_line.Tie as tie
 
 -- ---- the places: the entry, from where the line was found
-abbrev entry : tie.After-marked-line → tie.Start
+abbrev entry : tie.After-marked_line-line → tie.Start
 entry c = c.before.before.before.before.before.before
 
-abbrev found : tie.After-put-line-arg → tie.After-marked-line
+abbrev found : tie.After-put_line-arg-1 → tie.After-marked_line-line
 found c = c.before.before.before
 
 -- ---- the needs, in the code's course
@@ -25,4 +25,4 @@ put_marked_line_spec =
     (λ c. search rules) (λ c. search rules)
     (λ c.
     let line = found c.before.before.before in
-    (record { roots = _; by_marking = line.marked-line.ensures.0; put = c.before.before.put-line.ensures }, line.marked-line.ensures.1)))
+    (record { roots = _; by_marking = line.marked_line-line.ensures.0; put = c.before.before.put_line.ensures }, line.marked_line-line.ensures.1)))

@@ -8,25 +8,25 @@ use Rattle.marked_line.proofs.start.Statement.{statement}
 use Rattle.marked_line.proofs.start.Tie as tie
 
 -- ---- the places: the entry, from where the marks were cleared; that, from where the states behind the ceilings were marked
-abbrev entry : tie.After-clear-arg → tie.Start
+abbrev entry : tie.After-clear-arg-1 → tie.Start
 entry c = c.before.before.before.before.before.before
 
-abbrev blank : tie.After-mark-behind → tie.After-clear
+abbrev blank : tie.After-mark_behind → tie.After-clear
 blank c = c.before.before.before.before
 
-abbrev behind : tie.After-mark-reachable → tie.After-mark-behind
+abbrev behind : tie.After-mark_reachable → tie.After-mark_behind
 behind c = c.before.before.before.before
 
 -- ---- what is known at the end
-running : (c : tie.After-mark-reachable)
+running : (c : tie.After-mark_reachable)
     → (let args = (entry (blank (behind c)).before.before).args in
-    Running args.table.now args.ceilings.now args.first.now args.roots.now args.marks.now c.mark-reachable.new.1.1.1.0)
+    Running args.table.now args.ceilings.now args.first.now args.roots.now args.marks.now c.mark_reachable.new.1.1.1.0)
 running c =
     let set = behind c in
     let clear = blank set in
     let given = (entry clear.before.before).requires in
-    running_starts given clear.before.marks-size.ensures clear.clear.ensures set.mark-behind.ensures.0 set.mark-behind.ensures.1
-    c.mark-reachable.ensures
+    running_starts given clear.before.marks_size.ensures clear.clear.ensures set.mark_behind.ensures.0 set.mark_behind.ensures.1
+    c.mark_reachable.ensures
 
 -- ---- the needs, in the code's course
 pub start_spec : {M : Type 1} → statement M
@@ -34,18 +34,18 @@ start_spec =
     tie.close
     (tie.spec
     (λ c κs. search rules)
-    (λ c κs. omega (arith, c.marks-size.ensures))
+    (λ c κs. omega (arith, c.marks_size.ensures))
     (λ c κs.
     let clear = c.before.before.before in
     let given = (entry clear.before.before).requires in (
-      starts_lent given clear.before.marks-size.ensures clear.clear.ensures,
-      starts_unmarked given clear.before.marks-size.ensures
+      starts_lent given clear.before.marks_size.ensures clear.clear.ensures,
+      starts_unmarked given clear.before.marks_size.ensures
           clear.clear.ensures,
     ))
     (λ c κs.
     let set = c.before.before.before in
     let clear = blank set in
     let given = (entry clear.before.before).requires in
-    starts_ready given clear.before.marks-size.ensures clear.clear.ensures set.mark-behind.ensures.0 set.mark-behind.ensures.1)
+    starts_ready given clear.before.marks_size.ensures clear.clear.ensures set.mark_behind.ensures.0 set.mark_behind.ensures.1)
     (λ c. (running c.before.before).kept.same_length)
     (λ c. running c.before.before))

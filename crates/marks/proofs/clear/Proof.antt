@@ -10,21 +10,21 @@ use Rattle.tables.specs.Arrays.{Filled}
 use Rattle.marks.proofs.clear.Statement.{statement}
 use Rattle.marks.proofs.clear.Tie as tie
 
-abbrev invariant-loop : tie.invariant-loop
-invariant-loop marks₀ size k₀ marks k = (k ≤ size) × (size ≤ length marks₀) × Filled (λ _. 0) k marks₀ marks
+abbrev invariant-loop-k : tie.invariant-loop-k
+invariant-loop-k marks₀ size k₀ marks k = (k ≤ size) × (size ≤ length marks₀) × Filled (λ _. 0) k marks₀ marks
 
-abbrev decreases-loop : tie.decreases-loop
-decreases-loop marks₀ size k₀ marks k = size - k
+abbrev decreases-loop-k : tie.decreases-loop-k
+decreases-loop-k marks₀ size k₀ marks k = size - k
 
 -- ---- the needs, in the code's course
 pub clear_spec : {M : Type 1} → statement M
 clear_spec =
     tie.close
     (tie.spec
-    invariant-loop
-    decreases-loop
+    invariant-loop-k
+    decreases-loop-k
     (λ c. (omega arith, c.requires, filled_none))
     (λ c. omega arith) (λ c. omega arith) (λ c. omega arith)
-    (λ c. let (within, fits, filled) = c.before.loop.invariant in (omega arith, fits, filled_more filled refl refl))
-    (λ c. c.before.loop.invariant.2.same_length)
-    (λ c. let (within, fits, filled) = c.before.loop.invariant in filled_cleared (filled_all filled within c.loop-test.false) fits))
+    (λ c. let (within, fits, filled) = c.before.loop-k.invariant in (omega arith, fits, filled_more filled refl refl))
+    (λ c. c.before.loop-k.invariant.2.same_length)
+    (λ c. let (within, fits, filled) = c.before.loop-k.invariant in filled_cleared (filled_all filled within c.loop-k-test.false) fits))

@@ -7,7 +7,7 @@ use Rattle.marks.proofs.marks_size.Statement.{statement}
 use Rattle.marks.proofs.marks_size.Tie as tie
 
 -- ---- the places: the entry, from where N and the first bits were read
-abbrev entry : tie.After-first-bits → tie.Start
+abbrev entry : tie.After-first_bits-first → tie.Start
 entry c = c.before.before.before
 
 -- ---- the needs, in the code's course
@@ -16,7 +16,7 @@ marks_size_spec =
     tie.close
     (tie.spec
     (λ c κs. search rules) (λ c κs. search rules)
-    (λ c. omega (arith, few _ (entry c).requires c.first-bits.ensures c.before.process_count_lem.ensures))
-    (λ c. omega (arith, few _ (entry c).requires c.first-bits.ensures c.before.process_count_lem.ensures))
-    (λ c. omega (arith, all_small _ (entry c).requires c.first-bits.ensures c.before.process_count_lem.ensures))
-    (λ c. size_is _ (entry c).requires c.first-bits.ensures c.before.process_count_lem.ensures))
+    (λ c. omega (arith, few _ (entry c).requires c.first_bits-first.ensures c.before.process_count-n.ensures))
+    (λ c. omega (arith, few _ (entry c).requires c.first_bits-first.ensures c.before.process_count-n.ensures))
+    (λ c. omega (arith, all_small _ (entry c).requires c.first_bits-first.ensures c.before.process_count-n.ensures))
+    (λ c. size_is _ (entry c).requires c.first_bits-first.ensures c.before.process_count-n.ensures))

@@ -9,14 +9,14 @@ use Rattle.member_lines.proofs.MemberLaws.{LowersTo, lowers_all, lowers_more, lo
 use Rattle.member_lines.proofs.lower_to.Statement.{statement}
 use Rattle.member_lines.proofs.lower_to.Tie as tie
 
-abbrev invariant-loop : tie.invariant-loop
-invariant-loop line₀ numbers i₀ line i = LowersTo line₀ numbers line i
+abbrev invariant-loop-i : tie.invariant-loop-i
+invariant-loop-i line₀ numbers i₀ line i = LowersTo line₀ numbers line i
 
-abbrev decreases-loop : tie.decreases-loop
-decreases-loop line₀ numbers i₀ line i = length numbers - i
+abbrev decreases-loop-i : tie.decreases-loop-i
+decreases-loop-i line₀ numbers i₀ line i = length numbers - i
 
 -- ---- the places: a turn of the loop, from where the smaller number was found
-abbrev turn : tie.After-smaller invariant-loop decreases-loop → tie.In-loop invariant-loop decreases-loop
+abbrev turn : tie.After-smaller invariant-loop-i decreases-loop-i → tie.In-loop-i invariant-loop-i decreases-loop-i
 turn c = c.before.before.before
 
 -- ---- the needs, in the code's course
@@ -24,12 +24,12 @@ pub lower_to_spec : {M : Type 1} → statement M
 lower_to_spec =
     tie.close
     (tie.spec
-    invariant-loop
-    decreases-loop
+    invariant-loop-i
+    decreases-loop-i
     (λ c. lowers_none c.before.before.requires)
     (λ c. omega arith) (λ c. omega arith) (λ c. omega arith) (λ c. omega arith)
     (λ c κs. search rules)
     (λ c. omega arith) (λ c. omega arith) (λ c. omega arith) (λ c. omega arith)
-    (λ c. lowers_more (turn c).before.loop.invariant (turn c).loop-test.true c.smaller.ensures)
-    (λ c. c.before.loop.invariant.filled.same_length)
-    (λ c. lowers_all c.before.loop.invariant c.loop-test.false))
+    (λ c. lowers_more (turn c).before.loop-i.invariant (turn c).loop-i-test.true c.smaller.ensures)
+    (λ c. c.before.loop-i.invariant.filled.same_length)
+    (λ c. lowers_all c.before.loop-i.invariant c.loop-i-test.false))

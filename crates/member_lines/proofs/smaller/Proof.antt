@@ -5,4 +5,4 @@ use Rattle.member_lines.proofs.smaller.Statement.{statement}
 use Rattle.member_lines.proofs.smaller.Tie as tie
 
 pub smaller_spec : {M : Type 1} → statement M
-smaller_spec = tie.close (tie.spec (λ c. omega (arith, c.if1.true)) (λ c. omega (arith, c.if1.false)))
+smaller_spec = tie.close (tie.spec (λ c. omega (arith, c.if-a-b.true)) (λ c. omega (arith, c.if-a-b.false)))

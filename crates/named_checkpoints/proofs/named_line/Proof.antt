@@ -7,7 +7,7 @@ use Rattle.named_checkpoints.proofs.named_line.Statement.{statement}
 use Rattle.named_checkpoints.proofs.named_line.Tie as tie
 
 -- ---- the places: the entry, from where the ceiling was found
-abbrev entry : tie.After-named-ceiling → tie.Start
+abbrev entry : tie.After-named_ceiling → tie.Start
 entry c = c.before.before.before.before
 
 -- ---- the needs, in the code's course
@@ -18,4 +18,4 @@ named_line_spec =
     (λ c κs. search rules) (λ c κs. search rules)
     (λ c.
     let found = c.before in
-    c.line-under.ensures ∙ line_put _ (entry found).requires.0 _ _ found.named_ceiling_lem.ensures))
+    c.line_under.ensures ∙ line_put _ (entry found).requires.0 _ _ found.named_ceiling.ensures))

@@ -9,14 +9,14 @@ use Rattle.tables.proofs.SearchedLaws.{searched_none}
 use Rattle.named_checkpoints.proofs.unknown_process.Statement.{statement}
 use Rattle.named_checkpoints.proofs.unknown_process.Tie as tie
 
-abbrev invariant-loop : tie.invariant-loop
-invariant-loop table processes n k₀ k = Known table processes n k
+abbrev invariant-loop-k : tie.invariant-loop-k
+invariant-loop-k table processes n k₀ k = Known table processes n k
 
-abbrev decreases-loop : tie.decreases-loop
-decreases-loop table processes n k₀ k = length processes - k
+abbrev decreases-loop-k : tie.decreases-loop-k
+decreases-loop-k table processes n k₀ k = length processes - k
 
 -- ---- the places: a turn of the loop, from where its process was read
-abbrev turn : tie.After-shared-slice-known3 invariant-loop decreases-loop → tie.In-loop invariant-loop decreases-loop
+abbrev turn : tie.After-shared_slice_known-in-loop-k-1 invariant-loop-k decreases-loop-k → tie.In-loop-k invariant-loop-k decreases-loop-k
 turn c = c.before
 
 -- ---- the needs, in the code's course
@@ -24,20 +24,20 @@ pub unknown_process_spec : {M : Type 1} → statement M
 unknown_process_spec =
     tie.close
     (tie.spec
-    invariant-loop
-    decreases-loop
+    invariant-loop-k
+    decreases-loop-k
     (λ c κs. search rules)
-    (λ c. record { n_is = c.process_count_lem.ensures; searched = searched_none })
+    (λ c. record { n_is = c.process_count-n.ensures; searched = searched_none })
     -- the process
     (λ c. omega arith) (λ c. omega arith)
-    (λ c. omega (arith, c.shared-slice-known3.given (turn c).before.loop.k))
+    (λ c. omega (arith, c.shared_slice_known-in-loop-k-1.given (turn c).before.loop-k.k))
     -- it is N or above
     (λ c.
     let here = turn c.before in
-    unknown_here here.before.loop.inv here.loop-test.taken c.if1.true)
+    unknown_here here.before.loop-k.invariant here.loop-k-test.true c.if-n-processes.true)
     -- it is below N
     (λ c. omega arith) (λ c. omega arith)
     (λ c.
     let here = turn c.before in
-    known_here here.before.loop.inv here.loop-test.taken c.if1.false)
-    (λ c. known_all c.before.loop.invariant c.loop-test.false))
+    known_here here.before.loop-k.invariant here.loop-k-test.true c.if-n-processes.false)
+    (λ c. known_all c.before.loop-k.invariant c.loop-k-test.false))

@@ -10,14 +10,14 @@ use Rattle.tables.specs.Numbers.{put_at, u16_bytes, u16s}
 use Rattle.number_writer.proofs.put_numbers.Statement.{statement}
 use Rattle.number_writer.proofs.put_numbers.Tie as tie
 
-abbrev invariant-loop : tie.invariant-loop
-invariant-loop buffer₀ at numbers k₀ buffer k = Written 2 (λ k. u16_bytes (get_or numbers k 0)) (length numbers) at buffer₀ buffer k
+abbrev invariant-loop-k : tie.invariant-loop-k
+invariant-loop-k buffer₀ at numbers k₀ buffer k = Written 2 (λ k. u16_bytes (get_or numbers k 0)) (length numbers) at buffer₀ buffer k
 
-abbrev decreases-loop : tie.decreases-loop
-decreases-loop buffer₀ at numbers k₀ buffer k = length numbers - k
+abbrev decreases-loop-k : tie.decreases-loop-k
+decreases-loop-k buffer₀ at numbers k₀ buffer k = length numbers - k
 
 -- ---- the places: a turn of the loop, from where its number was put
-abbrev turn : tie.After-put-u16 invariant-loop decreases-loop → tie.In-loop invariant-loop decreases-loop
+abbrev turn : tie.After-put_u16 invariant-loop-k decreases-loop-k → tie.In-loop-k invariant-loop-k decreases-loop-k
 turn c = c.before.before.before
 
 -- ---- the needs, in the code's course
@@ -25,12 +25,12 @@ pub put_numbers_spec : {M : Type 1} → statement M
 put_numbers_spec =
     tie.close
     (tie.spec
-    invariant-loop
-    decreases-loop
+    invariant-loop-k
+    decreases-loop-k
     (λ c. written_none _ _ _ _ _ (omega arith))
     (λ c. omega arith) (λ c. omega arith) (λ c. omega arith) (λ c. omega arith) (λ c κs. omega arith) (λ c. omega arith) (λ c. omega arith)
     (λ c.
     let put = c.before.before in
-    numbers_more 2 _ (turn put).before.loop.invariant (turn put).loop-test.true put.put-u16.ensures)
-    (λ c. c.before.loop.invariant.same_length)
-    (λ c. numbers_all 2 _ c.before.loop.invariant c.loop-test.false ∙ ap (put_at _ _) (ap u16s (tabulate-get_or _ 0))))
+    numbers_more 2 _ (turn put).before.loop-k.invariant (turn put).loop-k-test.true put.put_u16.ensures)
+    (λ c. c.before.loop-k.invariant.same_length)
+    (λ c. numbers_all 2 _ c.before.loop-k.invariant c.loop-k-test.false ∙ ap (put_at _ _) (ap u16s (tabulate-get_or _ 0))))

@@ -14,4 +14,4 @@ put_u32_spec =
     (λ c.
     let high = c.before.before in
     let low = high.before.before.before.before in
-    halves_put _ _ _ (search rules) low.put-u16.ensures high.put-u162.ensures))
+    halves_put _ _ _ (search rules) low.put_u16.ensures high.put_u16-2.ensures))

@@ -11,21 +11,21 @@ use Rattle.tables.specs.Numbers.{put_at}
 use Rattle.number_writer.proofs.store_numbers.Statement.{statement}
 use Rattle.number_writer.proofs.store_numbers.Tie as tie
 
-abbrev invariant-loop : tie.invariant-loop
-invariant-loop buffer₀ at numbers k₀ buffer k = Written 1 (λ k. get_or numbers k 0 ∷ []) (length numbers) at buffer₀ buffer k
+abbrev invariant-loop-k : tie.invariant-loop-k
+invariant-loop-k buffer₀ at numbers k₀ buffer k = Written 1 (λ k. get_or numbers k 0 ∷ []) (length numbers) at buffer₀ buffer k
 
-abbrev decreases-loop : tie.decreases-loop
-decreases-loop buffer₀ at numbers k₀ buffer k = length numbers - k
+abbrev decreases-loop-k : tie.decreases-loop-k
+decreases-loop-k buffer₀ at numbers k₀ buffer k = length numbers - k
 
 -- ---- the needs, in the code's course
 pub store_numbers_spec : {M : Type 1} → statement M
 store_numbers_spec =
     tie.close
     (tie.spec
-    invariant-loop
-    decreases-loop
+    invariant-loop-k
+    decreases-loop-k
     (λ c. written_none _ _ _ _ _ (omega arith))
     (λ c. omega arith) (λ c. omega arith) (λ c. omega arith) (λ c. omega arith) (λ c. omega arith) (λ c. omega arith) (λ c. omega arith)
-    (λ c. stored_more _ c.before.before.loop.invariant c.before.loop-test.true)
-    (λ c. c.before.loop.invariant.same_length)
-    (λ c. stored_all _ c.before.loop.invariant c.loop-test.false ∙ ap (put_at _ _) (tabulate-get_or _ 0)))
+    (λ c. stored_more _ c.before.before.loop-k.invariant c.before.loop-k-test.true)
+    (λ c. c.before.loop-k.invariant.same_length)
+    (λ c. stored_all _ c.before.loop-k.invariant c.loop-k-test.false ∙ ap (put_at _ _) (tabulate-get_or _ 0)))

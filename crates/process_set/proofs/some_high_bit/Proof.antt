@@ -11,14 +11,14 @@ use Rattle.tables.proofs.SearchedLaws.{Searched, searched_all, searched_here, se
 use Rattle.process_set.proofs.some_high_bit.Statement.{statement}
 use Rattle.process_set.proofs.some_high_bit.Tie as tie
 
-abbrev invariant-loop : tie.invariant-loop
-invariant-loop sets n k₀ k = Searched (length sets) (λ j. high_bit (get_or sets j 0) n) k
+abbrev invariant-loop-k : tie.invariant-loop-k
+invariant-loop-k sets n k₀ k = Searched (length sets) (λ j. high_bit (get_or sets j 0) n) k
 
-abbrev decreases-loop : tie.decreases-loop
-decreases-loop sets n k₀ k = length sets - k
+abbrev decreases-loop-k : tie.decreases-loop-k
+decreases-loop-k sets n k₀ k = length sets - k
 
 -- ---- the places: a turn of the loop, from where its set was asked
-abbrev turn : tie.After-has-high-bit invariant-loop decreases-loop → tie.In-loop invariant-loop decreases-loop
+abbrev turn : tie.After-has_high_bit invariant-loop-k decreases-loop-k → tie.In-loop-k invariant-loop-k decreases-loop-k
 turn c = c.before.before
 
 -- ---- the needs, in the code's course
@@ -27,18 +27,18 @@ unfolding some_high_bit
 some_high_bit_spec =
     tie.close
     (tie.spec
-    invariant-loop
-    decreases-loop
+    invariant-loop-k
+    decreases-loop-k
     (λ c. searched_none)
     -- the set
     (λ c. omega arith) (λ c. omega arith) (λ c κs. search rules)
     -- it has such a bit
     (λ c.
     let here = turn c.before in
-    searched_here here.before.loop.inv here.loop-test.taken (sym c.before.has-high-bit.ensures ∙ c.if1.true))
+    searched_here here.before.loop-k.invariant here.loop-k-test.true (sym c.before.has_high_bit.ensures ∙ c.if-has_high_bit.true))
     -- it has none
     (λ c. omega arith) (λ c. omega arith)
     (λ c.
     let here = turn c.before in
-    searched_more here.before.loop.inv here.loop-test.taken (sym c.before.has-high-bit.ensures ∙ c.if1.false))
-    (λ c. searched_all c.before.loop.invariant c.loop-test.false))
+    searched_more here.before.loop-k.invariant here.loop-k-test.true (sym c.before.has_high_bit.ensures ∙ c.if-has_high_bit.false))
+    (λ c. searched_all c.before.loop-k.invariant c.loop-k-test.false))

@@ -17,18 +17,18 @@ ceilings_refusal_spec =
     (tie.spec
     (λ c κs. search rules)
     -- the table's
-    (λ c. table_caught _ _ c.before.check.ensures c.if1.true)
+    (λ c. table_caught _ _ c.before.check-refusal.ensures c.if-refusal-ne0.true)
     (λ c κs. search rules)
     -- 17
-    (λ c. catches (own_left _ _ (search rules)) (ap not (ne_eqb _ _ (λ e. c.if2.true (e ∙ sym c.before.process_count_lem.ensures)))))
+    (λ c. catches (own_left _ _ (search rules)) (ap not (ne_eqb _ _ (λ e. c.if-ceilings-process_count.true (e ∙ sym c.before.process_count.ensures)))))
     (λ c κs. search rules)
     -- 18
     (λ c.
     let here = c.before.before in
-    let for_each = ap not (eq-eqb _ _ (here.if2.false ∙ here.before.process_count_lem.ensures)) in
-    catches (next (own_left _ _ (search rules)) for_each) (sym c.before.above-counts.ensures ∙ c.if3.true))
+    let for_each = ap not (eq-eqb _ _ (here.if-ceilings-process_count.false ∙ here.before.process_count.ensures)) in
+    catches (next (own_left _ _ (search rules)) for_each) (sym c.before.above_counts.ensures ∙ c.if-above_counts.true))
     -- none
     (λ c.
     let here = c.before.before in
-    let for_each = ap not (eq-eqb _ _ (here.if2.false ∙ here.before.process_count_lem.ensures)) in
-    none_left (next (next (own_left _ _ (search rules)) for_each) (sym c.before.above-counts.ensures ∙ c.if3.false))))
+    let for_each = ap not (eq-eqb _ _ (here.if-ceilings-process_count.false ∙ here.before.process_count.ensures)) in
+    none_left (next (next (own_left _ _ (search rules)) for_each) (sym c.before.above_counts.ensures ∙ c.if-above_counts.false))))

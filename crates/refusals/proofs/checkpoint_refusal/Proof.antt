@@ -16,16 +16,16 @@ checkpoint_refusal_spec =
     (tie.spec
     (λ c κs. search rules)
     -- a check of the receipt
-    (λ c. caught_first _ _ _ c.before.receipt-refusal.ensures c.if1.true)
+    (λ c. caught_first _ _ _ c.before.receipt_refusal-refusal.ensures c.if-refusal-ne0.true)
     (λ c κs. search rules)
     -- 14
     (λ c.
     let here = c.before.before in
-    catches (more_left (quiet_receive _ _ _ here.before.receipt-refusal.ensures here.if1.false) _)
-    (sym c.before.full-of-checkpoints.ensures ∙ c.if2.true))
+    catches (more_left (quiet_receive _ _ _ here.before.receipt_refusal-refusal.ensures here.if-refusal-ne0.false) _)
+    (sym c.before.full_of_checkpoints.ensures ∙ c.if-full_of_checkpoints.true))
     -- none
     (λ c.
     let here = c.before.before in
     none_left
-    (next (more_left (quiet_receive _ _ _ here.before.receipt-refusal.ensures here.if1.false) _)
-    (sym c.before.full-of-checkpoints.ensures ∙ c.if2.false))))
+    (next (more_left (quiet_receive _ _ _ here.before.receipt_refusal-refusal.ensures here.if-refusal-ne0.false) _)
+    (sym c.before.full_of_checkpoints.ensures ∙ c.if-full_of_checkpoints.false))))

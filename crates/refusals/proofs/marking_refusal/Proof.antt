@@ -18,16 +18,16 @@ marking_refusal_spec =
     (tie.spec
     (λ c κs. search rules)
     -- a check of the line under ceilings
-    (λ c. caught_first _ _ _ c.before.ceilings-refusal.ensures c.if1.true)
-    (λ c κs. (quiet_under _ _ c.before.ceilings-refusal.ensures c.if1.false).accepted)
+    (λ c. caught_first _ _ _ c.before.ceilings_refusal-refusal.ensures c.if-refusal-ne0.true)
+    (λ c κs. (quiet_under _ _ c.before.ceilings_refusal-refusal.ensures c.if-refusal-ne0.false).accepted)
     -- 19
     (λ c.
     let here = c.before.before in
-    catches (more_left (quiet_under _ _ here.before.ceilings-refusal.ensures here.if1.false) _)
-    (ap (ltb _) (sym c.before.marks-size.ensures) ∙ lt-ltb _ _ c.if2.true))
+    catches (more_left (quiet_under _ _ here.before.ceilings_refusal-refusal.ensures here.if-refusal-ne0.false) _)
+    (ap (ltb _) (sym c.before.marks_size.ensures) ∙ lt-ltb _ _ c.if-bytes-marks_size.true))
     -- none
     (λ c.
     let here = c.before.before in
     none_left
-    (next (more_left (quiet_under _ _ here.before.ceilings-refusal.ensures here.if1.false) _)
-    (ap (ltb _) (sym c.before.marks-size.ensures) ∙ le-ltb _ _ c.if2.false))))
+    (next (more_left (quiet_under _ _ here.before.ceilings_refusal-refusal.ensures here.if-refusal-ne0.false) _)
+    (ap (ltb _) (sym c.before.marks_size.ensures) ∙ le-ltb _ _ c.if-bytes-marks_size.false))))

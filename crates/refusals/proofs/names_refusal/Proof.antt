@@ -18,36 +18,36 @@ names_refusal_spec =
     (tie.spec
     (λ c κs. search rules)
     -- the table's
-    (λ c. table_caught _ _ c.before.check.ensures c.if1.true)
+    (λ c. table_caught _ _ c.before.check-refusal.ensures c.if-refusal-ne0.true)
     -- 20
-    (λ c. catches (own_left _ _ (search rules)) (ap not (ne_eqb _ _ c.if2.true)))
+    (λ c. catches (own_left _ _ (search rules)) (ap not (ne_eqb _ _ c.if-processes-states.true)))
     -- 21, by a process and by the order
     (λ c κs. search rules)
     (λ c.
-    let twenty = ap not (eq-eqb _ _ c.before.before.if2.false) in
-    catches (next (own_left _ _ (search rules)) twenty) (first_of _ _ (sym c.before.unknown-process.ensures ∙ c.if3.true)))
+    let twenty = ap not (eq-eqb _ _ c.before.before.if-processes-states.false) in
+    catches (next (own_left _ _ (search rules)) twenty) (first_of _ _ (sym c.before.unknown_process.ensures ∙ c.if-unknown_process.true)))
     (λ c κs. search rules)
     (λ c.
     let good = c.before.before in
-    let twenty = ap not (eq-eqb _ _ good.before.before.if2.false) in
+    let twenty = ap not (eq-eqb _ _ good.before.before.if-processes-states.false) in
     catches (next (own_left _ _ (search rules)) twenty)
-    (second_of _ _ (sym good.before.unknown-process.ensures ∙ good.if3.false) (sym c.before.not-rising.ensures ∙ c.if4.true)))
+    (second_of _ _ (sym good.before.unknown_process.ensures ∙ good.if-unknown_process.false) (sym c.before.not_rising.ensures ∙ c.if-not_rising.true)))
     -- 22
     (λ c κs.
     let good = c.before.before in
-    (search rules, parallel _ _ _ good.before.before.if2.false (sym good.before.unknown-process.ensures ∙ good.if3.false)))
+    (search rules, parallel _ _ _ good.before.before.if-processes-states.false (sym good.before.unknown_process.ensures ∙ good.if-unknown_process.false)))
     (λ c.
     let all = c.before.before in
     let good = all.before.before in
-    let twenty = ap not (eq-eqb _ _ good.before.before.if2.false) in
-    let known = sym good.before.unknown-process.ensures ∙ good.if3.false in
-    let twenty-one = neither _ _ known (sym all.before.not-rising.ensures ∙ all.if4.false) in
-    catches (next (next (own_left _ _ (search rules)) twenty) twenty-one) (sym c.before.not-below-counts.ensures ∙ c.if5.true))
+    let twenty = ap not (eq-eqb _ _ good.before.before.if-processes-states.false) in
+    let known = sym good.before.unknown_process.ensures ∙ good.if-unknown_process.false in
+    let twenty-one = neither _ _ known (sym all.before.not_rising.ensures ∙ all.if-not_rising.false) in
+    catches (next (next (own_left _ _ (search rules)) twenty) twenty-one) (sym c.before.not_below_counts.ensures ∙ c.if-not_below_counts.true))
     -- none
     (λ c.
     let all = c.before.before in
     let good = all.before.before in
-    let twenty = ap not (eq-eqb _ _ good.before.before.if2.false) in
-    let known = sym good.before.unknown-process.ensures ∙ good.if3.false in
-    let twenty-one = neither _ _ known (sym all.before.not-rising.ensures ∙ all.if4.false) in
-    none_left (next (next (next (own_left _ _ (search rules)) twenty) twenty-one) (sym c.before.not-below-counts.ensures ∙ c.if5.false))))
+    let twenty = ap not (eq-eqb _ _ good.before.before.if-processes-states.false) in
+    let known = sym good.before.unknown_process.ensures ∙ good.if-unknown_process.false in
+    let twenty-one = neither _ _ known (sym all.before.not_rising.ensures ∙ all.if-not_rising.false) in
+    none_left (next (next (next (own_left _ _ (search rules)) twenty) twenty-one) (sym c.before.not_below_counts.ensures ∙ c.if-not_below_counts.false))))

@@ -16,40 +16,40 @@ receipt_refusal_spec =
     (tie.spec
     (λ c κs. search rules)
     -- the table's
-    (λ c. table_caught _ _ c.before.check.ensures c.if1.true)
+    (λ c. table_caught _ _ c.before.check-refusal.ensures c.if-refusal-ne0.true)
     -- 10
     (λ c κs. search rules)
-    (λ c. catches (own_left _ _ (search rules)) (sym c.before.unknown.ensures ∙ c.if2.true))
+    (λ c. catches (own_left _ _ (search rules)) (sym c.before.unknown.ensures ∙ c.if-unknown.true))
     -- 13, by a position and by the order
     (λ c κs. search rules)
     (λ c.
     let here = c.before.before in
-    let ten = sym here.before.unknown.ensures ∙ here.if2.false in
-    catches (next (own_left _ _ (search rules)) ten) (first_of _ _ (sym c.before.bad-position.ensures ∙ c.if3.true)))
+    let ten = sym here.before.unknown.ensures ∙ here.if-unknown.false in
+    catches (next (own_left _ _ (search rules)) ten) (first_of _ _ (sym c.before.bad_position.ensures ∙ c.if-bad_position.true)))
     (λ c κs. search rules)
     (λ c.
     let good = c.before.before in
     let here = good.before.before in
-    let ten = sym here.before.unknown.ensures ∙ here.if2.false in
+    let ten = sym here.before.unknown.ensures ∙ here.if-unknown.false in
     catches (next (own_left _ _ (search rules)) ten)
-    (second_of _ _ (sym good.before.bad-position.ensures ∙ good.if3.false) (sym c.before.not-rising.ensures ∙ c.if4.true)))
+    (second_of _ _ (sym good.before.bad_position.ensures ∙ good.if-bad_position.false) (sym c.before.not_rising.ensures ∙ c.if-not_rising.true)))
     -- 24
     (λ c κs.
     let good = c.before.before in
-    (search rules, (sym good.before.bad-position.ensures ∙ good.if3.false, sym c.before.not-rising.ensures ∙ c.if4.false)))
+    (search rules, (sym good.before.bad_position.ensures ∙ good.if-bad_position.false, sym c.before.not_rising.ensures ∙ c.if-not_rising.false)))
     (λ c.
     let all = c.before.before in
     let good = all.before.before in
     let here = good.before.before in
-    let ten = sym here.before.unknown.ensures ∙ here.if2.false in
-    let thirteen = neither _ _ (sym good.before.bad-position.ensures ∙ good.if3.false) (sym all.before.not-rising.ensures ∙ all.if4.false) in
-    catches (next (next (own_left _ _ (search rules)) ten) thirteen) (sym c.before.Passes-over.ensures ∙ c.if5.true))
+    let ten = sym here.before.unknown.ensures ∙ here.if-unknown.false in
+    let thirteen = neither _ _ (sym good.before.bad_position.ensures ∙ good.if-bad_position.false) (sym all.before.not_rising.ensures ∙ all.if-not_rising.false) in
+    catches (next (next (own_left _ _ (search rules)) ten) thirteen) (sym c.before.passes_over.ensures ∙ c.if-passes_over.true))
     -- none
     (λ c.
     let all = c.before.before in
     let good = all.before.before in
     let here = good.before.before in
-    let ten = sym here.before.unknown.ensures ∙ here.if2.false in
-    let thirteen = neither _ _ (sym good.before.bad-position.ensures ∙ good.if3.false) (sym all.before.not-rising.ensures ∙ all.if4.false) in
+    let ten = sym here.before.unknown.ensures ∙ here.if-unknown.false in
+    let thirteen = neither _ _ (sym good.before.bad_position.ensures ∙ good.if-bad_position.false) (sym all.before.not_rising.ensures ∙ all.if-not_rising.false) in
     none_left
-    (next (next (next (own_left _ _ (search rules)) ten) thirteen) (sym c.before.Passes-over.ensures ∙ c.if5.false))))
+    (next (next (next (own_left _ _ (search rules)) ten) thirteen) (sym c.before.passes_over.ensures ∙ c.if-passes_over.false))))

@@ -17,34 +17,34 @@ send_refusal_spec =
     (tie.spec
     (λ c κs. search rules)
     -- the table's
-    (λ c. table_caught _ _ c.before.check.ensures c.if1.true)
+    (λ c. table_caught _ _ c.before.check-refusal.ensures c.if-refusal-ne0.true)
     -- 10, of the sender and of the receiver
     (λ c κs. search rules)
-    (λ c. catches (own_left _ _ (search rules)) (first_of _ _ (sym c.before.unknown.ensures ∙ c.if2.true)))
+    (λ c. catches (own_left _ _ (search rules)) (first_of _ _ (sym c.before.unknown.ensures ∙ c.if-unknown.true)))
     (λ c κs. search rules)
     (λ c.
     let here = c.before.before in
     catches (own_left _ _ (search rules))
-    (second_of _ _ (sym here.before.unknown.ensures ∙ here.if2.false) (sym c.before.unknown2.ensures ∙ c.if3.true)))
+    (second_of _ _ (sym here.before.unknown.ensures ∙ here.if-unknown.false) (sym c.before.unknown-2.ensures ∙ c.if-unknown-2.true)))
     -- 11
     (λ c.
     let both = c.before in
     let here = both.before.before in
-    let ten = neither _ _ (sym here.before.unknown.ensures ∙ here.if2.false) (sym both.before.unknown2.ensures ∙ both.if3.false) in
-    catches (next (own_left _ _ (search rules)) ten) (eq-eqb _ _ c.if4.true))
+    let ten = neither _ _ (sym here.before.unknown.ensures ∙ here.if-unknown.false) (sym both.before.unknown-2.ensures ∙ both.if-unknown-2.false) in
+    catches (next (own_left _ _ (search rules)) ten) (eq-eqb _ _ c.if-from-to.true))
     (λ c κs. search rules)
     -- 14
     (λ c.
     let two = c.before.before in
     let both = two.before in
     let here = both.before.before in
-    let ten = neither _ _ (sym here.before.unknown.ensures ∙ here.if2.false) (sym both.before.unknown2.ensures ∙ both.if3.false) in
-    catches (next (next (own_left _ _ (search rules)) ten) (ne_eqb _ _ two.if4.false)) (sym c.before.full-of-messages.ensures ∙ c.if5.true))
+    let ten = neither _ _ (sym here.before.unknown.ensures ∙ here.if-unknown.false) (sym both.before.unknown-2.ensures ∙ both.if-unknown-2.false) in
+    catches (next (next (own_left _ _ (search rules)) ten) (ne_eqb _ _ two.if-from-to.false)) (sym c.before.full_of_messages.ensures ∙ c.if-full_of_messages.true))
     -- none
     (λ c.
     let two = c.before.before in
     let both = two.before in
     let here = both.before.before in
-    let ten = neither _ _ (sym here.before.unknown.ensures ∙ here.if2.false) (sym both.before.unknown2.ensures ∙ both.if3.false) in
+    let ten = neither _ _ (sym here.before.unknown.ensures ∙ here.if-unknown.false) (sym both.before.unknown-2.ensures ∙ both.if-unknown-2.false) in
     none_left
-    (next (next (next (own_left _ _ (search rules)) ten) (ne_eqb _ _ two.if4.false)) (sym c.before.full-of-messages.ensures ∙ c.if5.false))))
+    (next (next (next (own_left _ _ (search rules)) ten) (ne_eqb _ _ two.if-from-to.false)) (sym c.before.full_of_messages.ensures ∙ c.if-full_of_messages.false))))

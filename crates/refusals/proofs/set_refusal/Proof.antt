@@ -16,13 +16,13 @@ set_refusal_spec =
     (tie.spec
     (λ c κs. search rules)
     -- the table's
-    (λ c. table_caught _ _ c.before.check.ensures c.if1.true)
+    (λ c. table_caught _ _ c.before.check-refusal.ensures c.if-refusal-ne0.true)
     (λ c κs. search rules) (λ c κs. search rules)
     -- 12
     (λ c.
-    let high = c.before.has-high-bit.ensures ∙ ap (high_bit _) c.before.before.process_count_lem.ensures in
-    catches (own_left _ _ (search rules)) (sym high ∙ c.if2.true))
+    let high = c.before.has_high_bit.ensures ∙ ap (high_bit _) c.before.before.process_count.ensures in
+    catches (own_left _ _ (search rules)) (sym high ∙ c.if-has_high_bit.true))
     -- none
     (λ c.
-    let high = c.before.has-high-bit.ensures ∙ ap (high_bit _) c.before.before.process_count_lem.ensures in
-    none_left (next (own_left _ _ (search rules)) (sym high ∙ c.if2.false))))
+    let high = c.before.has_high_bit.ensures ∙ ap (high_bit _) c.before.before.process_count.ensures in
+    none_left (next (own_left _ _ (search rules)) (sym high ∙ c.if-has_high_bit.false))))

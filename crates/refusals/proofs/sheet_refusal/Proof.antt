@@ -15,9 +15,9 @@ sheet_refusal_spec =
     (tie.spec
     (λ c κs. search rules)
     -- the table's
-    (λ c. table_caught _ _ c.before.check.ensures c.if1.true)
+    (λ c. table_caught _ _ c.before.check-refusal.ensures c.if-refusal-ne0.true)
     (λ c κs. search rules)
     -- 15
-    (λ c. catches (own_left _ _ (search rules)) (sym c.before.short-of-lines.ensures ∙ c.if2.true))
+    (λ c. catches (own_left _ _ (search rules)) (sym c.before.short_of_lines.ensures ∙ c.if-short_of_lines.true))
     -- none
-    (λ c. none_left (next (own_left _ _ (search rules)) (sym c.before.short-of-lines.ensures ∙ c.if2.false))))
+    (λ c. none_left (next (own_left _ _ (search rules)) (sym c.before.short_of_lines.ensures ∙ c.if-short_of_lines.false))))

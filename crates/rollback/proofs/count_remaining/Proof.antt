@@ -9,14 +9,14 @@ use Rattle.rollback.proofs.RollbackLaws.{RemainingCounted, counted-all, counted_
 use Rattle.rollback.proofs.count_remaining.Statement.{statement}
 use Rattle.rollback.proofs.count_remaining.Tie as tie
 
-abbrev invariant-loop : tie.invariant-loop
-invariant-loop table line m sends remaining₀ k₀ remaining k = RemainingCounted table line m sends remaining k
+abbrev invariant-loop-k : tie.invariant-loop-k
+invariant-loop-k table line m sends remaining₀ k₀ remaining k = RemainingCounted table line m sends remaining k
 
-abbrev decreases-loop : tie.decreases-loop
-decreases-loop table line m sends remaining₀ k₀ remaining k = m - k
+abbrev decreases-loop-k : tie.decreases-loop-k
+decreases-loop-k table line m sends remaining₀ k₀ remaining k = m - k
 
 -- ---- the places: a turn of the loop, and where the send of its message was read
-abbrev turn : tie.After-u16-at2 invariant-loop decreases-loop → tie.In-loop invariant-loop decreases-loop
+abbrev turn : tie.After-u16_at-sent invariant-loop-k decreases-loop-k → tie.In-loop-k invariant-loop-k decreases-loop-k
 turn c = c.before.before
 
 -- ---- the needs, in the code's course
@@ -24,31 +24,31 @@ pub count_remaining_spec : {M : Type 1} → statement M
 count_remaining_spec =
     tie.close
     (tie.spec
-    invariant-loop
-    decreases-loop
+    invariant-loop-k
+    decreases-loop-k
     (λ c κs. search rules) (λ c κs. search rules)
-    (λ c. counted_none c.before.before.before.requires c.before.message_count_lem.ensures c.sends.ensures)
+    (λ c. counted_none c.before.before.before.requires c.before.message_count-m.ensures c.sends-sends.ensures)
     -- the send
     (λ c. omega arith) (λ c κs. omega arith) (λ c. omega arith) (λ c. omega arith) (λ c. omega arith) (λ c κs. omega arith)
     (λ c. omega arith)
-    (λ c. omega (arith, sender_small (turn c).before.loop.invariant.given.read (turn c).loop-test.true c.before.u16-at.ensures))
-    (λ c. sender_small (turn c).before.loop.invariant.given.read (turn c).loop-test.true c.before.u16-at.ensures)
+    (λ c. omega (arith, sender_small (turn c).before.loop-k.invariant.given.read (turn c).loop-k-test.true c.before.u16_at-sender.ensures))
+    (λ c. sender_small (turn c).before.loop-k.invariant.given.read (turn c).loop-k-test.true c.before.u16_at-sender.ensures)
     -- the message goes
     (λ c. omega arith)
     (λ c.
     let sent = c.before in
-    counted_goes (turn sent).before.loop.invariant (turn sent).loop-test.true sent.before.u16-at.ensures sent.u16-at2.ensures
-    (omega (arith, c.if1.true)))
+    counted_goes (turn sent).before.loop-k.invariant (turn sent).loop-k-test.true sent.before.u16_at-sender.ensures sent.u16_at-sent.ensures
+    (omega (arith, c.if-line-sender.true)))
     -- it stays
     (λ c.
     let sent = c.before in
     omega (
       arith,
-      counted_fits (turn sent).before.loop.invariant (turn sent).loop-test.true sent.before.u16-at.ensures sent.u16-at2.ensures
-          c.if1.false,
+      counted_fits (turn sent).before.loop-k.invariant (turn sent).loop-k-test.true sent.before.u16_at-sender.ensures sent.u16_at-sent.ensures
+          c.if-line-sender.false,
     ))
     (λ c. omega arith)
     (λ c.
     let sent = c.before in
-    counted_stays (turn sent).before.loop.invariant (turn sent).loop-test.true sent.before.u16-at.ensures sent.u16-at2.ensures c.if1.false)
-    (λ c. counted-all c.before.loop.invariant c.loop-test.false))
+    counted_stays (turn sent).before.loop-k.invariant (turn sent).loop-k-test.true sent.before.u16_at-sender.ensures sent.u16_at-sent.ensures c.if-line-sender.false)
+    (λ c. counted-all c.before.loop-k.invariant c.loop-k-test.false))

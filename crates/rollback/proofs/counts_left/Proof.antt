@@ -17,14 +17,14 @@ use Rattle.rollback.proofs.counts_left.Statement.{statement}
 use Rattle.rollback.proofs.counts_left.Tie as tie
 
 -- Array indices are below 32, since n is at most that.
-abbrev invariant-loop : tie.invariant-loop
-invariant-loop table line n counts₀ p₀ counts p = (n ≤ most_processes) × Filling (λ q. get_or (after_rollback (decode table)).counts q 0) n p counts
+abbrev invariant-loop-p : tie.invariant-loop-p
+invariant-loop-p table line n counts₀ p₀ counts p = (n ≤ most_processes) × Filling (λ q. get_or (after_rollback (decode table)).counts q 0) n p counts
 
-abbrev decreases-loop : tie.decreases-loop
-decreases-loop table line n counts₀ p₀ counts p = n - p
+abbrev decreases-loop-p : tie.decreases-loop-p
+decreases-loop-p table line n counts₀ p₀ counts p = n - p
 
 -- ---- the places: where N was read, from a turn
-abbrev sized : tie.In-loop invariant-loop decreases-loop → tie.After-process-count invariant-loop decreases-loop
+abbrev sized : tie.In-loop-p invariant-loop-p decreases-loop-p → tie.After-process_count-n invariant-loop-p decreases-loop-p
 sized c = c.before.before
 
 -- ---- the needs, in the code's course
@@ -33,17 +33,17 @@ unfolding process_count
 counts_left_spec =
     tie.close
     (tie.spec
-    invariant-loop
-    decreases-loop
+    invariant-loop-p
+    decreases-loop-p
     (λ c κs. search rules)
-    (λ c. (omega (arith, processes_few _ c.before.before.requires.accepted, c.process_count_lem.ensures), filling_none))
+    (λ c. (omega (arith, processes_few _ c.before.before.requires.accepted, c.process_count-n.ensures), filling_none))
     (λ c. omega arith) (λ c. omega arith)
-    (λ c. omega (arith, line_small (sized c).before.before.requires {p = c.before.loop.p} (omega arith)))
+    (λ c. omega (arith, line_small (sized c).before.before.requires {p = c.before.loop-p.p} (omega arith)))
     (λ c. omega arith) (λ c. omega arith) (λ c. omega arith) (λ c. omega arith)
     (λ c.
     let at-loop = c.before in
     let line = (sized c).before.before.requires in
-    (at-loop.loop.invariant.0, filling_more at-loop.loop.invariant.1 c.loop-test.true (count_left line (omega arith))))
+    (at-loop.loop-p.invariant.0, filling_more at-loop.loop-p.invariant.1 c.loop-p-test.true (count_left line (omega arith))))
     (λ c.
     let at-loop = c.before in
-    filling_array _ at-loop.loop.invariant.1 c.loop-test.false (at-loop.before.process_count_lem.ensures ∙ sym (rollback-processes _))))
+    filling_array _ at-loop.loop-p.invariant.1 c.loop-p-test.false (at-loop.before.process_count-n.ensures ∙ sym (rollback-processes _))))

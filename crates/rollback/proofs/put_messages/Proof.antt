@@ -10,60 +10,60 @@ use Rattle.rollback.proofs.RollbackLaws.{Gathering, gathering_all, gathering_goe
 use Rattle.rollback.proofs.put_messages.Statement.{statement}
 use Rattle.rollback.proofs.put_messages.Tie as tie
 
-abbrev invariant-loop : tie.invariant-loop
-invariant-loop table m buffer₀ at line all sends receipts place₀ k₀ buffer place k = Gathering table line m at buffer₀ all sends receipts k place buffer
+abbrev invariant-loop-k : tie.invariant-loop-k
+invariant-loop-k table m buffer₀ at line all sends receipts place₀ k₀ buffer place k = Gathering table line m at buffer₀ all sends receipts k place buffer
 
-abbrev decreases-loop : tie.decreases-loop
-decreases-loop table m buffer₀ at line all sends receipts place₀ k₀ buffer place k = all - k
+abbrev decreases-loop-k : tie.decreases-loop-k
+decreases-loop-k table m buffer₀ at line all sends receipts place₀ k₀ buffer place k = all - k
 
 -- ---- the places: the entry; where the messages were counted; a turn of the loop; where the send of its message was read; the receipt, of
 -- one that stays; where the send was put
-abbrev entry : tie.After-message-count invariant-loop decreases-loop → tie.Start invariant-loop decreases-loop
+abbrev entry : tie.After-message_count-all invariant-loop-k decreases-loop-k → tie.Start invariant-loop-k decreases-loop-k
 entry c = c.before.before.before
 
-abbrev counted : tie.In-loop invariant-loop decreases-loop → tie.After-message-count invariant-loop decreases-loop
+abbrev counted : tie.In-loop-k invariant-loop-k decreases-loop-k → tie.After-message_count-all invariant-loop-k decreases-loop-k
 counted c = c.before.before.before.before
 
-abbrev turn : tie.After-u16-at2 invariant-loop decreases-loop → tie.In-loop invariant-loop decreases-loop
+abbrev turn : tie.After-u16_at-sent invariant-loop-k decreases-loop-k → tie.In-loop-k invariant-loop-k decreases-loop-k
 turn c = c.before.before
 
-abbrev sent : tie.After-u16-at4 invariant-loop decreases-loop → tie.After-u16-at2 invariant-loop decreases-loop
+abbrev sent : tie.After-u16_at-received invariant-loop-k decreases-loop-k → tie.After-u16_at-sent invariant-loop-k decreases-loop-k
 sent c = c.before.before.before
 
-abbrev received : tie.After-put-entry invariant-loop decreases-loop → tie.After-u16-at4 invariant-loop decreases-loop
+abbrev received : tie.After-put_entry invariant-loop-k decreases-loop-k → tie.After-u16_at-received invariant-loop-k decreases-loop-k
 received c = c.before.before
 
-abbrev put : tie.After-put-entry2 invariant-loop decreases-loop → tie.After-put-entry invariant-loop decreases-loop
+abbrev put : tie.After-put_entry-in-loop-k invariant-loop-k decreases-loop-k → tie.After-put_entry invariant-loop-k decreases-loop-k
 put c = c.before.before.before.before.before
 
 -- ---- what is known there: room for both entries of a message that stays
-room : (c : tie.Else1 invariant-loop decreases-loop)
-    → (turn c.before).before.loop.place + 4 * (entry (counted (turn c.before))).args.m + 4 ≤ length (turn c.before).before.loop.buffer
+room : (c : tie.Else-line-sender invariant-loop-k decreases-loop-k)
+    → (turn c.before).before.loop-k.place + 4 * (entry (counted (turn c.before))).args.m + 4 ≤ length (turn c.before).before.loop-k.buffer
 room c =
     let sent = c.before in
-    gathering_room (turn sent).before.loop.invariant (turn sent).loop-test.true sent.before.u16-at.ensures sent.u16-at2.ensures c.if1.false
+    gathering_room (turn sent).before.loop-k.invariant (turn sent).loop-k-test.true sent.before.u16_at-sender.ensures sent.u16_at-sent.ensures c.if-line-sender.false
 
 -- ---- the needs, in the code's course
 pub put_messages_spec : {M : Type 1} → statement M
 put_messages_spec =
     tie.close
     (tie.spec
-    invariant-loop
-    decreases-loop
+    invariant-loop-k
+    decreases-loop-k
     (λ c κs. search rules) (λ c κs. search rules) (λ c κs. search rules)
     (λ c.
     let all = c.before.before in
     let asked = (entry all).requires in
-    gathering_none asked.0 asked.1.0 asked.1.1 all.message_count_lem.ensures c.before.sends.ensures c.receipts.ensures)
+    gathering_none asked.0 asked.1.0 asked.1.1 all.message_count-all.ensures c.before.sends-sends.ensures c.receipts-receipts.ensures)
     -- the send
     (λ c. omega arith) (λ c κs. omega arith) (λ c. omega arith) (λ c. omega arith) (λ c κs. omega arith) (λ c. omega arith)
     (λ c. omega arith) (λ c. omega arith)
-    (λ c. sender_small (turn c).before.loop.invariant.given.messages.read (turn c).loop-test.true c.before.u16-at.ensures)
+    (λ c. sender_small (turn c).before.loop-k.invariant.given.messages.read (turn c).loop-k-test.true c.before.u16_at-sender.ensures)
     -- the message goes
     (λ c. omega arith)
     (λ c.
     let sent = c.before in
-    gathering_goes (turn sent).before.loop.invariant (turn sent).loop-test.true sent.before.u16-at.ensures sent.u16-at2.ensures c.if1.true)
+    gathering_goes (turn sent).before.loop-k.invariant (turn sent).loop-k-test.true sent.before.u16_at-sender.ensures sent.u16_at-sent.ensures c.if-line-sender.true)
     -- it stays: its receipt
     (λ c. omega arith) (λ c κs. omega arith) (λ c. omega arith) (λ c. omega arith) (λ c κs. omega arith)
     -- its send is put
@@ -74,7 +74,7 @@ put_messages_spec =
     (λ c.
     let read = received c.before.before.before in
     let turn = turn (sent read) in
-    receiver_small turn.before.loop.inv.given.messages.read turn.loop-test.taken read.before.u16-at3.ensures)
+    receiver_small turn.before.loop-k.invariant.given.messages.read turn.loop-k-test.true read.before.u16_at-receiver.ensures)
     (λ c κs. tt)
     -- its receipt is put
     (λ c κs. omega (arith, room (received c.before.before.before.before).before.before))
@@ -84,9 +84,9 @@ put_messages_spec =
     let both = c.before.before in
     let read = received (put both) in
     let sent = sent read in
-    gathering_stays (turn sent).before.loop.inv (turn sent).loop-test.taken sent.before.u16-at.ensures sent.u16-at2.ensures
-    read.before.before.if1.left read.before.u16-at3.ensures read.u16-at4.ensures both.before.receipt-left.ensures
-    (put both).put-entry.ensures both.put-entry2.ensures)
+    gathering_stays (turn sent).before.loop-k.invariant (turn sent).loop-k-test.true sent.before.u16_at-sender.ensures sent.u16_at-sent.ensures
+    read.before.before.if-line-sender.false read.before.u16_at-receiver.ensures read.u16_at-received.ensures both.before.receipt_left.ensures
+    (put both).put_entry.ensures both.put_entry-in-loop-k.ensures)
     -- all are written
-    (λ c. c.before.loop.invariant.same_length)
-    (λ c. gathering_all c.before.loop.invariant c.loop-test.false))
+    (λ c. c.before.loop-k.invariant.same_length)
+    (λ c. gathering_all c.before.loop-k.invariant c.loop-k-test.false))

@@ -8,7 +8,7 @@ use Rattle.rounding.proofs.rounded_quotient.Statement.{statement}
 use Rattle.rounding.proofs.rounded_quotient.Tie as tie
 
 -- ---- the places: the entry, from where the remainder is not below half
-abbrev entry : tie.Else1 → tie.Start
+abbrev entry : tie.Else-twice-divisor → tie.Start
 entry c = c.before
 
 -- ---- the needs, in the code's course
@@ -20,7 +20,7 @@ rounded_quotient_spec =
     (λ c. omega (arith, c.requires.1, div-le_self c.args.dividend c.args.divisor))
     (λ c. search rules)
     (λ c. omega (arith, c.requires.1, mod-le c.args.dividend c.args.divisor))
-    (λ c. below_rounded _ _ (omega (arith, c.if1.true)) (λ e. absurd (omega (arith, e, c.if1.true))))
-    (λ c. above_rounded _ _ (entry c.before).requires.0 (omega (arith, c.if2.true)) (λ e. absurd (omega (arith, e, c.if2.true))))
-    (λ c. below_rounded _ _ c.before.if2.false (λ e. c.if3.true))
-    (λ c. above_rounded _ _ (entry c.before.before).requires.0 c.before.before.if1.false (λ e. omega (arith, c.if3.false))))
+    (λ c. below_rounded _ _ (omega (arith, c.if-twice-divisor.true)) (λ e. absurd (omega (arith, e, c.if-twice-divisor.true))))
+    (λ c. above_rounded _ _ (entry c.before).requires.0 (omega (arith, c.if-divisor-twice.true)) (λ e. absurd (omega (arith, e, c.if-divisor-twice.true))))
+    (λ c. below_rounded _ _ c.before.if-divisor-twice.false (λ e. c.if-below-eq0.true))
+    (λ c. above_rounded _ _ (entry c.before.before).requires.0 c.before.before.if-twice-divisor.false (λ e. omega (arith, c.if-below-eq0.false))))

@@ -9,4 +9,4 @@ use Rattle.run_table.proofs.run_table_messages.Tie as tie
 
 pub run_table_messages_spec : {M : Type 1} → statement M
 unfolding messages_in
-run_table_messages_spec = tie.close (tie.spec (λ c κs. search rules) (λ c. c.u16-or-zero.ensures ∙ sym (decode-messages _)))
+run_table_messages_spec = tie.close (tie.spec (λ c κs. search rules) (λ c. c.u16_or_zero.ensures ∙ sym (decode-messages _)))

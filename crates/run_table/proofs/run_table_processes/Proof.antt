@@ -9,4 +9,4 @@ use Rattle.run_table.proofs.run_table_processes.Tie as tie
 
 pub run_table_processes_spec : {M : Type 1} → statement M
 unfolding processes_in
-run_table_processes_spec = tie.close (tie.spec (λ c κs. search rules) (λ c. c.u16-or-zero.ensures ∙ sym (decode-processes _)))
+run_table_processes_spec = tie.close (tie.spec (λ c κs. search rules) (λ c. c.u16_or_zero.ensures ∙ sym (decode-processes _)))

@@ -17,27 +17,27 @@ sets_refusal_spec =
     (tie.spec
     (λ c κs. search rules)
     -- the table's
-    (λ c. table_caught _ _ c.before.check.ensures c.if1.true)
+    (λ c. table_caught _ _ c.before.check-refusal.ensures c.if-refusal-ne0.true)
     -- 25
-    (λ c. catches (own_left _ _ (search rules)) (lt-ltb _ _ c.if2.true))
+    (λ c. catches (own_left _ _ (search rules)) (lt-ltb _ _ c.if-sets-gt-MOST_SETS.true))
     (λ c κs. search rules) (λ c κs. search rules)
     -- 12
     (λ c.
     let sized = c.before.before in
-    let high = c.before.some-high-bit.ensures ∙ ap (some_high_bit _) sized.process_count_lem.ensures in
-    catches (next (own_left _ _ (search rules)) (le-ltb _ _ sized.before.if2.false)) (sym high ∙ c.if3.true))
+    let high = c.before.some_high_bit.ensures ∙ ap (some_high_bit _) sized.process_count.ensures in
+    catches (next (own_left _ _ (search rules)) (le-ltb _ _ sized.before.if-sets-gt-MOST_SETS.false)) (sym high ∙ c.if-some_high_bit.true))
     (λ c κs. search rules)
     -- 15
     (λ c.
     let here = c.before.before in
     let sized = here.before.before in
-    let high = here.before.some-high-bit.ensures ∙ ap (some_high_bit _) sized.process_count_lem.ensures in
-    catches (next (next (own_left _ _ (search rules)) (le-ltb _ _ sized.before.if2.false)) (sym high ∙ here.if3.false))
-    (sym c.before.short-of-lines.ensures ∙ c.if4.true))
+    let high = here.before.some_high_bit.ensures ∙ ap (some_high_bit _) sized.process_count.ensures in
+    catches (next (next (own_left _ _ (search rules)) (le-ltb _ _ sized.before.if-sets-gt-MOST_SETS.false)) (sym high ∙ here.if-some_high_bit.false))
+    (sym c.before.short_of_lines.ensures ∙ c.if-short_of_lines.true))
     -- none
     (λ c.
     let here = c.before.before in
     let sized = here.before.before in
-    let high = here.before.some-high-bit.ensures ∙ ap (some_high_bit _) sized.process_count_lem.ensures in
-    none_left (next (next (next (own_left _ _ (search rules)) (le-ltb _ _ sized.before.if2.false)) (sym high ∙ here.if3.false))
-    (sym c.before.short-of-lines.ensures ∙ c.if4.false))))
+    let high = here.before.some_high_bit.ensures ∙ ap (some_high_bit _) sized.process_count.ensures in
+    none_left (next (next (next (own_left _ _ (search rules)) (le-ltb _ _ sized.before.if-sets-gt-MOST_SETS.false)) (sym high ∙ here.if-some_high_bit.false))
+    (sym c.before.short_of_lines.ensures ∙ c.if-short_of_lines.false))))

@@ -6,7 +6,7 @@ use Rattle.table_writer.proofs.put_entry.Statement.{statement}
 use Rattle.table_writer.proofs.put_entry.Tie as tie
 
 -- ---- the places: where the first number was put, from where the second was
-abbrev first : tie.After-put-u162 → tie.After-put-u16
+abbrev first : tie.After-put_u16-2 → tie.After-put_u16
 first c = c.before.before.before.before
 
 -- ---- the needs, in the code's course
@@ -17,4 +17,4 @@ put_entry_spec =
     (λ c κs. search rules) (λ c. search rules) (λ c κs. search rules) (λ c. search rules)
     (λ c.
     let second = c.before.before in
-    pair_put _ _ _ _ (search rules) (first second).put-u16.ensures second.put-u162.ensures))
+    pair_put _ _ _ _ (search rules) (first second).put_u16.ensures second.put_u16-2.ensures))

@@ -6,10 +6,10 @@ use Rattle.table_writer.proofs.put_head.Statement.{statement}
 use Rattle.table_writer.proofs.put_head.Tie as tie
 
 -- ---- the places: the entry, from where the sizes were put; these, from where the counts were
-abbrev entry : tie.After-put-entry → tie.Start
+abbrev entry : tie.After-put_entry → tie.Start
 entry c = c.before.before.before.before
 
-abbrev sized : tie.After-put-numbers → tie.After-put-entry
+abbrev sized : tie.After-put_numbers → tie.After-put_entry
 sized c = c.before.before.before.before
 
 -- ---- the needs, in the code's course
@@ -21,4 +21,4 @@ put_head_spec =
     (λ c.
     let counted = c.before.before in
     let sized = sized counted in
-    head_put _ _ _ (entry sized).pre.1.1 sized.put-entry.ensures counted.put-numbers.ensures))
+    head_put _ _ _ (entry sized).requires.1.1 sized.put_entry.ensures counted.put_numbers.ensures))

@@ -9,14 +9,14 @@ use native.Mathlib.Omega.{arith}
 use Rattle.text_writer.proofs.put_fields.Statement.{statement}
 use Rattle.text_writer.proofs.put_fields.Tie as tie
 
-abbrev invariant-loop : tie.invariant-loop
-invariant-loop text₀ at numbers next₀ i₀ text next i = Laying (λ k. field (get_or numbers k 0)) (length numbers) (each field numbers) text₀ at text next i
+abbrev invariant-loop-i : tie.invariant-loop-i
+invariant-loop-i text₀ at numbers next₀ i₀ text next i = Laying (λ k. field (get_or numbers k 0)) (length numbers) (each field numbers) text₀ at text next i
 
-abbrev decreases-loop : tie.decreases-loop
-decreases-loop text₀ at numbers next₀ i₀ text next i = length numbers - i
+abbrev decreases-loop-i : tie.decreases-loop-i
+decreases-loop-i text₀ at numbers next₀ i₀ text next i = length numbers - i
 
 -- ---- the places: a turn of the loop, from where its field was put
-abbrev turn : tie.After-put-field invariant-loop decreases-loop → tie.In-loop invariant-loop decreases-loop
+abbrev turn : tie.After-put_field-next invariant-loop-i decreases-loop-i → tie.In-loop-i invariant-loop-i decreases-loop-i
 turn c = c.before.before.before
 
 -- ---- the needs, in the code's course
@@ -24,17 +24,17 @@ pub put_fields_spec : {M : Type 1} → statement M
 put_fields_spec =
     tie.close
     (tie.spec
-    invariant-loop
-    decreases-loop
+    invariant-loop-i
+    decreases-loop-i
     (λ c. laying_none (sym (each_rows field 0 _)) c.before.before.requires)
     (λ c. omega arith) (λ c. omega arith)
-    (λ c. omega (arith, c.shared-slice-known2.given c.before.before.before.loop.i))
+    (λ c. omega (arith, c.shared_slice_known-in-loop-i-1.given c.before.before.before.loop-i.i))
     (λ c κs.
     let turn = c.before.before in
-    laying_room turn.before.loop.invariant refl turn.loop-test.true)
+    laying_room turn.before.loop-i.invariant refl turn.loop-i-test.true)
     (λ c. omega arith) (λ c. omega arith)
     (λ c.
     let put = c.before.before in
-    laying_more (turn put).before.loop.invariant refl (turn put).loop-test.true put.put-field.ensures)
-    (λ c. laying_length c.before.loop.invariant)
-    (λ c. laying_all c.before.loop.invariant c.loop-test.false))
+    laying_more (turn put).before.loop-i.invariant refl (turn put).loop-i-test.true put.put_field-next.ensures)
+    (λ c. laying_length c.before.loop-i.invariant)
+    (λ c. laying_all c.before.loop-i.invariant c.loop-i-test.false))

@@ -9,14 +9,14 @@ use native.Mathlib.Omega.{arith}
 use Rattle.text_writer.proofs.put_word.Statement.{statement}
 use Rattle.text_writer.proofs.put_word.Tie as tie
 
-abbrev invariant-loop : tie.invariant-loop
-invariant-loop text₀ at word next₀ i₀ text next i = Laying (λ k. get_or word k 0 ∷ []) (length word) word text₀ at text next i
+abbrev invariant-loop-i : tie.invariant-loop-i
+invariant-loop-i text₀ at word next₀ i₀ text next i = Laying (λ k. get_or word k 0 ∷ []) (length word) word text₀ at text next i
 
-abbrev decreases-loop : tie.decreases-loop
-decreases-loop text₀ at word next₀ i₀ text next i = length word - i
+abbrev decreases-loop-i : tie.decreases-loop-i
+decreases-loop-i text₀ at word next₀ i₀ text next i = length word - i
 
 -- ---- the places: a turn of the loop, from where its letter was put
-abbrev turn : tie.After-put-byte invariant-loop decreases-loop → tie.In-loop invariant-loop decreases-loop
+abbrev turn : tie.After-put_byte-next invariant-loop-i decreases-loop-i → tie.In-loop-i invariant-loop-i decreases-loop-i
 turn c = c.before.before.before
 
 -- ---- the needs, in the code's course
@@ -24,16 +24,16 @@ pub put_word_spec : {M : Type 1} → statement M
 put_word_spec =
     tie.close
     (tie.spec
-    invariant-loop
-    decreases-loop
+    invariant-loop-i
+    decreases-loop-i
     (λ c. laying_none (letters _) c.before.before.requires)
     (λ c. omega arith)
     (λ c κs.
     let turn = c.before.before in
-    laying_room turn.before.loop.invariant refl turn.loop-test.true)
+    laying_room turn.before.loop-i.invariant refl turn.loop-i-test.true)
     (λ c. omega arith) (λ c. omega arith)
     (λ c.
     let put = c.before.before in
-    laying_more (turn put).before.loop.invariant refl (turn put).loop-test.true put.put_byte.ensures)
-    (λ c. laying_length c.before.loop.invariant)
-    (λ c. laying_all c.before.loop.invariant c.loop-test.false))
+    laying_more (turn put).before.loop-i.invariant refl (turn put).loop-i-test.true put.put_byte-next.ensures)
+    (λ c. laying_length c.before.loop-i.invariant)
+    (λ c. laying_all c.before.loop-i.invariant c.loop-i-test.false))

@@ -11,14 +11,14 @@ use Rattle.tables.specs.Parts.{Counts}
 use Rattle.lines.proofs.ceilings.ceiling.Statement.{statement}
 use Rattle.lines.proofs.ceilings.ceiling.Tie as tie
 
-abbrev invariant-loop : tie.invariant-loop
-invariant-loop counts n set line₀ p₀ line p = Counts n counts × Filling (height_at n set counts) n p line
+abbrev invariant-loop-p : tie.invariant-loop-p
+invariant-loop-p counts n set line₀ p₀ line p = Counts n counts × Filling (height_at n set counts) n p line
 
-abbrev decreases-loop : tie.decreases-loop
-decreases-loop counts n set line₀ p₀ line p = n - p
+abbrev decreases-loop-p : tie.decreases-loop-p
+decreases-loop-p counts n set line₀ p₀ line p = n - p
 
 -- ---- the places: a turn of the loop, from where its process was looked up
-abbrev turn : tie.After-is-member invariant-loop decreases-loop → tie.In-loop invariant-loop decreases-loop
+abbrev turn : tie.After-is_member invariant-loop-p decreases-loop-p → tie.In-loop-p invariant-loop-p decreases-loop-p
 turn c = c.before.before
 
 -- ---- the needs, in the code's course
@@ -27,17 +27,17 @@ unfolding count_at_lem
 ceiling_spec =
     tie.close
     (tie.spec
-    invariant-loop
-    decreases-loop
+    invariant-loop-p
+    decreases-loop-p
     (λ c. (c.before.requires, filling_none))
     -- the count, and whether the process holds
     (λ c. omega arith) (λ c κs. omega arith) (λ c κs. omega arith)
-    (λ c κs. omega (arith, (turn c).before.loop.invariant.0.positive _ (turn c).loop-test.true))
+    (λ c κs. omega (arith, (turn c).before.loop-p.invariant.0.positive _ (turn c).loop-p-test.true))
     -- its height
     (λ c. omega arith) (λ c. omega arith) (λ c. omega arith) (λ c. omega arith)
     (λ c.
     let looked-up = c.before in
     let here = turn looked-up in
-    let height = height_read _ here.loop-test.taken looked-up.before.u16-at.ensures _ looked-up.is_member.ensures c.height.ensures in
-    (here.before.loop.inv.0, filling_more here.before.loop.inv.1 here.loop-test.taken height))
-    (λ c. filling_all c.before.loop.invariant.1 c.loop-test.false (height_beyond _ _ _)))
+    let height = height_read _ here.loop-p-test.true looked-up.before.u16_at.ensures _ looked-up.is_member.ensures c.height.ensures in
+    (here.before.loop-p.invariant.0, filling_more here.before.loop-p.invariant.1 here.loop-p-test.true height))
+    (λ c. filling_all c.before.loop-p.invariant.1 c.loop-p-test.false (height_beyond _ _ _)))

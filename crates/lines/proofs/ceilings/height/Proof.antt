@@ -5,4 +5,4 @@ use Rattle.lines.proofs.ceilings.height.Statement.{statement}
 use Rattle.lines.proofs.ceilings.height.Tie as tie
 
 pub height_spec : {M : Type 1} → statement M
-height_spec = tie.close (tie.spec (λ c. search rules) (λ c. simp c.if1.true) (λ c. simp c.if1.false))
+height_spec = tie.close (tie.spec (λ c. search rules) (λ c. simp c.if-holds.true) (λ c. simp c.if-holds.false))

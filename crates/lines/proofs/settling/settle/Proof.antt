@@ -11,6 +11,6 @@ settle_spec =
     tie.close
     (tie.spec
     (λ c κs. search rules)
-    (λ c. c.before.few-passes.ensures.1 c.if1.true)
+    (λ c. c.before.few_passes-line.ensures.1 c.if-few.true)
     (λ c κs. search rules)
-    (λ c. c.chase-and-lower.ensures ∙ c.before.before.few-passes.ensures.0.same_line))
+    (λ c. c.chase_and_lower.ensures ∙ c.before.before.few_passes-line.ensures.0.same_line))

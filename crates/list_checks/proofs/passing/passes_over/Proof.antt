@@ -28,4 +28,4 @@ passes_over_spec =
     (λ c κs. listed_entries (messages c) _ _ (entry c).requires.1.0 (entry c).requires.1.1)
     (λ c.
     let read = c.before in
-    c.skips-older.ensures ∙ passes_is (messages read) _ _ (entry read).requires.1.0))
+    c.skips_older.ensures ∙ passes_is (messages read) _ _ (entry read).requires.1.0))

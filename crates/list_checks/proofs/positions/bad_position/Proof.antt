@@ -17,8 +17,8 @@ bad_position_spec =
     tie.close
     (tie.spec
     (λ c κs. search rules) (λ c κs. search rules)
-    (λ c κs. (messages_read (entry c).requires c.before.message_count_lem.ensures refl c.receipts.ensures).receipts_size)
+    (λ c κs. (messages_read (entry c).requires c.before.message_count-m.ensures refl c.receipts.ensures).receipts_size)
     (λ c.
     let read = c.before in
-    c.not-waiting.ensures
-    ∙ bad_positions (messages_read (entry read).requires read.before.message_count_lem.ensures refl read.receipts.ensures) _ _))
+    c.not_waiting.ensures
+    ∙ bad_positions (messages_read (entry read).requires read.before.message_count-m.ensures refl read.receipts.ensures) _ _))

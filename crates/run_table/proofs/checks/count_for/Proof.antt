@@ -18,4 +18,4 @@ count_for_spec =
     -- the count of its process
     (λ c. search rules)
     (λ c κs. omega (arith, process_known _ _ _ c.before.before.before.requires.1.1))
-    (λ c. rw (← c.before.u16-at.ensures, ← c.u16-at2.ensures)))
+    (λ c. rw (← c.before.u16_at-process.ensures, ← c.u16_at.ensures)))

@@ -9,17 +9,17 @@ use Rattle.run_table.proofs.ThroughLaws.{Turned, here, turned_all, turned_broken
 use Rattle.run_table.proofs.checks.first_caught.Statement.{statement}
 use Rattle.run_table.proofs.checks.first_caught.Tie as tie
 
-abbrev invariant-loop : tie.invariant-loop
-invariant-loop counts sends receipts n m last₀ k₀ last k = Turned n m counts sends receipts last k
+abbrev invariant-loop-k : tie.invariant-loop-k
+invariant-loop-k counts sends receipts n m last₀ k₀ last k = Turned n m counts sends receipts last k
 
-abbrev decreases-loop : tie.decreases-loop
-decreases-loop counts sends receipts n m last₀ k₀ last k = m - k
+abbrev decreases-loop-k : tie.decreases-loop-k
+decreases-loop-k counts sends receipts n m last₀ k₀ last k = m - k
 
 -- ---- the places: a turn of the loop, from where its message was looked at; where no check catches it, from where its turn was asked for
-abbrev turn : tie.After-fault-at invariant-loop decreases-loop → tie.In-loop invariant-loop decreases-loop
+abbrev turn : tie.After-fault_at invariant-loop-k decreases-loop-k → tie.In-loop-k invariant-loop-k decreases-loop-k
 turn c = c.before
 
-abbrev unfaulted : tie.After-behind-neighbour invariant-loop decreases-loop → tie.Else1 invariant-loop decreases-loop
+abbrev unfaulted : tie.After-behind_neighbour invariant-loop-k decreases-loop-k → tie.Else-fault_at-ne-NO_FAULT invariant-loop-k decreases-loop-k
 unfaulted c = c.before.before
 
 -- ---- the needs, in the code's course
@@ -27,39 +27,39 @@ pub first_caught_spec : {M : Type 1} → statement M
 first_caught_spec =
     tie.close
     (tie.spec
-    invariant-loop
-    decreases-loop
+    invariant-loop-k
+    decreases-loop-k
     (λ c. turned_none c.before.before.before.requires)
-    (λ c κs. omega (arith, c.before.loop.invariant.sized, c.loop-test.true))
+    (λ c κs. omega (arith, c.before.loop-k.invariant.sized, c.loop-k-test.true))
     -- a check catches message k
     (λ c.
     let looked = c.before in
-    turned_fault (turn looked).before.loop.invariant (turn looked).loop-test.true looked.fault-at.ensures c.if1.true)
+    turned_fault (turn looked).before.loop-k.invariant (turn looked).loop-k-test.true looked.fault_at.ensures c.if-fault_at-ne-NO_FAULT.true)
     -- none does
     (λ c. search rules)
     (λ c κs.
     let quiet = c.before in
     let looked = quiet.before in
-    let w = (turn looked).before.loop.invariant in
-    let taken = (turn looked).loop-test.true in
-    (omega (arith, taken, w.sized.few_messages), (here w taken looked.fault-at.ensures quiet.if1.false, w.lasts)))
+    let w = (turn looked).before.loop-k.invariant in
+    let taken = (turn looked).loop-k-test.true in
+    (omega (arith, taken, w.sized.few_messages), (here w taken looked.fault_at.ensures quiet.if-fault_at-ne-NO_FAULT.false, w.lasts)))
     -- it is out of turn
     (λ c.
     let asked = c.before.before in
     let quiet = unfaulted asked in
     let looked = quiet.before in
-    turned_broken (turn looked).before.loop.inv (turn looked).loop-test.taken looked.fault-at.ensures quiet.if1.left
-    (sym asked.behind-neighbour.ensures.0 ∙ c.if2.true))
+    turned_broken (turn looked).before.loop-k.invariant (turn looked).loop-k-test.true looked.fault_at.ensures quiet.if-fault_at-ne-NO_FAULT.false
+    (sym asked.behind_neighbour.ensures.0 ∙ c.if-behind_neighbour.true))
     -- it is not
     (λ c.
     let here = turn (unfaulted c.before.before).before in
-    omega (arith, here.loop-test.taken, here.before.loop.inv.sized.few_messages))
-    (λ c. omega (arith, (turn (unfaulted c.before.before).before).loop-test.taken))
+    omega (arith, here.loop-k-test.true, here.before.loop-k.invariant.sized.few_messages))
+    (λ c. omega (arith, (turn (unfaulted c.before.before).before).loop-k-test.true))
     (λ c.
     let asked = c.before.before in
     let quiet = unfaulted asked in
     let looked = quiet.before in
-    turned_more (turn looked).before.loop.inv (turn looked).loop-test.taken looked.fault-at.ensures quiet.if1.left
-    (sym asked.behind-neighbour.ensures.0 ∙ c.if2.false) asked.behind-neighbour.ensures.1)
+    turned_more (turn looked).before.loop-k.invariant (turn looked).loop-k-test.true looked.fault_at.ensures quiet.if-fault_at-ne-NO_FAULT.false
+    (sym asked.behind_neighbour.ensures.0 ∙ c.if-behind_neighbour.false) asked.behind_neighbour.ensures.1)
     -- none of any
-    (λ c. turned_all c.before.loop.invariant c.loop-test.false))
+    (λ c. turned_all c.before.loop-k.invariant c.loop-k-test.false))

@@ -8,17 +8,17 @@ use Rattle.run_table.specs.EntryChecks.{message_checks}
 use Rattle.run_table.proofs.checks.first_fault.Statement.{statement}
 use Rattle.run_table.proofs.checks.first_fault.Tie as tie
 
-abbrev invariant-loop : tie.invariant-loop
-invariant-loop counts sends receipts n m from first₀ k₀ first k = Looked (message_checks n counts sends receipts) m k first
+abbrev invariant-loop-k : tie.invariant-loop-k
+invariant-loop-k counts sends receipts n m from first₀ k₀ first k = Looked (message_checks n counts sends receipts) m k first
 
-abbrev decreases-loop : tie.decreases-loop
-decreases-loop counts sends receipts n m from first₀ k₀ first k = m - k
+abbrev decreases-loop-k : tie.decreases-loop-k
+decreases-loop-k counts sends receipts n m from first₀ k₀ first k = m - k
 
 -- ---- the places: the entry; a turn of the loop, from where its message was looked at
-abbrev entry : tie.After-shared-slice-known3 invariant-loop decreases-loop → tie.Start invariant-loop decreases-loop
+abbrev entry : tie.After-shared_slice_known-3-1 invariant-loop-k decreases-loop-k → tie.Start invariant-loop-k decreases-loop-k
 entry c = c.before.before.before
 
-abbrev turn : tie.After-fault-at invariant-loop decreases-loop → tie.In-loop invariant-loop decreases-loop
+abbrev turn : tie.After-fault_at-fault invariant-loop-k decreases-loop-k → tie.In-loop-k invariant-loop-k decreases-loop-k
 turn c = c.before
 
 -- ---- the needs, in the code's course
@@ -26,8 +26,8 @@ pub first_fault_spec : {M : Type 1} → statement M
 first_fault_spec =
     tie.close
     (tie.spec
-    invariant-loop
-    decreases-loop
+    invariant-loop-k
+    decreases-loop-k
     (λ c.
     let first = (entry c).requires.1 in
     record { within = first.within; found = first.quiet })
@@ -36,9 +36,9 @@ first_fault_spec =
     (λ c. omega arith)
     (λ c.
     let turn = turn c.before in
-    looked_more turn.before.loop.inv turn.loop-test.taken c.before.fault-at.ensures (omega (arith, c.if1.true)))
+    looked_more turn.before.loop-k.invariant turn.loop-k-test.true c.before.fault_at-fault.ensures (omega (arith, c.if-first-fault.true)))
     (λ c. omega arith)
     (λ c.
     let turn = turn c.before in
-    looked_more turn.before.loop.inv turn.loop-test.taken c.before.fault-at.ensures (omega (arith, c.if1.false)))
-    (λ c. looked_all c.before.loop.invariant c.loop-test.false))
+    looked_more turn.before.loop-k.invariant turn.loop-k-test.true c.before.fault_at-fault.ensures (omega (arith, c.if-first-fault.false)))
+    (λ c. looked_all c.before.loop-k.invariant c.loop-k-test.false))

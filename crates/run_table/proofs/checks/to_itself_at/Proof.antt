@@ -14,4 +14,4 @@ to_itself_at_spec =
     tie.close
     (tie.spec
     (λ c. search rules) (λ c κs. search rules) (λ c. search rules) (λ c κs. search rules)
-    (λ c. ap₂ eqb c.before.u16-at.ensures c.u16-at2.ensures))
+    (λ c. ap₂ eqb c.before.u16_at-sender.ensures c.u16_at-receiver.ensures))

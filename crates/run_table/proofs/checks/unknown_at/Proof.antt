@@ -11,4 +11,4 @@ use Rattle.run_table.proofs.checks.unknown_at.Tie as tie
 pub unknown_at_spec : {M : Type 1} → statement M
 unfolding unknown_at process_at
 unknown_at_spec =
-    tie.close (tie.spec (λ c. search rules) (λ c κs. search rules) (λ c. search rules) (λ c. ap (leb _) c.u16-at.ensures))
+    tie.close (tie.spec (λ c. search rules) (λ c κs. search rules) (λ c. search rules) (λ c. ap (leb _) c.u16_at-process.ensures))

@@ -7,14 +7,14 @@ use Rattle.sheet_entries.proofs.SearchLaws.{Totalling, totalling_adds, totalling
 use Rattle.sheet_entries.proofs.checkpoints.count_kept.Statement.{statement}
 use Rattle.sheet_entries.proofs.checkpoints.count_kept.Tie as tie
 
-abbrev invariant-loop : tie.invariant-loop
-invariant-loop scratch n counts total₀ i₀ total i = Totalling n scratch counts total i
+abbrev invariant-loop-i : tie.invariant-loop-i
+invariant-loop-i scratch n counts total₀ i₀ total i = Totalling n scratch counts total i
 
-abbrev decreases-loop : tie.decreases-loop
-decreases-loop scratch n counts total₀ i₀ total i = n - i
+abbrev decreases-loop-i : tie.decreases-loop-i
+decreases-loop-i scratch n counts total₀ i₀ total i = n - i
 
 -- ---- the places: a turn of the loop, and where the count of its process was read
-abbrev turn : tie.After-u16-at invariant-loop decreases-loop → tie.In-loop invariant-loop decreases-loop
+abbrev turn : tie.After-u16_at invariant-loop-i decreases-loop-i → tie.In-loop-i invariant-loop-i decreases-loop-i
 turn c = c.before
 
 -- ---- the needs, in the code's course
@@ -22,16 +22,16 @@ pub count_kept_spec : {M : Type 1} → statement M
 count_kept_spec =
     tie.close
     (tie.spec
-    invariant-loop
-    decreases-loop
+    invariant-loop-i
+    decreases-loop-i
     (λ c. totalling_none)
     (λ c. omega arith) (λ c κs. omega arith) (λ c κs. omega arith)
     -- one more process
     (λ c.
     let read = c.before in
-    omega (arith, totalling_adds (turn read).before.loop.invariant read.u16-at.ensures c.count-kept-of.ensures))
+    omega (arith, totalling_adds (turn read).before.loop-i.invariant read.u16_at.ensures c.count_kept_of-total.ensures))
     (λ c. omega arith) (λ c. omega arith)
     (λ c.
     let read = c.before in
-    totalling_more (turn read).before.loop.invariant read.u16-at.ensures c.count-kept-of.ensures (turn read).loop-test.true (omega arith))
-    (λ c. totalling_all c.before.loop.invariant c.loop-test.false))
+    totalling_more (turn read).before.loop-i.invariant read.u16_at.ensures c.count_kept_of-total.ensures (turn read).loop-i-test.true (omega arith))
+    (λ c. totalling_all c.before.loop-i.invariant c.loop-i-test.false))

@@ -9,11 +9,11 @@ use Rattle.tables.proofs.SelectLaws.{Tallying, tallied_all, tallied_small, tally
 use Rattle.sheet_entries.proofs.checkpoints.count_kept_of.Statement.{statement}
 use Rattle.sheet_entries.proofs.checkpoints.count_kept_of.Tie as tie
 
-abbrev invariant-loop : tie.invariant-loop
-invariant-loop scratch n i count kept₀ checkpoint₀ kept checkpoint = Tallying (shows n (lines_in scratch n) i) count kept checkpoint
+abbrev invariant-loop-checkpoint : tie.invariant-loop-checkpoint
+invariant-loop-checkpoint scratch n i count kept₀ checkpoint₀ kept checkpoint = Tallying (shows n (lines_in scratch n) i) count kept checkpoint
 
-abbrev decreases-loop : tie.decreases-loop
-decreases-loop scratch n i count kept₀ checkpoint₀ kept checkpoint = count - checkpoint
+abbrev decreases-loop-checkpoint : tie.decreases-loop-checkpoint
+decreases-loop-checkpoint scratch n i count kept₀ checkpoint₀ kept checkpoint = count - checkpoint
 
 -- ---- the needs, in the code's course
 pub count_kept_of_spec : {M : Type 1} → statement M
@@ -21,14 +21,14 @@ unfolding kept_of
 count_kept_of_spec =
     tie.close
     (tie.spec
-    invariant-loop
-    decreases-loop
+    invariant-loop-checkpoint
+    decreases-loop-checkpoint
     (λ c κs. omega arith)
-    (λ c. tallying_first c.next-kept.ensures)
+    (λ c. tallying_first c.next_kept-checkpoint.ensures)
     -- one more
-    (λ c. omega (arith, tallied_small c.before.loop.invariant.tallied))
+    (λ c. omega (arith, tallied_small c.before.loop-checkpoint.invariant.tallied))
     (λ c. omega arith) (λ c κs. omega arith) (λ c. omega arith)
     (λ c.
     let turn = c.before in
-    tallying_next turn.before.loop.invariant turn.loop-test.true c.next-kept2.ensures)
-    (λ c. tallied_all c.before.loop.invariant.tallied c.loop-test.false))
+    tallying_next turn.before.loop-checkpoint.invariant turn.loop-checkpoint-test.true c.next_kept-checkpoint-in-loop-checkpoint.ensures)
+    (λ c. tallied_all c.before.loop-checkpoint.invariant.tallied c.loop-checkpoint-test.false))

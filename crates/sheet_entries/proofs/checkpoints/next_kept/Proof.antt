@@ -9,14 +9,14 @@ use Rattle.tables.proofs.SelectLaws.{Searching, search_begins, search_ends, sear
 use Rattle.sheet_entries.proofs.checkpoints.next_kept.Statement.{statement}
 use Rattle.sheet_entries.proofs.checkpoints.next_kept.Tie as tie
 
-abbrev invariant-loop : tie.invariant-loop
-invariant-loop scratch n i from count least₀ k₀ least k = Searching n (λ j. lines_in scratch n j i) from count least k
+abbrev invariant-loop-k : tie.invariant-loop-k
+invariant-loop-k scratch n i from count least₀ k₀ least k = Searching n (λ j. lines_in scratch n j i) from count least k
 
-abbrev decreases-loop : tie.decreases-loop
-decreases-loop scratch n i from count least₀ k₀ least k = n - k
+abbrev decreases-loop-k : tie.decreases-loop-k
+decreases-loop-k scratch n i from count least₀ k₀ least k = n - k
 
 -- ---- the places: a turn of the loop, and where the number of its line was read
-abbrev turn : tie.After-number-in-line invariant-loop decreases-loop → tie.In-loop invariant-loop decreases-loop
+abbrev turn : tie.After-number_in_line-checkpoint invariant-loop-k decreases-loop-k → tie.In-loop-k invariant-loop-k decreases-loop-k
 turn c = c.before
 
 -- ---- the needs, in the code's course
@@ -25,23 +25,23 @@ unfolding shows
 next_kept_spec =
     tie.close
     (tie.spec
-    invariant-loop
-    decreases-loop
+    invariant-loop-k
+    decreases-loop-k
     (λ c. search_begins c.before.requires.1.1)
     (λ c κs. omega arith) (λ c. omega arith)
     -- a number before the start
     (λ c. omega arith)
     (λ c.
     let read = c.before in
-    search_passes (turn read).before.loop.invariant (turn read).loop-test.true read.number-in-line.ensures (λ b. omega arith))
+    search_passes (turn read).before.loop-k.invariant (turn read).loop-k-test.true read.number_in_line-checkpoint.ensures (λ b. omega arith))
     -- one that is not below the least yet
     (λ c. omega arith)
     (λ c.
     let read = c.before.before in
-    search_passes (turn read).before.loop.invariant (turn read).loop-test.true read.number-in-line.ensures (λ b. c.if2.true))
+    search_passes (turn read).before.loop-k.invariant (turn read).loop-k-test.true read.number_in_line-checkpoint.ensures (λ b. c.if-least-checkpoint.true))
     -- a new least
     (λ c. omega arith)
     (λ c.
     let read = c.before.before in
-    search_finds (turn read).before.loop.invariant (turn read).loop-test.true read.number-in-line.ensures c.before.if1.false c.if2.false)
-    (λ c. search_ends c.before.loop.invariant c.loop-test.false))
+    search_finds (turn read).before.loop-k.invariant (turn read).loop-k-test.true read.number_in_line-checkpoint.ensures c.before.if-checkpoint-from.false c.if-least-checkpoint.false)
+    (λ c. search_ends c.before.loop-k.invariant c.loop-k-test.false))

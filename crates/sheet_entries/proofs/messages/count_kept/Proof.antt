@@ -11,18 +11,18 @@ use Rattle.tables.proofs.SelectLaws.{Tallied, tallied_all, tallied_more, tallied
 use Rattle.sheet_entries.proofs.messages.count_kept.Statement.{statement}
 use Rattle.sheet_entries.proofs.messages.count_kept.Tie as tie
 
-abbrev invariant-loop : tie.invariant-loop
-invariant-loop scratch n sends receipts m lowest kept₀ k₀ kept k =
+abbrev invariant-loop-k : tie.invariant-loop-k
+invariant-loop-k scratch n sends receipts m lowest kept₀ k₀ kept k =
     MessagesBeside n m scratch sends receipts lowest × Tallied (keeps_at n scratch sends receipts) m kept k
 
-abbrev decreases-loop : tie.decreases-loop
-decreases-loop scratch n sends receipts m lowest kept₀ k₀ kept k = m - k
+abbrev decreases-loop-k : tie.decreases-loop-k
+decreases-loop-k scratch n sends receipts m lowest kept₀ k₀ kept k = m - k
 
 -- ---- the places: the entry, from where the lowest line was found; a turn of the loop, from where its message was judged
-abbrev entry : tie.After-lowest-line invariant-loop decreases-loop → tie.Start invariant-loop decreases-loop
+abbrev entry : tie.After-lowest_line-lowest invariant-loop-k decreases-loop-k → tie.Start invariant-loop-k decreases-loop-k
 entry c = c.before.before.before.before
 
-abbrev turn : tie.After-is-kept invariant-loop decreases-loop → tie.In-loop invariant-loop decreases-loop
+abbrev turn : tie.After-is_kept-keep invariant-loop-k decreases-loop-k → tie.In-loop-k invariant-loop-k decreases-loop-k
 turn c = c.before.before
 
 -- ---- the needs, in the code's course
@@ -31,28 +31,28 @@ unfolding positions_of
 count_kept_spec =
     tie.close
     (tie.spec
-    invariant-loop
-    decreases-loop
+    invariant-loop-k
+    decreases-loop-k
     (λ c κs. omega arith)
     (λ c.
     let given = (entry c).requires in
-    (record { holds = given.0; known = given.1; lowest_is = c.lowest-line.ensures }, tallied_none))
+    (record { holds = given.0; known = given.1; lowest_is = c.lowest_line-lowest.ensures }, tallied_none))
     -- the message
     (λ c. omega arith) (λ c κs. omega arith) (λ c. search rules) (λ c. search rules)
-    (λ c. receiver_small c.before.before.loop.invariant.0 c.before.loop-test.true c.u16-at.ensures)
-    (λ c κs. may_ask c.before.before.loop.invariant.0 c.before.loop-test.true c.u16-at.ensures)
+    (λ c. receiver_small c.before.before.loop-k.invariant.0 c.before.loop-k-test.true c.u16_at-receiver.ensures)
+    (λ c κs. may_ask c.before.before.loop-k.invariant.0 c.before.loop-k-test.true c.u16_at-receiver.ensures)
     (λ c. omega arith)
     -- it is not kept
     (λ c. omega arith)
     (λ c.
     let judged = c.before in
-    let inv = (turn judged).before.loop.invariant in
-    (inv.0, tallied_skip inv.1 (turn judged).loop-test.true judged.is-kept.ensures (not-true _ c.if1.true)))
+    let inv = (turn judged).before.loop-k.invariant in
+    (inv.0, tallied_skip inv.1 (turn judged).loop-k-test.true judged.is_kept-keep.ensures c.if-not-keep.true))
     -- it is kept
-    (λ c. omega (arith, tallied_small (turn c.before).before.loop.inv.1))
+    (λ c. omega (arith, tallied_small (turn c.before).before.loop-k.invariant.1))
     (λ c. omega arith)
     (λ c.
     let judged = c.before in
-    let inv = (turn judged).before.loop.invariant in
-    (inv.0, tallied_more inv.1 (turn judged).loop-test.true judged.is-kept.ensures (not-false _ c.if1.false)))
-    (λ c. tallied_all c.before.loop.invariant.1 c.loop-test.false))
+    let inv = (turn judged).before.loop-k.invariant in
+    (inv.0, tallied_more inv.1 (turn judged).loop-k-test.true judged.is_kept-keep.ensures c.if-not-keep.false))
+    (λ c. tallied_all c.before.loop-k.invariant.1 c.loop-k-test.false))

@@ -11,18 +11,18 @@ use Rattle.tables.proofs.SearchedLaws.{Searched, searched_all, searched_here, se
 use Rattle.sheet_entries.proofs.messages.crosses_line.Statement.{statement}
 use Rattle.sheet_entries.proofs.messages.crosses_line.Tie as tie
 
-abbrev invariant-loop : tie.invariant-loop
-invariant-loop scratch n sender sent receiver received k₀ k =
+abbrev invariant-loop-k : tie.invariant-loop-k
+invariant-loop-k scratch n sender sent receiver received k₀ k =
     Searched n (λ j. crosses (lines_in scratch n j) (record { sender = sender; sent = sent; receiver = receiver; received = received })) k
 
-abbrev decreases-loop : tie.decreases-loop
-decreases-loop scratch n sender sent receiver received k₀ k = n - k
+abbrev decreases-loop-k : tie.decreases-loop-k
+decreases-loop-k scratch n sender sent receiver received k₀ k = n - k
 
 -- ---- the places: a turn of the loop; where its line's number at the receiver was read; where that at the sender was
-abbrev turn : tie.After-number-in-line invariant-loop decreases-loop → tie.In-loop invariant-loop decreases-loop
+abbrev turn : tie.After-number_in_line-of_receiver invariant-loop-k decreases-loop-k → tie.In-loop-k invariant-loop-k decreases-loop-k
 turn c = c.before
 
-abbrev received : tie.After-number-in-line2 invariant-loop decreases-loop → tie.After-number-in-line invariant-loop decreases-loop
+abbrev received : tie.After-number_in_line-of_sender invariant-loop-k decreases-loop-k → tie.After-number_in_line-of_receiver invariant-loop-k decreases-loop-k
 received c = c.before.before
 
 -- ---- the needs, in the code's course
@@ -31,24 +31,24 @@ unfolding crosses_line
 crosses_line_spec =
     tie.close
     (tie.spec
-    invariant-loop
-    decreases-loop
+    invariant-loop-k
+    decreases-loop-k
     (λ c. searched_none)
     -- received at or before the line
     (λ c. omega arith) (λ c κs. omega arith) (λ c. omega arith)
     (λ c.
     let read = c.before in
-    searched_more (turn read).before.loop.invariant (turn read).loop-test.true (received-before _ _ read.number-in-line.ensures (omega arith)))
+    searched_more (turn read).before.loop-k.invariant (turn read).loop-k-test.true (received-before _ _ read.number_in_line-of_receiver.ensures (omega arith)))
     -- sent after it
     (λ c κs. omega arith) (λ c. omega arith)
     (λ c.
     let sent = c.before in
     let read = received sent in
-    searched_more (turn read).before.loop.inv (turn read).loop-test.taken (sent_after _ _ sent.number-in-line2.ensures (omega arith)))
+    searched_more (turn read).before.loop-k.invariant (turn read).loop-k-test.true (sent_after _ _ sent.number_in_line-of_sender.ensures (omega arith)))
     -- the message crosses it
     (λ c.
     let sent = c.before in
     let read = received sent in
-    searched_here (turn read).before.loop.inv (turn read).loop-test.taken
-    (crossed _ _ read.number-in-line.ensures sent.number-in-line2.ensures (omega arith) (omega arith)))
-    (λ c. searched_all c.before.loop.invariant c.loop-test.false))
+    searched_here (turn read).before.loop-k.invariant (turn read).loop-k-test.true
+    (crossed _ _ read.number_in_line-of_receiver.ensures sent.number_in_line-of_sender.ensures (omega arith) (omega arith)))
+    (λ c. searched_all c.before.loop-k.invariant c.loop-k-test.false))

@@ -8,10 +8,10 @@ use Rattle.sheet_entries.proofs.messages.is_kept.Statement.{statement}
 use Rattle.sheet_entries.proofs.messages.is_kept.Tie as tie
 
 -- ---- the places: the entry, from where the receipt was read; the receipt, from where the send was
-abbrev entry : tie.After-u16-at2 → tie.Start
+abbrev entry : tie.After-u16_at-received → tie.Start
 entry c = c.before.before.before.before.before
 
-abbrev received : tie.After-u16-at4 → tie.After-u16-at2
+abbrev received : tie.After-u16_at-sent → tie.After-u16_at-received
 received c = c.before.before.before.before
 
 -- ---- the needs, in the code's course
@@ -23,10 +23,10 @@ is_kept_spec =
     -- the receipt
     (λ c. search rules) (λ c κs. search rules) (λ c. search rules) (λ c. search rules) (λ c. search rules) (λ c κs. search rules)
     -- undelivered; received at or before the lowest line
-    (λ c. undelivered_kept (entry c.before).requires c.before.u16-at2.ensures c.if1.true)
+    (λ c. undelivered_kept (entry c.before).requires c.before.u16_at-received.ensures c.if-received-eq0.true)
     (λ c.
     let read = c.before.before in
-    old_kept (entry read).requires read.u16-at2.ensures c.before.if1.false c.if2.true)
+    old_kept (entry read).requires read.u16_at-received.ensures c.before.if-received-eq0.false c.if-received-lowest.true)
     -- the send
     (λ c. search rules) (λ c κs. search rules) (λ c. search rules) (λ c. search rules) (λ c. search rules) (λ c κs. search rules)
     -- by the lines
@@ -34,5 +34,5 @@ is_kept_spec =
     (λ c.
     let sent = c.before in
     let read = received sent in
-    delivered_kept (entry read).pre read.u16-at2.ensures sent.before.before.before.if1.false read.before.u16-at.ensures
-    sent.before.u16-at3.ensures sent.u16-at4.ensures c.crosses-line.ensures))
+    delivered_kept (entry read).requires read.u16_at-received.ensures sent.before.before.before.if-received-eq0.false read.before.u16_at-receiver.ensures
+    sent.before.u16_at-sender.ensures sent.u16_at-sent.ensures c.crosses_line.ensures))

@@ -14,12 +14,12 @@ use Rattle.tables.specs.Lists.{tabulate}
 use Rattle.sheet_entries.proofs.messages.lowest_line.Statement.{statement}
 use Rattle.sheet_entries.proofs.messages.lowest_line.Tie as tie
 
-abbrev invariant-loop : tie.invariant-loop
-invariant-loop scratch n lowest₀ i₀ lowest i =
+abbrev invariant-loop-i : tie.invariant-loop-i
+invariant-loop-i scratch n lowest₀ i₀ lowest i =
     HoldsLines n scratch × Filling (λ j. get_or (tabulate n (lowest_at n (lines_in scratch n))) j 0) n i lowest
 
-abbrev decreases-loop : tie.decreases-loop
-decreases-loop scratch n lowest₀ i₀ lowest i = n - i
+abbrev decreases-loop-i : tie.decreases-loop-i
+decreases-loop-i scratch n lowest₀ i₀ lowest i = n - i
 
 -- ---- the needs, in the code's course
 pub lowest_line_spec : {M : Type 1} → statement M
@@ -27,12 +27,12 @@ unfolding lowest_line
 lowest_line_spec =
     tie.close
     (tie.spec
-    invariant-loop
-    decreases-loop
+    invariant-loop-i
+    decreases-loop-i
     (λ c. (c.before.requires, filling_none))
     (λ c κs. omega arith) (λ c. omega arith) (λ c. omega arith) (λ c. omega arith) (λ c. omega arith)
     (λ c.
-    let inv = c.before.before.loop.invariant in
-    let l = c.before.loop-test.true in
-    (inv.0, filling_more inv.1 l (lowest_found _ l c.next-kept.ensures)))
-    (λ c. filling_array _ c.before.loop.invariant.1 c.loop-test.false (sym (length-tabulate _ _))))
+    let inv = c.before.before.loop-i.invariant in
+    let l = c.before.loop-i-test.true in
+    (inv.0, filling_more inv.1 l (lowest_found _ l c.next_kept.ensures)))
+    (λ c. filling_array _ c.before.loop-i.invariant.1 c.loop-i-test.false (sym (length-tabulate _ _))))

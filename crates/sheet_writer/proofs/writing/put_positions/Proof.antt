@@ -51,18 +51,18 @@ put_positions_spec =
     (λ c.
     let judged = c.before in
     let inv = (turn judged).before.loop.invariant in
-    (inv.0, picked_skip _ inv.1 (turn judged).loop-test.true judged.is-kept.ensures (not-true _ c.if1.true)))
+    (inv.0, picked_skip _ inv.1 (turn judged).loop-test.true judged.is-kept.ensures c.if1.true))
     -- it is kept: its position is put
     (λ c. omega arith)
     (λ c κs.
     let turn = turn (judged c) in
-    picked_room _ turn.before.loop.inv.1 turn.loop-test.taken (judged c).is-kept.ensures (not-false _ c.before.if1.false))
+    picked_room _ turn.before.loop.inv.1 turn.loop-test.taken (judged c).is-kept.ensures c.before.if1.false)
     (λ c. omega arith)
     (λ c.
     let put = c.before.before in
     let here = judged put.before in
     let inv = (turn here).before.loop.inv in
-    let kept = not-false _ put.before.before.if1.false in
+    let kept = put.before.before.if1.false in
     (inv.0, picked_more _ inv.1 (turn here).loop-test.taken here.is-kept.ensures kept put.put-number.ensures))
     (λ c. putting_length c.before.loop.invariant.1)
     (λ c. putting_all c.before.loop.invariant.1 c.loop-test.false))

@@ -10,4 +10,4 @@ put_checkpoint_spec =
     tie.close
     (tie.spec
     (λ c κs. search rules) (λ c. search rules)
-    (λ c. checkpoint_put _ _ _ _ c.before.before.put-received.ensures))
+    (λ c. checkpoint_put _ _ _ _ c.before.before.put_received.ensures))

@@ -15,37 +15,37 @@ use Rattle.step_writer.proofs.receipts.put_received.Statement.{statement}
 use Rattle.step_writer.proofs.receipts.put_received.Tie as tie
 
 -- ---- the places: where N was read; the entry; where the table was read; where the head was put; where the sends were
-abbrev sized : tie.After-count-array → tie.After-process-count
+abbrev sized : tie.After-count_array-counts → tie.After-process_count-n
 sized c = c.before.before
 
-abbrev entry : tie.After-count-array → tie.Start
+abbrev entry : tie.After-count_array-counts → tie.Start
 entry c = (sized c).before.before.before.before
 
-abbrev read : tie.After-put-head → tie.After-count-array
+abbrev read : tie.After-put_head → tie.After-count_array-counts
 read c = c.before.before.before
 
-abbrev head : tie.After-sends-at → tie.After-put-head
+abbrev head : tie.After-sends_at → tie.After-put_head
 head c = c.before.before.before.before
 
-abbrev sent : tie.After-receipts-at → tie.After-copy-numbers
+abbrev sent : tie.After-receipts_at → tie.After-copy_numbers
 sent c = c.before.before.before.before
 
 -- ---- what is known there: the sizes and the counts; the counts with the one that grows, the first N of these; the room
-module _ (c : tie.After-count-array) where
-  known : Read (entry c).args.table.now (sized c).process_count_lem.result c.before.message_count_lem.result c.count-array.result
-  known = table_read (entry c).requires.0.accepted (sized c).process_count_lem.ensures c.before.message_count_lem.ensures c.count-array.ensures
+module _ (c : tie.After-count_array-counts) where
+  known : Read (entry c).args.table.now (sized c).process_count-n.result c.before.message_count-m.result c.count_array-counts.result
+  known = table_read (entry c).requires.0.accepted (sized c).process_count-n.ensures c.before.message_count-m.ensures c.count_array-counts.ensures
 
   abbrev grown : List ℕ
   grown =
-      set c.count-array.result (entry c).args.process (get_or c.count-array.result (entry c).args.process 0 + (entry c).args.taken)
+      set c.count_array-counts.result (entry c).args.process (get_or c.count_array-counts.result (entry c).args.process 0 + (entry c).args.taken)
 
   grown_size : length grown ≡ 32
-  grown_size = length-set c.count-array.result (entry c).args.process _ ∙ known.counts_size
+  grown_size = length-set c.count_array-counts.result (entry c).args.process _ ∙ known.counts_size
 
-  front : (sized c).process_count_lem.result ≡ length (take (sized c).process_count_lem.result grown)
+  front : (sized c).process_count-n.result ≡ length (take (sized c).process_count-n.result grown)
   front = front_size known _ grown_size
 
-  room : table_length (sized c).process_count_lem.result c.before.message_count_lem.result ≤ length (entry c).args.answer.now
+  room : table_length (sized c).process_count-n.result c.before.message_count-m.result ≤ length (entry c).args.answer.now
   room = omega (arith, known.n_is, known.m_is)
 
 -- ---- the needs, in the code's course
@@ -81,7 +81,7 @@ put_received_spec =
     (λ c κs.
     let here = read (head (sent c.before).before.before) in (
       omega (arith, ap length c.receipts.ensures, (known here).receipts_size),
-      (positions_below (entry here).pre.0 (known here).m_is, omega (arith, room here)),
+      (positions_below (entry here).requires.0 (known here).m_is, omega (arith, room here)),
     ))
     (λ c. search rules)
     -- all are written
@@ -91,11 +91,11 @@ put_received_spec =
     let placed = put.before.before in
     let here = read (head placed) in
     let messages = messages_read (known here).accepted (known here).m_is put.before.sends.ensures last.before.receipts.ensures in
-    received_put messages (entry here).pre.0 (known here) refl _ (record {
+    received_put messages (entry here).requires.0 (known here) refl _ (record {
       room = room here;
-      head = (head placed).put-head.ensures;
-      sends_at_lem = placed.sends_at_lem.ensures;
-      sends_put = put.copy-numbers.ensures;
-      receipts_at_lem = last.before.before.receipts_at_lem.ensures;
-      receipts_put = last.put-receipts.ensures;
+      head = (head placed).put_head.ensures;
+      sends_at_lem = placed.sends_at.ensures;
+      sends_put = put.copy_numbers.ensures;
+      receipts_at_lem = last.before.before.receipts_at.ensures;
+      receipts_put = last.put_receipts.ensures;
     })))

@@ -9,14 +9,14 @@ use Rattle.step_writer.proofs.ListedLaws.{SettingReceipts, setting_all, setting_
 use Rattle.step_writer.proofs.receipts.set_receipts.Statement.{statement}
 use Rattle.step_writer.proofs.receipts.set_receipts.Tie as tie
 
-abbrev invariant-loop : tie.invariant-loop
-invariant-loop receipts₀ list number a₀ receipts a = SettingReceipts receipts₀ list number receipts a
+abbrev invariant-loop-a : tie.invariant-loop-a
+invariant-loop-a receipts₀ list number a₀ receipts a = SettingReceipts receipts₀ list number receipts a
 
-abbrev decreases-loop : tie.decreases-loop
-decreases-loop receipts₀ list number a₀ receipts a = length list - a
+abbrev decreases-loop-a : tie.decreases-loop-a
+decreases-loop-a receipts₀ list number a₀ receipts a = length list - a
 
 -- ---- the places: a turn of the loop, from where its position was read
-abbrev turn : tie.After-put-u16-arg invariant-loop decreases-loop → tie.In-loop invariant-loop decreases-loop
+abbrev turn : tie.After-put_u16-arg-1 invariant-loop-a decreases-loop-a → tie.In-loop-a invariant-loop-a decreases-loop-a
 turn c = c.before.before
 
 -- ---- the needs, in the code's course
@@ -24,21 +24,21 @@ pub set_receipts_spec : {M : Type 1} → statement M
 set_receipts_spec =
     tie.close
     (tie.spec
-    invariant-loop
-    decreases-loop
+    invariant-loop-a
+    decreases-loop-a
     (λ c. setting_none c.before.before.requires)
     -- the position
     (λ c. search rules) (λ c. search rules)
-    (λ c. omega (arith, c.shared-slice-known2.given c.before.before.loop.a))
+    (λ c. omega (arith, c.shared_slice_known-in-loop-a-1.given c.before.before.loop-a.a))
     -- its receipt
-    (λ c. omega (arith, (turn c).before.loop.invariant.listed _ (turn c).loop-test.true))
-    (λ c. omega (arith, (turn c).before.loop.invariant.listed _ (turn c).loop-test.true))
-    (λ c κs. omega (arith, (turn c).before.loop.invariant.listed _ (turn c).loop-test.true))
+    (λ c. omega (arith, (turn c).before.loop-a.invariant.listed _ (turn c).loop-a-test.true))
+    (λ c. omega (arith, (turn c).before.loop-a.invariant.listed _ (turn c).loop-a-test.true))
+    (λ c κs. omega (arith, (turn c).before.loop-a.invariant.listed _ (turn c).loop-a-test.true))
     (λ c. omega arith) (λ c. omega arith)
     (λ c.
     let put = c.before.before in
     let here = turn put.before in
-    setting_more here.before.loop.inv here.loop-test.taken (omega arith) put.put-u16.ensures)
+    setting_more here.before.loop-a.invariant here.loop-a-test.true (omega arith) put.put_u16.ensures)
     -- all are set
     (λ c. omega arith)
-    (λ c. setting_all c.before.loop.invariant c.loop-test.false))
+    (λ c. setting_all c.before.loop-a.invariant c.loop-a-test.false))

@@ -6,7 +6,7 @@ use Rattle.step_writer.proofs.send.put_longer.Statement.{statement}
 use Rattle.step_writer.proofs.send.put_longer.Tie as tie
 
 -- ---- the places: where the array was copied
-abbrev copied : tie.After-put-entry → tie.After-copy-numbers
+abbrev copied : tie.After-put_entry → tie.After-copy_numbers
 copied c = c.before.before.before.before
 
 -- ---- the needs, in the code's course
@@ -17,4 +17,4 @@ put_longer_spec =
     (λ c. search rules) (λ c κs. search rules) (λ c. search rules) (λ c. search rules) (λ c κs. search rules) (λ c. search rules)
     (λ c.
     let added = c.before.before in
-    longer_put (record { room = search rules; array = (copied added).copy-numbers.ensures; entry = added.put-entry.ensures })))
+    longer_put (record { room = search rules; array = (copied added).copy_numbers.ensures; entry = added.put_entry.ensures })))

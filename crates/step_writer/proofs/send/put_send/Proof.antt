@@ -12,30 +12,30 @@ use Rattle.step_writer.proofs.send.put_send.Statement.{statement}
 use Rattle.step_writer.proofs.send.put_send.Tie as tie
 
 -- ---- the places: where N was read; the entry; where the table was read; where the head was put; where the sends were
-abbrev sized : tie.After-count-array → tie.After-process-count
+abbrev sized : tie.After-count_array-counts → tie.After-process_count-n
 sized c = c.before.before
 
-abbrev entry : tie.After-count-array → tie.Start
+abbrev entry : tie.After-count_array-counts → tie.Start
 entry c = (sized c).before.before.before
 
-abbrev read : tie.After-put-head → tie.After-count-array
+abbrev read : tie.After-put_head → tie.After-count_array-counts
 read c = c.before.before.before
 
-abbrev head : tie.After-sends-at → tie.After-put-head
+abbrev head : tie.After-sends_at → tie.After-put_head
 head c = c.before.before.before.before
 
-abbrev sent : tie.After-receipts-at → tie.After-put-longer
+abbrev sent : tie.After-receipts_at → tie.After-put_longer
 sent c = c.before.before.before.before
 
 -- ---- what is known there: the sizes and the counts, the first N of these, and the room
-module _ (c : tie.After-count-array) where
-  known : Read (entry c).args.table.now (sized c).process_count_lem.result c.before.message_count_lem.result c.count-array.result
-  known = table_read (entry c).requires.0 (sized c).process_count_lem.ensures c.before.message_count_lem.ensures c.count-array.ensures
+module _ (c : tie.After-count_array-counts) where
+  known : Read (entry c).args.table.now (sized c).process_count-n.result c.before.message_count-m.result c.count_array-counts.result
+  known = table_read (entry c).requires.0 (sized c).process_count-n.ensures c.before.message_count-m.ensures c.count_array-counts.ensures
 
-  front : (sized c).process_count_lem.result ≡ length (take (sized c).process_count_lem.result c.count-array.result)
+  front : (sized c).process_count-n.result ≡ length (take (sized c).process_count-n.result c.count_array-counts.result)
   front = front_size known _ known.counts_size
 
-  room : table_length (sized c).process_count_lem.result (c.before.message_count_lem.result + 1) ≤ length (entry c).args.answer.now
+  room : table_length (sized c).process_count-n.result (c.before.message_count-m.result + 1) ≤ length (entry c).args.answer.now
   room = omega (arith, known.n_is, known.m_is)
 
 -- ---- the needs, in the code's course
@@ -81,9 +81,9 @@ put_send_spec =
     let messages = messages_read (known here).accepted (known here).m_is put.before.sends.ensures last.before.receipts.ensures in
     send_put messages (known here) _ _ refl (record {
       room = room here;
-      head = (head placed).put-head.ensures;
-      sends_at_lem = placed.sends_at_lem.ensures;
-      sends_put = put.put-longer.ensures;
-      receipts_at_lem = last.before.before.receipts_at_lem.ensures;
-      receipts_put = last.put-longer2.ensures;
+      head = (head placed).put_head.ensures;
+      sends_at_lem = placed.sends_at.ensures;
+      sends_put = put.put_longer.ensures;
+      receipts_at_lem = last.before.before.receipts_at.ensures;
+      receipts_put = last.put_longer-2.ensures;
     })))

@@ -14,13 +14,13 @@ use mathlib.Core.Logic.{◌↔◌}
 use mathlib.Core.Path.{◌≡◌}
 use Prim.Native.Nat.{ℕ, ◌<◌}
 use lib.ListN.{length, get_or}
-use Rattle.futures.proofs.NeedLaws.{checkpoint-all_back, checkpoint_need_kept, kept_on_held, kept_open, message_all_back, message_need_kept}
-use Rattle.futures.proofs.NeedLaws.{on_held_kept, open_kept}
+use Rattle.run_futures.proofs.NeedLaws.{checkpoint-all_back, checkpoint_need_kept, kept_on_held, kept_open, message_all_back, message_need_kept}
+use Rattle.run_futures.proofs.NeedLaws.{on_held_kept, open_kept}
 use Rattle.keep_sheet.proofs.KeptLaws.{checkpoints_listed, listed_at, messages_listed}
-use Rattle.futures.proofs.WitnessLaws.{checkpoint-kept_needed, message_kept_needed}
-use Rattle.futures.specs.Demand3.{Demand3}
+use Rattle.run_futures.proofs.WitnessLaws.{checkpoint-kept_needed, message_kept_needed}
+use Rattle.run_futures.specs.Demand3.{Demand3}
 use Rattle.tables.specs.Lists.{Listed}
-use Rattle.futures.specs.Futures.{CheckpointNeeded, FollowedTo, Future, MessageNeeded, NeedsCheckpoint, NeedsMessage, StillThere, end_of}
+use Rattle.run_futures.specs.Futures.{CheckpointNeeded, FollowedTo, Future, MessageNeeded, NeedsCheckpoint, NeedsMessage, StillThere, end_of}
 use Rattle.keep_sheet.specs.Sheet.{Checkpoint, keeps_checkpoint, keeps_message, kept_checkpoints, kept_messages}
 use Rattle.tables.specs.Checks.{WellFormed}
 use Rattle.tables.specs.Table.{Table, count_of, message_count, message_of}

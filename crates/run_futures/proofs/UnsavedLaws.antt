@@ -12,16 +12,16 @@ use lib.Dec.{eqb}
 use lib.ListN.{length, get_or}
 use Rattle.consistency.specs.Ceilings.{holder_line, recovery_line}
 use Rattle.consistency.specs.Lines.{as_line}
-use Rattle.futures.proofs.FutureLaws.{checkpoint_grown, survival_holds}
+use Rattle.run_futures.proofs.FutureLaws.{checkpoint_grown, survival_holds}
 use Rattle.keep_sheet.proofs.KeptLaws.{Ordered, listed_any, listed_at, select_listed, select_ordered}
 use Rattle.steps.proofs.OrderLaws.{OlderListed, neighbours_rise}
 use Rattle.steps.proofs.StepLaws.{Waiting, checkpoint_count_here, checkpoint_step, receipt_count, receipt_known, receipt_of_nothing}
 use Rattle.steps.proofs.StepLaws.{receipt_older, receipt_quiet, receipt_receives, receive_step, received_at_listed, receives_message}
 use Rattle.steps.proofs.StepLaws.{receives_messages, recovery_latest, rollback_count, rollback_each, stays_sent, step_cases, waits_for_lem}
-use Rattle.futures.specs.Futures.{FollowedTo, StepKeeps, StillThere, end_of, moved, place_of}
+use Rattle.run_futures.specs.Futures.{FollowedTo, StepKeeps, StillThere, end_of, moved, place_of}
 use Rattle.keep_sheet.specs.Sheet.{crosses, keeps_message}
 use Rattle.steps.specs.Steps.{after_checkpoint, after_receipt, after_rollback, checkpoint, not_rising, receipt_checks, receive, rollback, stays, step, waits_for}
-use Rattle.futures.specs.Unsaved.{Receipts, Unsaved, waiting_up_to}
+use Rattle.run_futures.specs.Unsaved.{Receipts, Unsaved, waiting_up_to}
 use Rattle.tables.proofs.ListLaws.{and_left, and_right, select_gap, select_more}
 use Rattle.tables.proofs.TurnLaws.{channel_on, channel_same, one_channel, undelivered_waits, waits_undelivered}
 use Rattle.tables.specs.Checks.{WellFormed, first_caught, same_channel, waits}

@@ -3,7 +3,7 @@
 use Rattle.std.specs.Prelude.{[], ◌∷◌, ◌++◌, ◌↔◌, ◌≡◌, ℕ, ◌≤◌, ◌<◌}
 use Rattle.consistency.specs.Ceilings.{recovery_line}
 use Rattle.consistency.specs.Lines.{Line, as_line}
-use Rattle.futures.specs.Futures.{FollowedTo, Future, StillThere, end_of}
+use Rattle.run_futures.specs.Futures.{FollowedTo, Future, StillThere, end_of}
 use Rattle.steps.specs.Steps.{Step, rollback, step}
 use Rattle.tables.specs.Table.{Message, Table, count_of, message_count, message_of, with_receipt}
 

@@ -29,9 +29,9 @@ use Rattle.steps.proofs.StepLaws.{Receives, checkpoint_receives, put_back_receiv
 use Rattle.steps.proofs.StepLaws.{received_at_listed, received_at_unlisted, receives_message, receives_messages, rollback_count, rollback_message}
 use Rattle.steps.proofs.StepLaws.{put_back_after, put_back-before, rollback_order, stays_sent}
 use Rattle.steps.proofs.StepLaws.{rollback_place, send_count, send_message_new, send_message_old, send-messages, step_cases, step_well_formed}
-use Rattle.futures.specs.Futures.{FollowedTo, Future, NeedsCheckpoint, NeedsMessage, Place, StepKeeps, StillThere, at_position, end_of, gone, moved}
-use Rattle.futures.specs.Futures.{place_of}
-use Rattle.futures.specs.Survival.{EachLine, NotBelow, SameMessage, SentBefore, Survival}
+use Rattle.run_futures.specs.Futures.{FollowedTo, Future, NeedsCheckpoint, NeedsMessage, Place, StepKeeps, StillThere, at_position, end_of, gone, moved}
+use Rattle.run_futures.specs.Futures.{place_of}
+use Rattle.run_futures.specs.Survival.{EachLine, NotBelow, SameMessage, SentBefore, Survival}
 use Rattle.steps.specs.SendOrder.{SentInOrder}
 use Rattle.steps.specs.Steps.{Step, after_checkpoint, after_receipt, after_rollback, after_send, checkpoint, put_back, receipt_checks, receive, received_at}
 use Rattle.steps.specs.Steps.{remaining, rollback, send, send_checks, stays, step}

@@ -24,8 +24,8 @@ use Rattle.consistency.specs.Lines.{as_line}
 use Rattle.consistency.specs.Lowering.{line_under}
 use Rattle.keep_sheet.proofs.KeptLaws.{Across, HolderWith, keeps_checkpoint_lem, keeps_message_lem}
 use Rattle.steps.proofs.StepLaws.{checkpoint_count_here, checkpoint_count_other, checkpoint_receives, checkpoint_step, nothing_quiet, receipt_of_nothing}
-use Rattle.futures.specs.Futures.{CheckpointNeeded, FollowedTo, Future, MessageNeeded, NeedsCheckpoint, NeedsMessage, StepKeeps, StillThere, end_of}
-use Rattle.futures.specs.Futures.{moved, place_of}
+use Rattle.run_futures.specs.Futures.{CheckpointNeeded, FollowedTo, Future, MessageNeeded, NeedsCheckpoint, NeedsMessage, StepKeeps, StillThere, end_of}
+use Rattle.run_futures.specs.Futures.{moved, place_of}
 use Rattle.keep_sheet.specs.Sheet.{keeps_checkpoint, keeps_message}
 use Rattle.steps.specs.Steps.{after_checkpoint, checkpoint, step}
 use Rattle.tables.specs.Checks.{WellFormed}

@@ -15,12 +15,12 @@ use native.Mathlib.Decide.{dec_lt, ℕ_discrete}
 use native.Mathlib.Omega.{arith}
 use Rattle.consistency.specs.Ceilings.{holder_line, recovery_line, single}
 use Rattle.consistency.specs.Lines.{AtOrBelow, Line, as_line}
-use Rattle.futures.proofs.FutureLaws.{TableGrown, MovedTo, by_step, followed_first, followed_here, moved_inside, rolled_message, rolled_to, stayed_at}
-use Rattle.futures.proofs.FutureLaws.{rollback_keeps, step_keeps_count}
-use Rattle.futures.proofs.HeldLaws.{Held, held_above, held_attained, held_before, set_held}
+use Rattle.run_futures.proofs.FutureLaws.{TableGrown, MovedTo, by_step, followed_first, followed_here, moved_inside, rolled_message, rolled_to, stayed_at}
+use Rattle.run_futures.proofs.FutureLaws.{rollback_keeps, step_keeps_count}
+use Rattle.run_futures.proofs.HeldLaws.{Held, held_above, held_attained, held_before, set_held}
 use Rattle.keep_sheet.proofs.KeptLaws.{Across, HolderWith, keeps_checkpoint_lem, keeps_message_lem}
 use Rattle.steps.proofs.StepLaws.{put_back-before, recovery_latest, rollback_line, stays_sent, step_well_formed}
-use Rattle.futures.specs.Futures.{FollowedTo, Future, NeedsCheckpoint, NeedsMessage, StepKeeps, StillThere, end_of}
+use Rattle.run_futures.specs.Futures.{FollowedTo, Future, NeedsCheckpoint, NeedsMessage, StepKeeps, StillThere, end_of}
 use Rattle.keep_sheet.specs.Sheet.{keeps_checkpoint, keeps_message}
 use Rattle.steps.specs.Steps.{Step, after_rollback, put_back, step}
 use Rattle.tables.specs.Checks.{WellFormed}

@@ -18,7 +18,7 @@ use Rattle.consistency.proofs.CeilingLaws.{ceiling_at_lem, counts_consistent, li
 use Rattle.consistency.proofs.LineLaws.{latest_from, latest_same, latest_unique, max_consistent, min_consistent, orphan_free}
 use Rattle.consistency.specs.Ceilings.{Holders, ceiling_of, holder_line, line_of}
 use Rattle.consistency.specs.Lines.{AtOrBelow, Consistent, Latest, Line, Orphan, as_line}
-use Rattle.futures.proofs.FutureLaws.{TableGrown, beyond_undelivered}
+use Rattle.run_futures.proofs.FutureLaws.{TableGrown, beyond_undelivered}
 use Rattle.tables.proofs.FormatLaws.{known_process}
 use Rattle.tables.specs.Checks.{WellFormed}
 use Rattle.tables.specs.Table.{Message, Table, count_of, message_count, message_of, process_count}

@@ -1,7 +1,7 @@
 -- Demand 3 (docs/MANUAL.md, "The keep sheet"): what any future needs is on the sheet, and what is on the sheet some
 -- future needs. Assumes nothing.
 use Rattle.std.specs.Prelude.{◌↔◌, ℕ}
-use Rattle.futures.specs.Futures.{CheckpointNeeded, MessageNeeded}
+use Rattle.run_futures.specs.Futures.{CheckpointNeeded, MessageNeeded}
 use Rattle.keep_sheet.specs.Sheet.{Checkpoint, kept_checkpoints, kept_messages}
 use Rattle.tables.specs.Lists.{Listed}
 use Rattle.tables.specs.Table.{Table}

@@ -3,7 +3,7 @@
 use Rattle.std.specs.Prelude.{true, ◌&&◌, List, [], ◌∷◌, ◌≡◌, ℕ, ◌+◌, ◌<◌}
 use Rattle.consistency.specs.Ceilings.{holder_line, recovery_line}
 use Rattle.consistency.specs.Lines.{as_line}
-use Rattle.futures.specs.Futures.{FollowedTo, StillThere, end_of}
+use Rattle.run_futures.specs.Futures.{FollowedTo, StillThere, end_of}
 use Rattle.keep_sheet.specs.Sheet.{crosses, keeps_message}
 use Rattle.steps.specs.Steps.{checkpoint, receipt_checks, receive, rollback, stays, step, waits_for}
 use Rattle.tables.specs.Checks.{first_caught, same_channel, waits}
