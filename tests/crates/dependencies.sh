@@ -18,12 +18,12 @@ sed 's/#.*//' "$root/crates.txt" | awk -F: 'NF > 1 { split($1, name, " "); print
             named=$((named + 1))
             if ! grep -rqE --include='*.rt' --include='*.antt' "(^|[^a-z_])$other::|Rattle\.$other\." \
                 $(for folder in src specs proofs; do [ -d "$root/crates/$crate/$folder" ] && echo "$root/crates/$crate/$folder"; done); then
-                unused="$unused
-$crate names $other and does not use it"
+                unused="${unused}dependencies: $crate names $other and does not use it
+"
             fi
         done
     done
-    [ -z "$unused" ] || { echo "dependencies:$unused"; exit 1; }
+    [ -z "$unused" ] || { printf '%s' "$unused"; exit 1; }
     [ "$named" -gt 0 ] || { echo "dependencies: crates.txt names none"; exit 1; }
     echo "dependencies: $crates crates use all $named that crates.txt names"
 }

@@ -170,7 +170,7 @@ echo "rollback staticlib: $of_rollback # for C" >"$copy/crates.txt"
 tested >"$work/must_fail.out" 2>&1 || { cat "$work/must_fail.out"; fail "a static library is not read as such"; }
 echo "rollback: $of_rollback zigzag" >"$copy/crates.txt"
 finds "a crate that is not used"
-grep -q '^rollback names zigzag and does not use it$' "$work/must_fail.out" || { cat "$work/must_fail.out"; fail "found, but zigzag is not named"; }
+grep -q '^dependencies: rollback names zigzag and does not use it$' "$work/must_fail.out" || { cat "$work/must_fail.out"; fail "found, but zigzag is not named"; }
 echo "rollback:" >"$copy/crates.txt"
 finds "no crate that is named"
 dependencies=$found
