@@ -8,7 +8,7 @@ use mathlib.Core.List.{List, [], ◌∷◌, ◌++◌, map, map-map}
 use mathlib.Core.Path.{◌≡◌, sym, ap, ◌∙◌}
 use Prim.Native.Nat.{ℕ, ◌+◌, ◌*◌, ◌≤◌}
 use native.Mathlib.Omega.{arith}
-use denote.Ref.{Bor}
+use denote.Ref.{MutBor}
 use lib.ListN.{length, length-append}
 use Rattle.holder_lines.specs.Scratch.{LinesOf, lines_in}
 use Rattle.keep_sheet.proofs.FewLaws.{sheet-length}
@@ -53,7 +53,7 @@ module _ {part : Part} {bytes s : List ℕ} (given : LinesOf bytes s) {n : ℕ} 
   positions_are read e = positions_found given n_is read ∙ rw e
 
 -- ---- all parts
-module _ (bytes : List ℕ) (k q : ℕ) (x : Bor (List ℕ)) where
+module _ (bytes : List ℕ) (k q : ℕ) (x : MutBor (List ℕ)) where
   abbrev of : Part → List ℕ
   of part = numbers_of part (decode bytes)
 
@@ -121,3 +121,30 @@ module _ (bytes : List ℕ) (k q : ℕ) (x : Bor (List ℕ)) where
 
     pub same_size : length filled.buffer.now ≡ length x.now
     same_size = put_length all_put fits_four
+
+-- ---- the writers, as the code hands them on: each is what the one before it becomes
+module _ (bytes : List ℕ) (k q : ℕ) (x : MutBor (List ℕ)) (s : List ℕ) (asked : CanPutSheet bytes s k q x.now) where
+  module _ (w₁ : SheetWriter) (e₁ : w₁ ≡ sized bytes k q x) where
+    pub processes_next : CanPut (Kept Process) bytes s w₁.at w₁.buffer.now
+    processes_next = rw e₁ (can_processes bytes k q x asked)
+
+    module _ (w₂ : SheetWriter) (e₂ : w₂ ≡ written w₁ (numbers_of (Kept Process) (decode bytes))) where
+      after_processes : w₂ ≡ processed bytes k q x
+      after_processes = e₂ ∙ ap (λ (w : SheetWriter). written w (numbers_of (Kept Process) (decode bytes))) e₁
+
+      pub checkpoints_next : CanPut (Kept Number) bytes s w₂.at w₂.buffer.now
+      checkpoints_next = rw after_processes (can_checkpoints bytes k q x asked)
+
+      module _ (w₃ : SheetWriter) (e₃ : w₃ ≡ written w₂ (numbers_of (Kept Number) (decode bytes))) where
+        after_checkpoints : w₃ ≡ numbered bytes k q x
+        after_checkpoints = e₃ ∙ ap (λ (w : SheetWriter). written w (numbers_of (Kept Number) (decode bytes))) after_processes
+
+        pub positions_next : CanPut Positions bytes s w₃.at w₃.buffer.now
+        positions_next = rw after_checkpoints (can_positions bytes k q x asked)
+
+        -- what the last writer leaves is the sheet
+        pub sheet_left : (w₄ : SheetWriter) → w₄ ≡ written w₃ (numbers_of Positions (decode bytes))
+            → w₄.buffer.now ≡ put_at x.now 0 (sheet (decode bytes))
+        sheet_left w₄ e₄ =
+            ap (λ (w : SheetWriter). w.buffer.now) (e₄ ∙ ap (λ (w : SheetWriter). written w (numbers_of Positions (decode bytes))) after_checkpoints)
+            ∙ sheet_put bytes k q x asked

@@ -40,12 +40,12 @@ pub fn put_sheet(table: &[u8], scratch: &[u16], kept: usize, logged: usize, answ
     requires { CanPutSheet table.now scratch.now kept logged answer.old }
     ensures { answer.new ≡ put_at answer.old 0 (sheet (decode table.now)) }
 {
-    SheetWriter {
+    let mut writer = SheetWriter {
         buffer: answer,
         at: 0,
-    }
-    .put(Part::Sizes(kept, logged), table, scratch)
-    .put(Part::Kept(Column::Process), table, scratch)
-    .put(Part::Kept(Column::Number), table, scratch)
-    .put(Part::Positions, table, scratch);
+    };
+    writer.put_next(Part::Sizes(kept, logged), table, scratch);
+    writer.put_next(Part::Kept(Column::Process), table, scratch);
+    writer.put_next(Part::Kept(Column::Number), table, scratch);
+    writer.put_next(Part::Positions, table, scratch);
 }

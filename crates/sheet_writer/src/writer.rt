@@ -1,6 +1,6 @@
 // The writer of a keep sheet: a lent buffer and the place of the next number in it. One writer goes over
-// the whole sheet, from part to part. Where a function has a writer in hand its proof is a walk by hand,
-// so `put` does no more than take it apart and put it together; the work is `put_part`'s.
+// the whole sheet, from part to part. `put` does no more than take it apart and put it together; the work is
+// `put_part`'s.
 ghost use Rattle.std.specs.Prelude.{◌≡◌};
 ghost use Rattle.sheet_writer.specs.SheetParts.{CanPut, numbers_of};
 ghost use Rattle.sheet_writer.specs.Writers.{written};
@@ -15,6 +15,16 @@ pub struct SheetWriter<'a> {
 }
 
 impl<'a> SheetWriter<'a> {
+    // Puts a part of the sheet, and goes on to the next place.
+    pub fn put_next(&mut self, part: Part, table: &[u8], scratch: &[u16])
+        requires { CanPut part table.now scratch.now self.old.at self.old.buffer.now }
+        ensures written { self.new ≡ written self.old (numbers_of part (decode table.now)) }
+        ensures same_reference { self.new.buffer.ghost_name ≡ self.old.buffer.ghost_name }
+    {
+        let at = self.at;
+        self.at = put_part(&mut *self.buffer, at, part, table, scratch);
+    }
+
     // Puts a part of the sheet, and hands the writer back at the next place.
     pub fn put(self, part: Part, table: &[u8], scratch: &[u16]) -> SheetWriter<'a>
         requires { CanPut part table.now scratch.now self.at self.buffer.now }

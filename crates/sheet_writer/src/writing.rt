@@ -14,14 +14,14 @@ use tables::numbers::{put_u16, u16_at};
 use tables::parts;
 
 // The two arrays of the kept checkpoints: their processes, and their numbers.
-#[derive(Drop)]
+#[derive(Clone, Copy)]
 pub enum Column {
     Process,
     Number,
 }
 
 // The parts of a keep sheet: K and Q, an array of the kept checkpoints, and the positions.
-#[derive(Drop)]
+#[derive(Clone, Copy)]
 pub enum Part {
     Sizes(usize, usize),
     Kept(Column),

@@ -20,7 +20,7 @@ behind c = c.before.before.before.before
 -- ---- what is known at the end
 running : (c : tie.After-mark_reachable)
     → (let args = (entry (blank (behind c)).before.before).args in
-    Running args.table.now args.ceilings.now args.first.now args.roots.now args.marks.now c.mark_reachable.new.1.1.1.0)
+    Running args.table.now args.ceilings.now args.first.now args.roots.now args.marks.now c.mark_reachable.new.marks)
 running c =
     let set = behind c in
     let clear = blank set in

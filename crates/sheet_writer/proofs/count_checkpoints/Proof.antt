@@ -8,7 +8,7 @@ use Rattle.sheet_writer.proofs.count_checkpoints.Statement.{statement}
 use Rattle.sheet_writer.proofs.count_checkpoints.Tie as tie
 
 -- ---- the places: the entry, from where N was read
-abbrev entry : tie.After-process-count → tie.Start
+abbrev entry : tie.After-process_count-n → tie.Start
 entry c = c.before.before.before
 
 -- ---- the needs, in the code's course
@@ -19,8 +19,8 @@ count_checkpoints_spec =
     (λ c κs. search rules) (λ c κs. search rules)
     (λ c κs.
     let sized = c.before in
-    let n = sized.process_count_lem.ensures in
+    let n = sized.process_count-n.ensures in
     (holds_lines (entry sized).requires n, counts_known _ (entry sized).requires.accepted n c.counts.ensures))
     (λ c.
     let sized = c.before.before in
-    rw (checkpoints_found (entry sized).requires sized.process_count_lem.ensures c.before.counts.ensures) at c.count_kept.ensures))
+    rw (checkpoints_found (entry sized).requires sized.process_count-n.ensures c.before.counts.ensures) at c.count_kept.ensures))

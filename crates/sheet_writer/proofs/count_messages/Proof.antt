@@ -9,18 +9,18 @@ use Rattle.sheet_writer.proofs.count_messages.Statement.{statement}
 use Rattle.sheet_writer.proofs.count_messages.Tie as tie
 
 -- ---- the places: the entry, from where N was read; that, from where the parts were
-abbrev entry : tie.After-process-count → tie.Start
+abbrev entry : tie.After-process_count-n → tie.Start
 entry c = c.before.before.before
 
-abbrev sized : tie.After-receipts → tie.After-process-count
+abbrev sized : tie.After-receipts → tie.After-process_count-n
 sized c = c.before.before.before
 
 -- ---- what is known there: the messages, as they were read
 messages : (c : tie.After-receipts)
-    → ReadMessages (entry (sized c)).args.table.now c.before.before.message_count_lem.result c.before.sends.result.now
+    → ReadMessages (entry (sized c)).args.table.now c.before.before.message_count-m.result c.before.sends.result.now
     c.receipts.result.now
 messages c =
-    messages_read (entry (sized c)).requires.accepted c.before.before.message_count_lem.ensures c.before.sends.ensures c.receipts.ensures
+    messages_read (entry (sized c)).requires.accepted c.before.before.message_count-m.ensures c.before.sends.ensures c.receipts.ensures
 
 -- ---- the needs, in the code's course
 pub count_messages_spec : {M : Type 1} → statement M
@@ -29,8 +29,8 @@ count_messages_spec =
     (tie.spec
     (λ c κs. search rules) (λ c κs. search rules) (λ c κs. search rules) (λ c κs. search rules)
     (λ c κs.
-    let n = (sized c).process_count_lem.ensures in
+    let n = (sized c).process_count-n.ensures in
     (holds_lines (entry (sized c)).requires n, messages_known (messages c) (omega (arith, n))))
     (λ c.
     let read = c.before in
-    rw (positions_found (entry (sized read)).requires (sized read).process_count_lem.ensures (messages read)) at c.count_kept.ensures))
+    rw (positions_found (entry (sized read)).requires (sized read).process_count-n.ensures (messages read)) at c.count_kept.ensures))

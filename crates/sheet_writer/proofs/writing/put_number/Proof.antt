@@ -11,4 +11,4 @@ unfolding bytes_of_all bytes_of
 put_number_spec =
     tie.close
     (tie.spec (λ c κs. search rules) (λ c. search rules) (λ c. search rules)
-    (λ c. record { contents = c.before.before.put-u16.ensures; place = omega arith }))
+    (λ c. record { contents = c.before.before.put_u16.ensures; place = omega arith }))

@@ -12,21 +12,21 @@ use Rattle.tables.specs.Lists.{select}
 use Rattle.sheet_writer.proofs.writing.put_positions.Statement.{statement}
 use Rattle.sheet_writer.proofs.writing.put_positions.Tie as tie
 
-abbrev invariant-loop : tie.invariant-loop
-invariant-loop buffer₀ at scratch n sends receipts m lowest next₀ k₀ buffer next k =
+abbrev invariant-loop-k : tie.invariant-loop-k
+invariant-loop-k buffer₀ at scratch n sends receipts m lowest next₀ k₀ buffer next k =
     MessagesBeside n m scratch sends receipts lowest × PuttingNumbers (select (keeps_at n scratch sends receipts)) m buffer₀ at buffer next k
 
-abbrev decreases-loop : tie.decreases-loop
-decreases-loop buffer₀ at scratch n sends receipts m lowest next₀ k₀ buffer next k = m - k
+abbrev decreases-loop-k : tie.decreases-loop-k
+decreases-loop-k buffer₀ at scratch n sends receipts m lowest next₀ k₀ buffer next k = m - k
 
 -- ---- the places: the entry, from where the lowest line was found; a turn of the loop, from where its message was judged; that, from where it is put
-abbrev entry : tie.After-lowest-line invariant-loop decreases-loop → tie.Start invariant-loop decreases-loop
+abbrev entry : tie.After-lowest_line-lowest invariant-loop-k decreases-loop-k → tie.Start invariant-loop-k decreases-loop-k
 entry c = c.before.before.before.before.before
 
-abbrev turn : tie.After-is-kept invariant-loop decreases-loop → tie.In-loop invariant-loop decreases-loop
+abbrev turn : tie.After-is_kept-keep invariant-loop-k decreases-loop-k → tie.In-loop-k invariant-loop-k decreases-loop-k
 turn c = c.before.before
 
-abbrev judged : tie.After-put-number-arg invariant-loop decreases-loop → tie.After-is-kept invariant-loop decreases-loop
+abbrev judged : tie.After-put_number-arg-1 invariant-loop-k decreases-loop-k → tie.After-is_kept-keep invariant-loop-k decreases-loop-k
 judged c = c.before.before
 
 -- ---- the needs, in the code's course
@@ -35,34 +35,34 @@ unfolding positions_of
 put_positions_spec =
     tie.close
     (tie.spec
-    invariant-loop
-    decreases-loop
+    invariant-loop-k
+    decreases-loop-k
     (λ c κs. omega arith)
     (λ c.
     let given = (entry c).requires in
-    (record { holds = given.0; known = given.1.0; lowest_is = c.lowest-line.ensures }, select_none _ given.1.1))
+    (record { holds = given.0; known = given.1.0; lowest_is = c.lowest_line-lowest.ensures }, select_none _ given.1.1))
     -- the message
     (λ c. omega arith) (λ c κs. omega arith) (λ c. search rules) (λ c. search rules)
-    (λ c. receiver_small c.before.before.loop.invariant.0 c.before.loop-test.true c.u16-at.ensures)
-    (λ c κs. may_ask c.before.before.loop.invariant.0 c.before.loop-test.true c.u16-at.ensures)
+    (λ c. receiver_small c.before.before.loop-k.invariant.0 c.before.loop-k-test.true c.u16_at-receiver.ensures)
+    (λ c κs. may_ask c.before.before.loop-k.invariant.0 c.before.loop-k-test.true c.u16_at-receiver.ensures)
     (λ c. omega arith)
     -- it is not kept
     (λ c. omega arith)
     (λ c.
     let judged = c.before in
-    let inv = (turn judged).before.loop.invariant in
-    (inv.0, picked_skip _ inv.1 (turn judged).loop-test.true judged.is-kept.ensures c.if1.true))
+    let inv = (turn judged).before.loop-k.invariant in
+    (inv.0, picked_skip _ inv.1 (turn judged).loop-k-test.true judged.is_kept-keep.ensures c.if-not-keep.true))
     -- it is kept: its position is put
     (λ c. omega arith)
     (λ c κs.
     let turn = turn (judged c) in
-    picked_room _ turn.before.loop.inv.1 turn.loop-test.taken (judged c).is-kept.ensures c.before.if1.false)
+    picked_room _ turn.before.loop-k.invariant.1 turn.loop-k-test.true (judged c).is_kept-keep.ensures c.before.if-not-keep.false)
     (λ c. omega arith)
     (λ c.
     let put = c.before.before in
     let here = judged put.before in
-    let inv = (turn here).before.loop.inv in
-    let kept = put.before.before.if1.false in
-    (inv.0, picked_more _ inv.1 (turn here).loop-test.taken here.is-kept.ensures kept put.put-number.ensures))
-    (λ c. putting_length c.before.loop.invariant.1)
-    (λ c. putting_all c.before.loop.invariant.1 c.loop-test.false))
+    let inv = (turn here).before.loop-k.invariant in
+    let kept = put.before.before.if-not-keep.false in
+    (inv.0, picked_more _ inv.1 (turn here).loop-k-test.true here.is_kept-keep.ensures kept put.put_number-next.ensures))
+    (λ c. putting_length c.before.loop-k.invariant.1)
+    (λ c. putting_all c.before.loop-k.invariant.1 c.loop-k-test.false))

@@ -9,21 +9,21 @@ use Rattle.sheet_entries.specs.Kept.{kept_of, shows}
 use Rattle.sheet_writer.proofs.writing.put_process.Statement.{statement}
 use Rattle.sheet_writer.proofs.writing.put_process.Tie as tie
 
-abbrev invariant-loop : tie.invariant-loop
-invariant-loop buffer₀ at column scratch n i count next₀ checkpoint₀ buffer next checkpoint =
+abbrev invariant-loop-checkpoint : tie.invariant-loop-checkpoint
+invariant-loop-checkpoint buffer₀ at column scratch n i count next₀ checkpoint₀ buffer next checkpoint =
     LayingColumn (shows n (lines_in scratch n) i) count column i buffer₀ at buffer next checkpoint
 
-abbrev decreases-loop : tie.decreases-loop
-decreases-loop buffer₀ at column scratch n i count next₀ checkpoint₀ buffer next checkpoint = count - checkpoint
+abbrev decreases-loop-checkpoint : tie.decreases-loop-checkpoint
+decreases-loop-checkpoint buffer₀ at column scratch n i count next₀ checkpoint₀ buffer next checkpoint = count - checkpoint
 
 -- ---- the places: the entry, from where the first checkpoint was found; a turn of the loop, from where its number was, and where that was put
-abbrev entry : tie.After-next-kept invariant-loop decreases-loop → tie.Start invariant-loop decreases-loop
+abbrev entry : tie.After-next_kept-checkpoint invariant-loop-checkpoint decreases-loop-checkpoint → tie.Start invariant-loop-checkpoint decreases-loop-checkpoint
 entry c = c.before.before.before
 
-abbrev turn : tie.After-number-of invariant-loop decreases-loop → tie.In-loop invariant-loop decreases-loop
+abbrev turn : tie.After-number_of invariant-loop-checkpoint decreases-loop-checkpoint → tie.In-loop-checkpoint invariant-loop-checkpoint decreases-loop-checkpoint
 turn c = c.before.before
 
-abbrev put : tie.After-next-kept2 invariant-loop decreases-loop → tie.After-put-number invariant-loop decreases-loop
+abbrev put : tie.After-next_kept-checkpoint-in-loop-checkpoint invariant-loop-checkpoint decreases-loop-checkpoint → tie.After-put_number-next invariant-loop-checkpoint decreases-loop-checkpoint
 put c = c.before.before.before
 
 -- ---- the needs, in the code's course
@@ -32,18 +32,18 @@ unfolding kept_of
 put_process_spec =
     tie.close
     (tie.spec
-    invariant-loop
-    decreases-loop
+    invariant-loop-checkpoint
+    decreases-loop-checkpoint
     (λ c κs. omega arith)
-    (λ c. laying_first c.next-kept.ensures (entry c).requires.1.1)
+    (λ c. laying_first c.next_kept-checkpoint.ensures (entry c).requires.1.1)
     -- the number
     (λ c. omega arith) (λ c κs. omega arith)
-    (λ c κs. laying_room (turn c).before.loop.invariant (turn c).loop-test.true)
+    (λ c κs. laying_room (turn c).before.loop-checkpoint.invariant (turn c).loop-checkpoint-test.true)
     -- the next checkpoint
     (λ c. omega arith) (λ c κs. omega arith) (λ c. omega arith)
     (λ c.
     let number = (put c).before in
-    laying_more (turn number).before.loop.inv (turn number).loop-test.taken number.number_of_lem.ensures (put c).put-number.ensures
-    c.next-kept2.ensures)
-    (λ c. putting_length c.before.loop.invariant.putting)
-    (λ c. putting_all c.before.loop.invariant.putting c.loop-test.false))
+    laying_more (turn number).before.loop-checkpoint.invariant (turn number).loop-checkpoint-test.true number.number_of.ensures (put c).put_number-next.ensures
+    c.next_kept-checkpoint-in-loop-checkpoint.ensures)
+    (λ c. putting_length c.before.loop-checkpoint.invariant.putting)
+    (λ c. putting_all c.before.loop-checkpoint.invariant.putting c.loop-checkpoint-test.false))

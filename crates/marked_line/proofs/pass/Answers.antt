@@ -1,0 +1,190 @@
+-- `pass` meets its contract. The invariant: all that is marked is reachable, and where nothing was marked no message from k on leads to an unmarked state
+-- (`MarkPassing`). The measure is the number of messages not looked at.
+use borrow.Author.Tests.{not-false, not-true}
+use native.Mathlib.Omega.{arith}
+use mathlib.Core.Path.{sym, ◌∙◌}
+use Rattle.marked_line.proofs.MarkPassLaws.{AtReceipt, AtSend, MarkPassing, end_in, pass_begins, pass_ends, pass_marks, receipt_in, receiver_few}
+use Rattle.marked_line.proofs.MarkPassLaws.{row_ready, send-there, skips_marked, skips_undelivered, skips_unreached}
+use Rattle.marked_line.proofs.MarkRowLaws.{first-there}
+use Rattle.tables.proofs.ReadLaws.{messages_read}
+use Rattle.marked_line.proofs.pass.Goals as goal
+
+pub message_count-m-requires : goal.message_count-m-requires
+message_count-m-requires c =
+    c.requires.lent.accepted
+
+pub sends-sends-requires : goal.sends-sends-requires
+sends-sends-requires c =
+    c.requires.lent.accepted
+
+pub receipts-receipts-requires : goal.receipts-receipts-requires
+receipts-receipts-requires c =
+    c.requires.lent.accepted
+
+pub loop-k-init : goal.loop-k-init
+loop-k-init c =
+    pass_begins (messages_read c.requires.lent.accepted c.message_count-m.ensures c.sends-sends.ensures c.receipts-receipts.ensures) c.requires.lent
+    c.requires.ready
+
+pub loop-k-preserved-then-received-eq0 : goal.loop-k-preserved-then-received-eq0
+loop-k-preserved-then-received-eq0 c =
+    skips_undelivered c.loop-k.invariant c.loop-k-test.true c.u16_at-received.ensures c.if-received-eq0.true
+
+pub state_bit-receipt-requires : goal.state_bit-receipt-requires
+state_bit-receipt-requires c =
+    let at_receipt : (AtReceipt c.args.table.now c.args.first.now c.args.roots.now c.args.marks.now c.loop-k.marks c.loop-k.marked
+    c.message_count-m.result c.sends-sends.result.now c.receipts-receipts.result.now c.loop-k.k
+    c.u16_at-receiver.result c.u16_at-received.result) = record {
+      passing = c.loop-k.invariant;
+      more = c.loop-k-test.true;
+      receiver_read = c.u16_at-receiver.ensures;
+      received_read = c.u16_at-received.ensures;
+    } in
+    first-there c.loop-k.invariant.lent _ (omega (arith, receiver_few at_receipt))
+
+pub is_marked-requires : goal.is_marked-requires
+is_marked-requires c =
+    let at_receipt : (AtReceipt c.args.table.now c.args.first.now c.args.roots.now c.args.marks.now c.loop-k.marks c.loop-k.marked
+    c.message_count-m.result c.sends-sends.result.now c.receipts-receipts.result.now c.loop-k.k
+    c.u16_at-receiver.result c.u16_at-received.result) = record {
+      passing = c.loop-k.invariant;
+      more = c.loop-k-test.true;
+      receiver_read = c.u16_at-receiver.ensures;
+      received_read = c.u16_at-received.ensures;
+    } in
+    receipt_in at_receipt c.state_bit-receipt.ensures
+
+pub loop-k-preserved-then-is_marked : goal.loop-k-preserved-then-is_marked
+loop-k-preserved-then-is_marked c =
+    let at_receipt : (AtReceipt c.args.table.now c.args.first.now c.args.roots.now c.args.marks.now c.loop-k.marks c.loop-k.marked
+    c.message_count-m.result c.sends-sends.result.now c.receipts-receipts.result.now c.loop-k.k
+    c.u16_at-receiver.result c.u16_at-received.result) = record {
+      passing = c.loop-k.invariant;
+      more = c.loop-k-test.true;
+      receiver_read = c.u16_at-receiver.ensures;
+      received_read = c.u16_at-received.ensures;
+    } in
+    skips_marked at_receipt c.state_bit-receipt.ensures (sym c.is_marked.ensures ∙ c.if-is_marked.true)
+
+pub is_root_or_marked-requires : goal.is_root_or_marked-requires
+is_root_or_marked-requires c =
+    let at_receipt : (AtReceipt c.args.table.now c.args.first.now c.args.roots.now c.args.marks.now c.loop-k.marks c.loop-k.marked
+    c.message_count-m.result c.sends-sends.result.now c.receipts-receipts.result.now c.loop-k.k
+    c.u16_at-receiver.result c.u16_at-received.result) = record {
+      passing = c.loop-k.invariant;
+      more = c.loop-k-test.true;
+      receiver_read = c.u16_at-receiver.ensures;
+      received_read = c.u16_at-received.ensures;
+    } in
+    let at_send : (AtSend c.args.table.now c.args.first.now c.args.roots.now c.args.marks.now c.loop-k.marks c.loop-k.marked
+    c.message_count-m.result c.sends-sends.result.now c.receipts-receipts.result.now c.loop-k.k
+    c.u16_at-receiver.result c.u16_at-received.result c.state_bit-receipt.result c.u16_at-sender.result c.u16_at-sent.result) = record {
+      receipt = at_receipt;
+      bit_read = c.state_bit-receipt.ensures;
+      delivered = c.if-received-eq0.false;
+      unmarked = sym c.is_marked.ensures ∙ c.if-is_marked.false;
+      sender_read = c.u16_at-sender.ensures;
+      sent_read = c.u16_at-sent.ensures;
+    } in
+    send-there at_send
+
+pub loop-k-preserved-then-not-is_root_or_marked : goal.loop-k-preserved-then-not-is_root_or_marked
+loop-k-preserved-then-not-is_root_or_marked c =
+    let at_receipt : (AtReceipt c.args.table.now c.args.first.now c.args.roots.now c.args.marks.now c.loop-k.marks c.loop-k.marked
+    c.message_count-m.result c.sends-sends.result.now c.receipts-receipts.result.now c.loop-k.k
+    c.u16_at-receiver.result c.u16_at-received.result) = record {
+      passing = c.loop-k.invariant;
+      more = c.loop-k-test.true;
+      receiver_read = c.u16_at-receiver.ensures;
+      received_read = c.u16_at-received.ensures;
+    } in
+    let at_send : (AtSend c.args.table.now c.args.first.now c.args.roots.now c.args.marks.now c.loop-k.marks c.loop-k.marked
+    c.message_count-m.result c.sends-sends.result.now c.receipts-receipts.result.now c.loop-k.k
+    c.u16_at-receiver.result c.u16_at-received.result c.state_bit-receipt.result c.u16_at-sender.result c.u16_at-sent.result) = record {
+      receipt = at_receipt;
+      bit_read = c.state_bit-receipt.ensures;
+      delivered = c.if-received-eq0.false;
+      unmarked = sym c.is_marked.ensures ∙ c.if-is_marked.false;
+      sender_read = c.u16_at-sender.ensures;
+      sent_read = c.u16_at-sent.ensures;
+    } in
+    skips_unreached at_send (sym c.is_root_or_marked.ensures ∙ c.if-not-is_root_or_marked.true)
+
+pub row_end-end-requires : goal.row_end-end-requires
+row_end-end-requires c =
+    let at_receipt : (AtReceipt c.args.table.now c.args.first.now c.args.roots.now c.args.marks.now c.loop-k.marks c.loop-k.marked
+    c.message_count-m.result c.sends-sends.result.now c.receipts-receipts.result.now c.loop-k.k
+    c.u16_at-receiver.result c.u16_at-received.result) = record {
+      passing = c.loop-k.invariant;
+      more = c.loop-k-test.true;
+      receiver_read = c.u16_at-receiver.ensures;
+      received_read = c.u16_at-received.ensures;
+    } in
+    let at_send : (AtSend c.args.table.now c.args.first.now c.args.roots.now c.args.marks.now c.loop-k.marks c.loop-k.marked
+    c.message_count-m.result c.sends-sends.result.now c.receipts-receipts.result.now c.loop-k.k
+    c.u16_at-receiver.result c.u16_at-received.result c.state_bit-receipt.result c.u16_at-sender.result c.u16_at-sent.result) = record {
+      receipt = at_receipt;
+      bit_read = c.state_bit-receipt.ensures;
+      delivered = c.if-received-eq0.false;
+      unmarked = sym c.is_marked.ensures ∙ c.if-is_marked.false;
+      sender_read = c.u16_at-sender.ensures;
+      sent_read = c.u16_at-sent.ensures;
+    } in
+    let at = at_send.receipt in
+    (first-there at.passing.lent _ (omega (arith, receiver_few at))).0
+
+pub mark_from-requires : goal.mark_from-requires
+mark_from-requires c =
+    let at_receipt : (AtReceipt c.args.table.now c.args.first.now c.args.roots.now c.args.marks.now c.loop-k.marks c.loop-k.marked
+    c.message_count-m.result c.sends-sends.result.now c.receipts-receipts.result.now c.loop-k.k
+    c.u16_at-receiver.result c.u16_at-received.result) = record {
+      passing = c.loop-k.invariant;
+      more = c.loop-k-test.true;
+      receiver_read = c.u16_at-receiver.ensures;
+      received_read = c.u16_at-received.ensures;
+    } in
+    let at_send : (AtSend c.args.table.now c.args.first.now c.args.roots.now c.args.marks.now c.loop-k.marks c.loop-k.marked
+    c.message_count-m.result c.sends-sends.result.now c.receipts-receipts.result.now c.loop-k.k
+    c.u16_at-receiver.result c.u16_at-received.result c.state_bit-receipt.result c.u16_at-sender.result c.u16_at-sent.result) = record {
+      receipt = at_receipt;
+      bit_read = c.state_bit-receipt.ensures;
+      delivered = c.if-received-eq0.false;
+      unmarked = sym c.is_marked.ensures ∙ c.if-is_marked.false;
+      sender_read = c.u16_at-sender.ensures;
+      sent_read = c.u16_at-sent.ensures;
+    } in
+    let at = at_send in
+    let from-there = sym c.is_root_or_marked.ensures ∙ c.if-not-is_root_or_marked.false in
+    record { end_bound = end_in at from-there c.row_end-end.ensures; onwards = row_ready at from-there c.row_end-end.ensures }
+
+pub loop-k-preserved : goal.loop-k-preserved
+loop-k-preserved c =
+    let at_receipt : (AtReceipt c.args.table.now c.args.first.now c.args.roots.now c.args.marks.now c.loop-k.marks c.loop-k.marked
+    c.message_count-m.result c.sends-sends.result.now c.receipts-receipts.result.now c.loop-k.k
+    c.u16_at-receiver.result c.u16_at-received.result) = record {
+      passing = c.loop-k.invariant;
+      more = c.loop-k-test.true;
+      receiver_read = c.u16_at-receiver.ensures;
+      received_read = c.u16_at-received.ensures;
+    } in
+    let at_send : (AtSend c.args.table.now c.args.first.now c.args.roots.now c.args.marks.now c.loop-k.marks c.loop-k.marked
+    c.message_count-m.result c.sends-sends.result.now c.receipts-receipts.result.now c.loop-k.k
+    c.u16_at-receiver.result c.u16_at-received.result c.state_bit-receipt.result c.u16_at-sender.result c.u16_at-sent.result) = record {
+      receipt = at_receipt;
+      bit_read = c.state_bit-receipt.ensures;
+      delivered = c.if-received-eq0.false;
+      unmarked = sym c.is_marked.ensures ∙ c.if-is_marked.false;
+      sender_read = c.u16_at-sender.ensures;
+      sent_read = c.u16_at-sent.ensures;
+    } in
+    pass_marks at_send (sym c.is_root_or_marked.ensures
+    ∙ c.if-not-is_root_or_marked.false) c.row_end-end.ensures
+    c.mark_from.ensures
+
+pub shape_of-marks : goal.shape_of-marks
+shape_of-marks c =
+    c.loop-k.invariant.grown.kept.same_length
+
+pub returns : goal.returns
+returns c =
+    pass_ends c.loop-k.invariant c.loop-k-test.false
