@@ -11,17 +11,17 @@ use Rattle.keeper.proofs.keeper_lines_of_sets.Statement.{statement}
 use Rattle.keeper.proofs.keeper_lines_of_sets.Tie as tie
 
 -- ---- the places: the entry, from where no check before 16 caught; that, from where the lines were put
-abbrev entry : tie.Else1 → tie.Start
+abbrev entry : tie.Else-refusal-ne0 → tie.Start
 entry c = c.before.before.before.before.before.before
 
-abbrev sized : tie.After-put-lines-of-sets → tie.After-lines-size
+abbrev sized : tie.After-put_lines_of_sets → tie.After-lines_size-size
 sized c = c.before.before.before.before
 
 -- ---- what is known where no check before 16 caught
-quiet : (c : tie.Else1)
+quiet : (c : tie.Else-refusal-ne0)
     → (let args = (entry c).args in
     QuietCall args.table.now (lines_of_sets_checks args.table.now args.sets.now (length args.scratch.now)))
-quiet c = quiet_sets _ _ _ c.before.sets-refusal.ensures c.if1.false
+quiet c = quiet_sets _ _ _ c.before.sets_refusal-refusal.ensures c.if-refusal-ne0.false
 
 -- ---- the needs, in the code's course
 pub keeper_lines_of_sets_spec : {M : Type 1} → statement M
@@ -32,13 +32,13 @@ keeper_lines_of_sets_spec =
     (λ c κs. search rules)
     -- a check before 16
     (λ c.
-    let kept = call_refused _ _ _ c.before.sets-refusal.ensures c.if1.true in
-    (kept.0, (sets_scratch_kept _ _ _ c.if1.true, kept.1)))
+    let kept = call_refused _ _ _ c.before.sets_refusal-refusal.ensures c.if-refusal-ne0.true in
+    (kept.0, (sets_scratch_kept _ _ _ c.if-refusal-ne0.true, kept.1)))
     -- asked by `lines_size`
     (λ c κs. ((quiet c).accepted, sets_few _ _ _ (quiet c)))
     -- 16
     (λ c.
-    let short = call_short (sets_judged _ _ _ (quiet c.before.before)) c.before.lines-size.ensures c.if2.true in
+    let short = call_short (sets_judged _ _ _ (quiet c.before.before)) c.before.lines_size-size.ensures c.if-answer-size.true in
     (short.0, (sets_scratch_kept _ _ 16 sixteen, short.1)))
     -- asked by `put_lines_of_sets`
     (λ c κs.
@@ -49,6 +49,6 @@ keeper_lines_of_sets_spec =
     (λ c.
     let put = c.before.before.before.before in
     let size = sized put in
-    let all = call_answered (sets_judged _ _ _ (quiet size.before)) size.lines-size.ensures put.before.before.before.if2.false
-    put.put-lines-of-sets.ensures.1 in
-    (all.0, (sets_scratch_filled _ _ put.put-lines-of-sets.ensures.0, all.1))))
+    let all = call_answered (sets_judged _ _ _ (quiet size.before)) size.lines_size-size.ensures put.before.before.before.if-answer-size.false
+    put.put_lines_of_sets.ensures.1 in
+    (all.0, (sets_scratch_filled _ _ put.put_lines_of_sets.ensures.0, all.1))))

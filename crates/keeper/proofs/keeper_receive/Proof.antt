@@ -10,10 +10,10 @@ use Rattle.keeper.proofs.keeper_receive.Statement.{statement}
 use Rattle.keeper.proofs.keeper_receive.Tie as tie
 
 -- ---- what is known where no check before 16 caught
-quiet : (c : tie.Else1)
+quiet : (c : tie.Else-refusal-ne0)
     → (let args = c.before.before.before.before.before.args in
     QuietCall args.table.now (receipt_call_checks args.table.now args.process args.list.now))
-quiet c = quiet_receive _ _ _ c.before.receipt-refusal.ensures c.if1.false
+quiet c = quiet_receive _ _ _ c.before.receipt_refusal-refusal.ensures c.if-refusal-ne0.false
 
 -- ---- the needs, in the code's course
 pub keeper_receive_spec : {M : Type 1} → statement M
@@ -23,11 +23,11 @@ keeper_receive_spec =
     (tie.spec
     (λ c κs. search rules)
     -- a check before 16
-    (λ c. call_refused _ _ _ c.before.receipt-refusal.ensures c.if1.true)
+    (λ c. call_refused _ _ _ c.before.receipt_refusal-refusal.ensures c.if-refusal-ne0.true)
     -- asked by `same_size`
     (λ c κs. (quiet c).accepted)
     -- 16
-    (λ c. call_short (receipt_judged _ _ (quiet c.before.before)) c.before.same_size.ensures c.if2.true)
+    (λ c. call_short (receipt_judged _ _ (quiet c.before.before)) c.before.same_size-size.ensures c.if-answer-size.true)
     -- asked by `put_receipt`
     (λ c κs. (can_receive _ _ (quiet c.before.before.before), search rules))
     (λ c. search rules)
@@ -35,4 +35,4 @@ keeper_receive_spec =
     (λ c.
     let put = c.before.before in
     let size = put.before.before.before in
-    call_answered (receipt_judged _ _ (quiet size.before)) size.same_size.ensures put.before.before.if2.false put.put-receipt.ensures))
+    call_answered (receipt_judged _ _ (quiet size.before)) size.same_size-size.ensures put.before.before.if-answer-size.false put.put_receipt.ensures))

@@ -10,10 +10,10 @@ use Rattle.keeper.proofs.keeper_send.Statement.{statement}
 use Rattle.keeper.proofs.keeper_send.Tie as tie
 
 -- ---- what is known where no check before 16 caught
-quiet : (c : tie.Else1)
+quiet : (c : tie.Else-refusal-ne0)
     → (let args = c.before.before.before.before.args in
     QuietCall args.table.now (send_call_checks args.table.now args.from args.to))
-quiet c = quiet_send _ _ _ c.before.send-refusal.ensures c.if1.false
+quiet c = quiet_send _ _ _ c.before.send_refusal-refusal.ensures c.if-refusal-ne0.false
 
 -- ---- the needs, in the code's course
 pub keeper_send_spec : {M : Type 1} → statement M
@@ -23,11 +23,11 @@ keeper_send_spec =
     (tie.spec
     (λ c κs. search rules)
     -- a check before 16
-    (λ c. call_refused _ _ _ c.before.send-refusal.ensures c.if1.true)
+    (λ c. call_refused _ _ _ c.before.send_refusal-refusal.ensures c.if-refusal-ne0.true)
     -- asked by `send_size`
     (λ c κs. (quiet c).accepted)
     -- 16
-    (λ c. call_short (send_judged _ _ (quiet c.before.before)) c.before.send-size.ensures c.if2.true)
+    (λ c. call_short (send_judged _ _ (quiet c.before.before)) c.before.send_size-size.ensures c.if-answer-size.true)
     -- asked by `put_send`
     (λ c κs.
     let here = quiet c.before.before.before in
@@ -37,4 +37,4 @@ keeper_send_spec =
     (λ c.
     let put = c.before.before in
     let size = put.before.before.before in
-    call_answered (send_judged _ _ (quiet size.before)) size.send-size.ensures put.before.before.if2.false put.put-send.ensures))
+    call_answered (send_judged _ _ (quiet size.before)) size.send_size-size.ensures put.before.before.if-answer-size.false put.put_send.ensures))

@@ -10,7 +10,7 @@ use Rattle.keeper.proofs.sizes.lines_size.Statement.{statement}
 use Rattle.keeper.proofs.sizes.lines_size.Tie as tie
 
 -- ---- what is known where N was read
-few : (c : tie.After-process-count) → 2 * c.process_count_lem.result ≤ 64
+few : (c : tie.After-process_count) → 2 * c.process_count.result ≤ 64
 few c = omega (arith, processes_few _ c.before.before.requires.0)
 
 -- ---- the needs, in the code's course
@@ -22,4 +22,4 @@ lines_size_spec =
     (λ c κs. search rules)
     (λ c. omega (arith, few c))
     (λ c. omega (arith, mul-le-mul (few c) c.before.before.requires.1))
-    (λ c. rw c.process_count_lem.ensures))
+    (λ c. rw c.process_count.ensures))

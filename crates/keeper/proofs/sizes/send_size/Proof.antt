@@ -7,7 +7,7 @@ use Rattle.keeper.proofs.sizes.send_size.Statement.{statement}
 use Rattle.keeper.proofs.sizes.send_size.Tie as tie
 
 -- ---- the places: the entry, from where M was read
-abbrev entry : tie.After-message-count → tie.Start
+abbrev entry : tie.After-message_count → tie.Start
 entry c = c.before.before.before
 
 -- ---- the needs, in the code's course
