@@ -90,6 +90,22 @@ def tuple_of(text, n):
     return [text]
 
 
+def end_of_let(text):
+    """Where the `in` of a first `let` ends."""
+    depth = lets = 0
+    for m in re.finditer(r"[(\[{]|[)\]}]|(?<![\w.\-])(?:let|in)(?![\w.\-])", text):
+        w = m.group(0)
+        if w in "([{":
+            depth += 1
+        elif w in ")]}":
+            depth -= 1
+        elif depth == 0:
+            lets += 1 if w == "let" else -1
+            if lets == 0:
+                return m.end()
+    return len(text)
+
+
 class Proof:
     def __init__(self, crate, folder, it, known):
         self.crate, self.folder, self.it, self.known = crate, folder, it, known
@@ -195,7 +211,7 @@ class Proof:
                 m = re.search(rf"(?ms)^{kind}-{re.escape(new)} (.*?) =(.*?)(?=\n\n|\n--|\Z)", self.text)
                 if not m:
                     continue
-                params = m.group(1).split()
+                params = [p for p in m.group(1).split() if not re.fullmatch(r"t\d+", p)]
                 names = [("l.initial." if c else "l.") + v for v, c in zip(variables, changed)]
                 names += ["l." + v for v, c in zip(variables, changed) if c]
                 if len(params) != len(names):
@@ -219,6 +235,14 @@ class Proof:
         args = args[loops:]
         base = os.path.dirname(self.path)
         note = "\n".join(l for l in self.text.split("\n")[:4] if l.startswith("--") and "Assumes nothing" not in l)
+        # a literal that was passed had a goal of its own, of a call's `requires` none
+        asks = lambda a: bool(re.match(r"λ c κs", a))
+        if len(args) == len(needs) + 1:
+            for d, a in enumerate(args):
+                rest = args[:d] + args[d + 1 :]
+                if re.match(r"λ c\. (search rules|omega arith)$", a) and all(asks(x) == ("-requires" in n[1]) for x, n in zip(rest, needs)):
+                    args = rest
+                    break
         if len(args) != len(needs):
             print("look:", self.folder, len(args), "answers for", len(needs), "goals")
         answers = []
@@ -242,7 +266,11 @@ class Proof:
                     if step == call or step.startswith(call + "-") or call == step.split("-")[0]:
                         names = requires
                         break
-            head = re.match(r"((?:let .*? in\s+)*)(.*)", body, re.S)
+            first = ""
+            while body.startswith("let "):
+                at = end_of_let(body)
+                first, body = first + body[:at] + "\n    ", body[at:].lstrip()
+            lets = lets + ("\n    " if lets and first else "") + first.rstrip()
             parts = tuple_of(body, len(names)) if len(names) > 1 else [body]
             if len(names) > 1 and len(parts) == len(names):
                 body = "record {\n" + "".join(f"      {n} = {p};\n" for n, p in zip(names, parts)) + "    }"

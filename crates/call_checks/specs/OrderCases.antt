@@ -61,8 +61,17 @@ order_cases =
     ∷ record { checks = table_checks (one_entry 0 0 1 2); first = 9 }
     -- process 2 of two in a set
     ∷ record { checks = line_of_set_checks (two_waiting 1) 4; first = 12 }
+    -- the table before all else
+    ∷ record { checks = line_of_set_checks [] 4; first = 1 }
+    ∷ record { checks = keep_sheet_checks [] 0; first = 1 }
+    ∷ record { checks = keep_sheet_checks (two_waiting 1) 3; first = 15 }
+    ∷ []
+
+-- The same of many sets.
+unfoldable pub set_order_cases : List OrderCase
+set_order_cases =
     -- 257 sets, of which all have a high bit, with a scratch that is short; 256 of them; 256 good ones; with room
-    ∷ record { checks = lines_of_sets_checks (two_waiting 1) (replicate 257 4) 3; first = 25 }
+    record { checks = lines_of_sets_checks (two_waiting 1) (replicate 257 4) 3; first = 25 }
     ∷ record { checks = lines_of_sets_checks (two_waiting 1) (replicate 256 4) 3; first = 12 }
     ∷ record { checks = lines_of_sets_checks (two_waiting 1) (replicate 256 3) 3; first = 15 }
     ∷ record { checks = lines_of_sets_checks (two_waiting 1) (replicate 256 3) 4; first = 0 }
@@ -72,9 +81,6 @@ order_cases =
     ∷ record { checks = lines_of_sets_checks (two_waiting 1) [] 3; first = 15 }
     -- the table before all else
     ∷ record { checks = lines_of_sets_checks [] (replicate 257 4) 0; first = 1 }
-    ∷ record { checks = line_of_set_checks [] 4; first = 1 }
-    ∷ record { checks = keep_sheet_checks [] 0; first = 1 }
-    ∷ record { checks = keep_sheet_checks (two_waiting 1) 3; first = 15 }
     ∷ []
 
 -- Each is refused so.

@@ -1,6 +1,6 @@
 -- What a call yields at each of its returns: where a check before 16 catches, where 16 alone does, and where nothing does.
 --     put_in_front       what is put at the front of a buffer
---     refused, too_short, answered    what is yielded there
+--     refused, too_short_lem, answered    what is yielded there
 --     answer_quiet       the answer itself, where nothing catches
 --     answer_past        checks behind others, of which none catches
 --     Promise, Meets, Judged    a call that judges, finds the size of its answer and puts it: what it promises, of a return too; no
@@ -52,8 +52,8 @@ module _ (checks : List Check) (bytes : List ℕ) (room : ℕ) where
     past = append_passed checks last quiet.refusals quiet.quiet
 
     -- 16 alone catches
-    pub too_short : {buffer : List ℕ} {written : ℕ} → room < size → Yields (answer checks bytes room) 16 buffer buffer written written
-    too_short short = yields_refused 16 _ _ (sym (past ∙ stopped _ _ (lt-ltb room (length bytes) (omega arith)))) sixteen
+    pub too_short_lem : {buffer : List ℕ} {written : ℕ} → room < size → Yields (answer checks bytes room) 16 buffer buffer written written
+    too_short_lem short = yields_refused 16 _ _ (sym (past ∙ stopped _ _ (lt-ltb room (length bytes) (omega arith)))) sixteen
 
     past_all : size ≤ room → first_caught (checks ++ last) ≡ 0
     past_all enough = past ∙ passed _ _ _ (le-ltb room (length bytes) (omega arith)) quiet_none
@@ -103,7 +103,7 @@ call_refused checks bytes room e nonzero = (refused checks bytes room e nonzero,
 -- the size was found
 module _ {promise : Promise} (judged : Judged promise) {size room : ℕ} (found : size ≡ promise.size) where
   pub call_short : {buffer : List ℕ} {written : ℕ} → room < size → Meets promise room 16 buffer buffer written written
-  call_short short = (too_short _ _ _ judged.quiet (found ∙ judged.sized) short, sixteen)
+  call_short short = (too_short_lem _ _ _ judged.quiet (found ∙ judged.sized) short, sixteen)
 
   pub call_answered : {buffer buffer' : List ℕ} {written : ℕ} → size ≤ room → buffer' ≡ put_at buffer 0 promise.bytes
       → Meets promise room 0 buffer buffer' written size

@@ -42,7 +42,6 @@ pub data Call : Type 0 where
   check_table : Call
   recovery_line : Call
   hold : ℕ → Call
-  hold_each : List ℕ → ℕ → ℕ → Call
   under : List ℕ → Call
   marking : List ℕ → ℕ → ℕ → Call
   stand : List ℕ → List ℕ → ℕ → Call
@@ -57,14 +56,13 @@ pub record Case : Type 0 where
   pub call : Call
   pub expected : Answer
 
--- The answer of a call by the definitions, with a buffer of 1,000 bytes and a scratch of 4 numbers; of the lines of
--- many sets, with the numbers of its scratch and the bytes of its answer buffer that the case gives; of the line by
--- marking, with the bytes of both its buffers; of a receipt and of names, with those of its answer buffer.
+-- The answer of a call by the definitions, with a buffer of 1,000 bytes and a scratch of 4 numbers; of the line by
+-- marking, with the bytes of its mark buffer and of its answer buffer that the case gives; of a receipt and of names,
+-- with those of its answer buffer.
 unfoldable pub answer_of : List ℕ → Call → Answer
 answer_of table check_table = unless (table_refusal table) []
 answer_of table recovery_line = recovery_line_answer table 1000
 answer_of table (hold set) = line_of_set_answer table set 1000
-answer_of table (hold_each sets numbers room) = lines_of_sets_answer table sets numbers room
 answer_of table (under ceilings) = line_under_answer table ceilings 1000
 answer_of table (marking ceilings bytes room) = marked_line_answer table ceilings bytes room
 answer_of table (stand processes states room) = stand_together_answer table processes states room
@@ -87,9 +85,9 @@ same_answer (refused n) (answered ys) = false
 same_answer (answered xs) (refused m) = false
 same_answer (answered xs) (answered ys) = same_bytes xs ys
 
-unfoldable pub all_hold_lem : List Case → Bool
-all_hold_lem [] = true
-all_hold_lem (c ∷ rest) = same_answer (answer_of c.table c.call) c.expected && all_hold_lem rest
+unfoldable pub all_hold : List Case → Bool
+all_hold [] = true
+all_hold (c ∷ rest) = same_answer (answer_of c.table c.call) c.expected && all_hold rest
 
 -- ---- the cases
 unfoldable pub marked_cases : List Case
@@ -352,47 +350,70 @@ three_of_two = case_table 3 1 (2 ∷ 2 ∷ 2 ∷ []) (0 ∷ 1 ∷ []) (1 ∷ 2 �
 unfoldable pub thirty_two : List ℕ
 thirty_two = case_table 32 0 (replicate 32 1) [] []
 
-unfoldable pub set_cases : List Case
+-- A case of many sets: the numbers of the scratch, the bytes of the answer buffer, and the answer.
+pub record SetCase : Type 0 where
+  pub table : List ℕ
+  pub sets : List ℕ
+  pub numbers : ℕ
+  pub room : ℕ
+  pub expected : Answer
+
+unfoldable pub all_sets_hold : List SetCase → Bool
+all_sets_hold [] = true
+all_sets_hold (c ∷ rest) =
+    same_answer (lines_of_sets_answer c.table c.sets c.numbers c.room) c.expected && all_sets_hold rest
+
+unfoldable pub set_cases : List SetCase
 set_cases =
     -- A: each process alone, both, none, and the first again
     record {
       table = table_a;
-      call = hold_each (1 ∷ 2 ∷ 3 ∷ 0 ∷ 1 ∷ []) 4 20;
+      sets = (1 ∷ 2 ∷ 3 ∷ 0 ∷ 1 ∷ []);
+      numbers = 4;
+      room = 20;
       expected = answered (u16s (1 ∷ 1 ∷ 3 ∷ 2 ∷ 1 ∷ 1 ∷ 3 ∷ 3 ∷ 1 ∷ 1 ∷ []));
     }
     -- C: of the two lines of single holders neither is below the other
     ∷ record {
       table = table_c;
-      call = hold_each (3 ∷ 1 ∷ 0 ∷ 2 ∷ []) 4 16;
+      sets = (3 ∷ 1 ∷ 0 ∷ 2 ∷ []);
+      numbers = 4;
+      room = 16;
       expected = answered (u16s (0 ∷ 3 ∷ 0 ∷ 4 ∷ 1 ∷ 4 ∷ 1 ∷ 3 ∷ []));
     }
     -- three processes: the first two; the first and the last; all
     ∷ record {
       table = three_of_two;
-      call = hold_each (3 ∷ 5 ∷ 7 ∷ []) 9 18;
+      sets = (3 ∷ 5 ∷ 7 ∷ []);
+      numbers = 9;
+      room = 18;
       expected = answered (u16s (1 ∷ 1 ∷ 2 ∷ 1 ∷ 1 ∷ 1 ∷ 1 ∷ 1 ∷ 1 ∷ []));
     }
     -- and the last two, the second alone and the last alone
     ∷ record {
       table = three_of_two;
-      call = hold_each (6 ∷ 2 ∷ 4 ∷ []) 9 18;
+      sets = (6 ∷ 2 ∷ 4 ∷ []);
+      numbers = 9;
+      room = 18;
       expected = answered (u16s (2 ∷ 1 ∷ 1 ∷ 2 ∷ 1 ∷ 2 ∷ 2 ∷ 2 ∷ 1 ∷ []));
     }
     -- process 31 of 32
     ∷ record {
       table = thirty_two;
-      call = hold_each (2147483648 ∷ []) 1024 64;
+      sets = (2147483648 ∷ []);
+      numbers = 1024;
+      room = 64;
       expected = answered (u16s (replicate 31 1 ++ (0 ∷ [])));
     }
     -- no sets fit any buffer, but not any scratch
-    ∷ record { table = table_a; call = hold_each [] 4 0; expected = answered [] }
-    ∷ record { table = table_a; call = hold_each [] 3 0; expected = refused 15 }
+    ∷ record { table = table_a; sets = []; numbers = 4; room = 0; expected = answered [] }
+    ∷ record { table = table_a; sets = []; numbers = 3; room = 0; expected = refused 15 }
     -- the order: the table's, 25, 12, 15, 16
-    ∷ record { table = late_receipt; call = hold_each (replicate 257 4) 0 0; expected = refused 9 }
-    ∷ record { table = table_a; call = hold_each (replicate 257 4) 0 0; expected = refused 25 }
-    ∷ record { table = table_a; call = hold_each (1 ∷ 4 ∷ []) 0 0; expected = refused 12 }
-    ∷ record { table = table_a; call = hold_each (1 ∷ 2 ∷ []) 3 0; expected = refused 15 }
-    ∷ record { table = table_a; call = hold_each (1 ∷ 2 ∷ []) 4 7; expected = refused 16 }
+    ∷ record { table = late_receipt; sets = (replicate 257 4); numbers = 0; room = 0; expected = refused 9 }
+    ∷ record { table = table_a; sets = (replicate 257 4); numbers = 0; room = 0; expected = refused 25 }
+    ∷ record { table = table_a; sets = (1 ∷ 4 ∷ []); numbers = 0; room = 0; expected = refused 12 }
+    ∷ record { table = table_a; sets = (1 ∷ 2 ∷ []); numbers = 3; room = 0; expected = refused 15 }
+    ∷ record { table = table_a; sets = (1 ∷ 2 ∷ []); numbers = 4; room = 7; expected = refused 16 }
     ∷ []
 
 -- What stands in a scratch of six numbers afterwards: on success the lines of A's single holders, and what was there;

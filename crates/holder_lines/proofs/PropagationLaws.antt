@@ -30,7 +30,7 @@ use Rattle.tables.proofs.FormatLaws.{message_in}
 use Rattle.tables.proofs.ListLaws.{any_below_ext, any_below_found, set-tabulate, tabulate_ext}
 use Rattle.tables.proofs.ReadLaws.{ReadMessages, count_is, counts_known, message_good, message_is, messages_known}
 use Rattle.tables.specs.Checks.{WellFormed, table_refusal}
-use Rattle.tables.specs.Format.{checkpoint_at, count_at_lem, counts_part, decode, message_at, process_at, receipts_part, sends_part}
+use Rattle.tables.specs.Format.{checkpoint_at, count_at, counts_part, decode, message_at, process_at, receipts_part, sends_part}
 use Rattle.tables.specs.Lists.{any_below, tabulate}
 use Rattle.tables.specs.Numbers.{u16_at}
 use Rattle.tables.specs.Table.{Message, Table, count_of, message_count, message_of, most_processes}
@@ -77,21 +77,21 @@ module _ {m : ℕ} {counts sends receipts : List ℕ} {found : List Bool} {k j y
   is_sender = sym x.sender
 
   pub count_positive : 0 < count
-  unfolding count_at_lem
+  unfolding count_at
   count_positive = omega (arith, x.count_read, x.seen.given.counted.positive j (sender_known x.seen x.more x.sender))
 
   -- with the receipt number, as it was read or is in the part
-  orphaned_is : (r : ℕ) → r ≡ u16_at receipts (4 * k + 2) → orphaned (count_at_lem counts) this ≡ (leb (count - 1) y && ltb 0 r)
-  unfolding orphaned message_at process_at checkpoint_at count_at_lem
+  orphaned_is : (r : ℕ) → r ≡ u16_at receipts (4 * k + 2) → orphaned (count_at counts) this ≡ (leb (count - 1) y && ltb 0 r)
+  unfolding orphaned message_at process_at checkpoint_at count_at
   orphaned_is r e = rw (← e, ← x.sent, ← x.sender, ← x.count_read)
 
   -- one message more
-  same : (p : ℕ) → (eqb this.sender p && orphaned (count_at_lem counts) this) ≡ false
+  same : (p : ℕ) → (eqb this.sender p && orphaned (count_at counts) this) ≡ false
       → propagates_at k counts sends receipts p ≡ propagates_at (k + 1) counts sends receipts p
   unfolding propagates_at propagates any_below
   same p e = rw (add-one k, e)
 
-  skips : orphaned (count_at_lem counts) this ≡ false → Seen m counts sends receipts found (k + 1)
+  skips : orphaned (count_at counts) this ≡ false → Seen m counts sends receipts found (k + 1)
   skips e = record {
     given = x.seen.given;
     within = omega (arith, x.more);
@@ -118,7 +118,7 @@ module _ {m : ℕ} {counts sends receipts : List ℕ} {found : List Bool} {k j y
           (λ p other. same p (rw (ne_eqb this.sender p (λ e. other (sym e ∙ is_sender)))));
     }
       where
-        orphan : orphaned (count_at_lem counts) this ≡ true
+        orphan : orphaned (count_at counts) this ≡ true
         orphan = orphaned_is r received ∙ rw (le-leb (count - 1) y b, lt-ltb 0 r (omega arith))
 
 -- ---- of an accepted table, by its parts
@@ -139,11 +139,11 @@ module _ {bytes : List ℕ} {m : ℕ} {counts sends receipts : List ℕ} (read :
       orphans count p x = eqb x.sender p && orphaned count x
 
       each : (p k : ℕ) → k < message_count t
-          → orphans (count_at_lem (counts_part bytes)) p (message_at (sends_part bytes) (receipts_part bytes) k) ≡ orphans (count_of t) p (message_of t k)
+          → orphans (count_at (counts_part bytes)) p (message_at (sends_part bytes) (receipts_part bytes) k) ≡ orphans (count_of t) p (message_of t k)
       each p k l =
           let x = message_of t k in
           let count = count_is bytes read.accepted x.sender (message_good bytes read.accepted k l).sender_known in
-          ap (orphans (count_at_lem (counts_part bytes)) p) (message_is bytes read.accepted k l)
+          ap (orphans (count_at (counts_part bytes)) p) (message_is bytes read.accepted k l)
           ∙ ap (λ (c : ℕ). eqb x.sender p && (leb (c - 1) x.sent && ltb 0 x.received)) count
 
 -- ---- lines that are their ceilings

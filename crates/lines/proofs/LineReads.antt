@@ -3,7 +3,7 @@
 --     height_in .. height_read   how high a process may stand, entry by entry
 --     ceiling_read, line_read    the ceiling of a set in an accepted table, and the line under one, from what the code read
 --     set_read, set_front        the line of a set, under its ceiling; the numbers of an answer
---     all_hold                   the set of all 32 bits gives the recovery line
+--     all_hold_lem                   the set of all 32 bits gives the recovery line
 -- Assumes nothing.
 use mathlib.Core.Bool.{Bool, cond}
 use mathlib.Core.List.{List}
@@ -29,7 +29,7 @@ use Rattle.tables.proofs.ListLaws.{tabulate_ext}
 use Rattle.tables.proofs.ReadLaws.{ReadMessages, count_is, processes_few}
 use Rattle.tables.specs.Arrays.{array_of}
 use Rattle.tables.specs.Checks.{table_refusal}
-use Rattle.tables.specs.Format.{count_at_lem, counts_part, decode}
+use Rattle.tables.specs.Format.{count_at, counts_part, decode}
 use Rattle.tables.specs.Lists.{tabulate}
 use Rattle.tables.specs.Numbers.{u16_at}
 use Rattle.tables.specs.Table.{Message, count_of, process_count}
@@ -41,7 +41,7 @@ array_line ms c small =
     (λ p. sym (array_at (line_under ms c) (omega (arith, line_length ms c)) p)) (line_latest ms c)))
 
 module _ (n set : ℕ) (counts : List ℕ) (p : ℕ) where
-  pub height_in : p < n → height_at n set counts p ≡ cond (member set p) (count_at_lem counts p - 1) (count_at_lem counts p)
+  pub height_in : p < n → height_at n set counts p ≡ cond (member set p) (count_at counts p - 1) (count_at counts p)
   unfolding height_at
   height_in l = rw (lt-ltb p n l)
 
@@ -52,7 +52,7 @@ module _ (n set : ℕ) (counts : List ℕ) (p : ℕ) where
 -- from the numbers that the code read
 pub height_read : (counts : List ℕ) {n p count : ℕ} → p < n → count ≡ u16_at counts (2 * p)
     → (set : ℕ) {holds : Bool} {r : ℕ} → holds ≡ member set p → r ≡ cond holds (count - 1) count → r ≡ height_at n set counts p
-unfolding count_at_lem
+unfolding count_at
 height_read counts {n} {p} l read set is_held_lem e =
     e ∙ ap₂ (λ (b : Bool) (c : ℕ). cond b (c - 1) c) is_held_lem read ∙ sym (height_in n set counts p l)
 
@@ -94,9 +94,9 @@ pub line_read : {bytes : List ℕ} {m : ℕ} {sends receipts : List ℕ} → Rea
 unfolding messages_of decode
 line_read {bytes} read ceiling = rw (read.m_is, read.sends_are, read.receipts_are, decode-messages bytes)
 
-pub all_hold : (bytes : List ℕ) → table_refusal bytes ≡ 0 → line_of (decode bytes) (member all_processes) ≡ recovery_line (decode bytes)
+pub all_hold_lem : (bytes : List ℕ) → table_refusal bytes ≡ 0 → line_of (decode bytes) (member all_processes) ≡ recovery_line (decode bytes)
 unfolding recovery_line line_of ceiling_of
-all_hold bytes accepted =
+all_hold_lem bytes accepted =
     ap (line_under (decode bytes).messages)
     (tabulate_ext (process_count (decode bytes)) _ _
     (λ p l. ap (λ (b : Bool). cond b (count_of (decode bytes) p - 1) (count_of (decode bytes) p)) (all-member p (omega (arith, processes_few bytes accepted)))))

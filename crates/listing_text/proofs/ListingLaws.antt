@@ -23,7 +23,7 @@ use Rattle.holder_lines.proofs.ScratchLaws.{entry_is, lines-stand}
 use Rattle.holder_lines.specs.Scratch.{HoldsLines, lines_in}
 use Rattle.keep_sheet.proofs.FewLaws.{kept_few, sheet-length}
 use Rattle.keep_sheet.specs.Sheet.{Checkpoint, kept_checkpoints, kept_messages, sheet}
-use Rattle.calls.proofs.AnswerLaws.{answered, put_in_front, refused, too_short}
+use Rattle.calls.proofs.AnswerLaws.{answered, put_in_front, refused, too_short_lem}
 use Rattle.call_checks.proofs.RefusalLaws.{Quiet, long_scratch, table_caught}
 use Rattle.calls.proofs.SheetBytes.{read_checkpoint, read_kept, read_logged, read_position, read_process}
 use Rattle.calls.proofs.SheetAnswer.{scratch_filled}
@@ -279,7 +279,7 @@ module _ (table buffer : List ℕ) {last : List ℕ} {size : ℕ} (measured : La
   pub listing_refused : {written : ℕ} → length (last ++ buffer) < size
       → Yields (listing_answer table (length buffer)) 16 buffer (last ++ buffer) written written
   unfolding listing_answer
-  listing_refused short = rw unchanged (too_short [] (listing_of table) (length buffer) no-checks refl (listing_longer short))
+  listing_refused short = rw unchanged (too_short_lem [] (listing_of table) (length buffer) no-checks refl (listing_longer short))
 
   module _ (enough : size ≤ length (last ++ buffer)) {after : List ℕ} {end : ℕ} (laid : Laid (last ++ buffer) after 0 (listing_of table) end) where
     fits : size ≤ length buffer

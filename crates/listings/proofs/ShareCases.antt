@@ -10,7 +10,7 @@ use Rattle.calls.specs.Cases.{like_a, table_b, table_c, table_d}
 use Rattle.listings.specs.Listing.{share}
 use Rattle.rounding.specs.Rounding.{even_of, rounded_quotient}
 use Rattle.listings.specs.ShareCases.{all_portions, all_shares, portions, share_cases}
-use Rattle.tables.specs.Format.{checkpoint_at, count_at_lem, counts_part, decode, message_at, messages_in, process_at, processes_in, receipts_part, sends_part}
+use Rattle.tables.specs.Format.{checkpoint_at, count_at, counts_part, decode, message_at, messages_in, process_at, processes_in, receipts_part, sends_part}
 use Rattle.tables.specs.Lists.{any_below, rows, select, sum, tabulate}
 use Rattle.tables.specs.Numbers.{bytes_of, bytes_of_all, number_at}
 use Rattle.tables.specs.Table.{checkpoint_total, count_of, message_count, message_of, process_count}
@@ -21,6 +21,6 @@ all-portions = refl
 
 pub share_cases_lem : all_shares share_cases ≡ true
 unfolding even_of rounded_quotient all_shares share_cases share checkpoint_total case_table like_a table_b table_c table_d processes_in messages_in counts_part
-    sends_part receipts_part count_at_lem process_at checkpoint_at message_at decode number_at bytes_of bytes_of_all tabulate any_below rows select sum process_count
+    sends_part receipts_part count_at process_at checkpoint_at message_at decode number_at bytes_of bytes_of_all tabulate any_below rows select sum process_count
     message_count count_of message_of ceiling_of line_of single is_orphan lower pass passes line_under holder_line keeps_checkpoint kept_checkpoints
 share_cases_lem = refl

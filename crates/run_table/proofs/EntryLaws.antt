@@ -18,8 +18,8 @@ use Rattle.tables.proofs.FormatLaws.{ReadSizes, decode_count, decode_message, de
 use Rattle.tables.proofs.ListLaws.{any-tabulate, any_below_ext, any_below_or, none_below, or_false_left, or_false_right}
 use Rattle.tables.proofs.TurnLaws.{broken_ext, broken_on}
 use Rattle.tables.specs.Checks.{Check, bad_count, bad_length, bad_process_count, bad_receipt, bad_send, broken_below, broken_channel, first_caught, outside}
-use Rattle.tables.specs.Checks.{table_checks, table_refusal, to_itself, too_many_messages, too_short_lem, unknown_process}
-use Rattle.tables.specs.Format.{checkpoint_at, count_at_lem, counts_at, counts_part, decode, message_at, messages_in}
+use Rattle.tables.specs.Checks.{table_checks, table_refusal, to_itself, too_many_messages, too_short, unknown_process}
+use Rattle.tables.specs.Format.{checkpoint_at, count_at, counts_at, counts_part, decode, message_at, messages_in}
 use Rattle.tables.specs.Format.{process_at, processes_in, receipts_at, receipts_part, sends_at, sends_part, table_length}
 use Rattle.tables.specs.Lists.{any, any_below}
 use Rattle.tables.specs.Table.{Message, Table, count_of, most_messages, most_processes, process_count}
@@ -69,7 +69,7 @@ module _ (bytes : List ℕ) where
 
   check_5 : any bad_count t.counts ≡ any_below N (bad_count_at (counts_part bytes))
   unfolding decode bad_count_at
-  check_5 = any-tabulate bad_count N (count_at_lem (counts_part bytes))
+  check_5 = any-tabulate bad_count N (count_at (counts_part bytes))
 
   check_6 : any (unknown_process (process_count t)) t.messages
       ≡ (any_below M (unknown_at N (sends_part bytes)) || any_below M (unknown_at N (receipts_part bytes)))
@@ -84,20 +84,20 @@ module _ (bytes : List ℕ) where
   check_7 = any_message to_itself
 
   -- the count of a known process is that of the bytes
-  count_at : (part : List ℕ) → any_below M (unknown_at N part) ≡ false → (k : ℕ) → k < M
-      → count_of t (process_at part k) ≡ count_at_lem (counts_part bytes) (process_at part k)
+  count_at_lem : (part : List ℕ) → any_below M (unknown_at N part) ≡ false → (k : ℕ) → k < M
+      → count_of t (process_at part k) ≡ count_at (counts_part bytes) (process_at part k)
   unfolding unknown_at
-  count_at part none k l =
+  count_at_lem part none k l =
       decode_count bytes (process_at part k) (leb-false N (process_at part k) (none_below (unknown_at N part) M none k l))
 
   -- a test of the count of an entry's process and of the entry's number
   number_check : (bad : Message → Bool) (test : ℕ → ℕ → Bool) (part : List ℕ)
       → ((k : ℕ) → bad (message k) ≡ test (count_of t (process_at part k)) (checkpoint_at part k)) → any_below M (unknown_at N part) ≡ false
-      → any bad t.messages ≡ any_below M (λ k. test (count_at_lem (counts_part bytes) (process_at part k)) (checkpoint_at part k))
+      → any bad t.messages ≡ any_below M (λ k. test (count_at (counts_part bytes) (process_at part k)) (checkpoint_at part k))
   number_check bad test part is none =
       any_message bad
-      ∙ any_below_ext (λ k. bad (message k)) (λ k. test (count_at_lem (counts_part bytes) (process_at part k)) (checkpoint_at part k)) M
-      (λ k l. is k ∙ ap (λ (c : ℕ). test c (checkpoint_at part k)) (count_at part none k l))
+      ∙ any_below_ext (λ k. bad (message k)) (λ k. test (count_at (counts_part bytes) (process_at part k)) (checkpoint_at part k)) M
+      (λ k l. is k ∙ ap (λ (c : ℕ). test c (checkpoint_at part k)) (count_at_lem part none k l))
 
   check_8 : any_below M (unknown_at N (sends_part bytes)) ≡ false
       → any (bad_send t) t.messages ≡ any_below M (not_below_at (counts_part bytes) (sends_part bytes))
@@ -114,7 +114,7 @@ module _ (bytes : List ℕ) where
   check_23 = broken_ext (decode-messages bytes) (decode_message bytes)
 
   -- where the sizes are right, the refusal is that of the parts
-  parts_refusal_lem : too_short_lem bytes ≡ false → bad_process_count bytes ≡ false → too_many_messages bytes ≡ false → bad_length bytes ≡ false
+  parts_refusal_lem : too_short bytes ≡ false → bad_process_count bytes ≡ false → too_many_messages bytes ≡ false → bad_length bytes ≡ false
       → table_refusal bytes ≡ parts_refusal N M (counts_part bytes) (sends_part bytes) (receipts_part bytes)
   unfolding table_refusal table_checks
   parts_refusal_lem e1 e2 e3 e4 =
@@ -167,7 +167,7 @@ module _ (n m : ℕ) (counts sends receipts : List ℕ) where
 
 -- ---- the refusal of bytes, in the code's course
 pub refused_short : (bytes : List ℕ) → length bytes < 4 → 1 ≡ table_refusal bytes
-unfolding table_refusal table_checks too_short_lem
+unfolding table_refusal table_checks too_short
 refused_short bytes l = sym (stopped _ _ (lt-ltb (length bytes) 4 l))
 
 module _ {bytes : List ℕ} {n m : ℕ} (read : ReadSizes bytes n m) (long : 4 ≤ length bytes) where

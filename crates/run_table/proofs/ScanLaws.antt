@@ -9,7 +9,7 @@ use mathlib.Core.Path.{◌≡◌, sym, ap, ◌∙◌}
 use Prim.Native.Nat.{ℕ, ◌+◌, ◌*◌, ◌<◌, ◌≤◌}
 use borrow.Author.Tests.{lt-ltb, le-leb, le-ltb, leb-false, lt-leb}
 use Rattle.tables.specs.Checks.{bad_count, outside}
-use Rattle.tables.specs.Format.{checkpoint_at, count_at_lem, process_at}
+use Rattle.tables.specs.Format.{checkpoint_at, count_at, process_at}
 use Rattle.tables.specs.Numbers.{u16_at}
 use Rattle.run_table.specs.EntryChecks.{above_at, bad_count_at, not_below_at, unknown_at}
 use Rattle.tables.specs.Table.{most_checkpoints}
@@ -17,7 +17,7 @@ use Rattle.tables.specs.Table.{most_checkpoints}
 -- ---- count p, as the loop of check 5 read it
 pub bad_is : (counts : List ℕ) (p : ℕ) {r : ℕ} → r ≡ u16_at counts (2 * p) → {b : Bool}
     → outside most_checkpoints r ≡ b → bad_count_at counts p ≡ b
-unfolding bad_count_at bad_count count_at_lem
+unfolding bad_count_at bad_count count_at
 bad_is counts p read e = ap (outside most_checkpoints) (sym read) ∙ e
 
 -- ---- an entry's process is below n, where it is known
@@ -26,7 +26,7 @@ unfolding unknown_at process_at
 process_known n part k e = leb-false n (u16_at part (4 * k)) e
 
 -- ---- an entry's number and the count of its process
-module _ (counts part : List ℕ) (k : ℕ) {c s : ℕ} (count : c ≡ count_at_lem counts (process_at part k)) (number : s ≡ u16_at part (4 * k + 2)) where
+module _ (counts part : List ℕ) (k : ℕ) {c s : ℕ} (count : c ≡ count_at counts (process_at part k)) (number : s ≡ u16_at part (4 * k + 2)) where
   number_is : s ≡ checkpoint_at part k
   unfolding checkpoint_at
   number_is = number

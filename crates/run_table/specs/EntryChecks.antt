@@ -2,13 +2,13 @@
 -- the checks of the table. Assumes nothing.
 use Rattle.std.specs.Prelude.{Bool, true, false, cond, List, [], ◌∷◌, ◌++◌, map, ◌≡◌, ℕ, suc, ◌+◌, ◌*◌, ◌≤◌, ◌<◌, eqb, leb, ltb, length}
 use Rattle.tables.specs.Checks.{Check, bad_count, broken_below, first_caught}
-use Rattle.tables.specs.Format.{checkpoint_at, count_at_lem, message_at, process_at}
+use Rattle.tables.specs.Format.{checkpoint_at, count_at, message_at, process_at}
 use Rattle.tables.specs.Lists.{any_below}
 use Rattle.tables.specs.Table.{Message, most_messages, most_processes}
 
 -- Entry p of a part of counts is 0 or above 4,096.
 unfoldable pub bad_count_at : List ℕ → ℕ → Bool
-bad_count_at counts p = bad_count (count_at_lem counts p)
+bad_count_at counts p = bad_count (count_at counts p)
 
 -- Entry k of a part names a process of n or above.
 unfoldable pub unknown_at : ℕ → List ℕ → ℕ → Bool
@@ -20,11 +20,11 @@ to_itself_at sends receipts k = eqb (process_at sends k) (process_at receipts k)
 
 -- Entry k of a part names a checkpoint that is not below its process's count.
 unfoldable pub not_below_at : List ℕ → List ℕ → ℕ → Bool
-not_below_at counts part k = leb (count_at_lem counts (process_at part k)) (checkpoint_at part k)
+not_below_at counts part k = leb (count_at counts (process_at part k)) (checkpoint_at part k)
 
 -- It names a number that is above its process's count.
 unfoldable pub above_at : List ℕ → List ℕ → ℕ → Bool
-above_at counts part k = ltb (count_at_lem counts (process_at part k)) (checkpoint_at part k)
+above_at counts part k = ltb (count_at counts (process_at part k)) (checkpoint_at part k)
 
 -- A check of messages: whether it catches message k, and its number.
 pub record MessageCheck : Type 0 where

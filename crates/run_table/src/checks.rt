@@ -2,7 +2,7 @@
 // before the next begins.
 ghost use Rattle.std.specs.Prelude.{◌≡◌, false, ◌+◌, ◌*◌, ◌<◌, length};
 ghost use Rattle.tables.specs.Checks.{table_refusal};
-ghost use Rattle.tables.specs.Format.{count_at_lem, message_at, process_at};
+ghost use Rattle.tables.specs.Format.{count_at, message_at, process_at};
 ghost use Rattle.tables.specs.Lists.{any_below};
 ghost use Rattle.run_table.specs.EntryChecks.{FirstMessage, Sized, bad_count_at, checks_at, checks_below};
 ghost use Rattle.run_table.specs.EntryChecks.{first_place, message_checks, parts_refusal, to_itself_at, unknown_at};
@@ -64,7 +64,7 @@ fn count_for(counts: &[u8], part: &[u8], n: usize, k: usize) -> u16
     requires counts_len { length counts.now ≡ 2 * n }
     requires k_in_bounds { 4 * k + 1 < length part.now }
     requires k_value { unknown_at n part.now k ≡ false }
-    ensures { result ≡ count_at_lem counts.now (process_at part.now k) }
+    ensures { result ≡ count_at counts.now (process_at part.now k) }
 {
     let process = u16_at(part, 4 * k) as usize;
     u16_at(counts, 2 * process)

@@ -66,13 +66,13 @@ module _ {bytes scratch : List ℕ} {n : ℕ} {counts : List ℕ} (w : ToPut byt
         member_line p i b l =
             ap (λ (x : ℕ). lines_in scratch x i p) w.n_is ∙ entry_is w.given i p (omega (arith, w.n_is)) (omega (arith, w.n_is))
 
-        count_at : (p : ℕ) → as_line counts p ≡ count_of t p
-        count_at p = ap (λ (x : List ℕ). as_line x p) w.counts_are ∙ array_at t.counts (omega (arith, few, w.n_is)) p
+        count_at_lem : (p : ℕ) → as_line counts p ≡ count_of t p
+        count_at_lem p = ap (λ (x : List ℕ). as_line x p) w.counts_are ∙ array_at t.counts (omega (arith, few, w.n_is)) p
 
         at_process : (p : ℕ) → p < n → get_or (take n line) p 0 ≡ as_line (line_of t (member set)) p
         at_process p b =
             get_or-take n line p 0 b ∙ found.front p b (omega (arith, line_long, found.same_length))
-            ∙ smallest_same (member set) (lines_in scratch n) singles (as_line counts) (count_of t) p n (λ i l. member_line p i b l) (count_at p)
+            ∙ smallest_same (member set) (lines_in scratch n) singles (as_line counts) (count_of t) p n (λ i l. member_line p i b l) (count_at_lem p)
             ∙ ap (λ (x : ℕ). smallest x (member set) singles (count_of t) p) w.n_is
             ∙ sym (line_smallest t (facts bytes w.given.accepted).well_formed (member set) p)
 

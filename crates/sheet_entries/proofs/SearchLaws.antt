@@ -22,7 +22,7 @@ use Rattle.keep_sheet.specs.Sheet.{Checkpoint, crosses}
 use Rattle.tables.proofs.ArrayLaws.{array_at}
 use Rattle.tables.proofs.ListLaws.{any_below_none, found_below, get_or_tabulate, length-tabulate, none_below, rows_more, select_small}
 use Rattle.tables.proofs.ReadLaws.{message_there}
-use Rattle.tables.specs.Format.{checkpoint_at, count_at_lem, message_at, process_at}
+use Rattle.tables.specs.Format.{checkpoint_at, count_at, message_at, process_at}
 use Rattle.tables.specs.Lists.{First, any_below, rows, tabulate}
 use Rattle.tables.specs.Numbers.{u16_at}
 use Rattle.tables.specs.Parts.{Messages}
@@ -141,7 +141,7 @@ keeps_at n scratch sends receipts k = is_kept n (lines_in scratch n) (message_at
 -- ---- a loop that counts the kept checkpoints, process by process
 -- the kept checkpoints of process i
 abbrev kept_at : ℕ → List ℕ → List ℕ → ℕ → List Checkpoint
-kept_at n scratch counts i = checkpoints_at i (kept_of n (lines_in scratch n) i (count_at_lem counts i))
+kept_at n scratch counts i = checkpoints_at i (kept_of n (lines_in scratch n) i (count_at counts i))
 
 pub record Totalling (n : ℕ) (scratch counts : List ℕ) (total i : ℕ) : Type 0 where
   pub within : i ≤ n
@@ -161,7 +161,7 @@ module _ {n : ℕ} {scratch counts : List ℕ} where
       totalling_adds = omega (arith, select_small (shows n (lines_in scratch n) i) count)
 
       pub totalling_more : i < n → count ≤ 65536 → Totalling n scratch counts (total + r) (i + 1)
-      unfolding count_at_lem checkpoints_at
+      unfolding count_at checkpoints_at
       totalling_more l b = record {
         within = omega arith;
         small = omega (arith, h.small, totalling_adds);

@@ -5,7 +5,7 @@ use Rattle.consistency.specs.Lines.{Line}
 use Rattle.holder_lines.specs.Scratch.{HoldsLines, lines_in}
 use Rattle.keep_sheet.specs.Sheet.{Checkpoint, crosses}
 use Rattle.tables.specs.Arrays.{array_of}
-use Rattle.tables.specs.Format.{count_at_lem, message_at, process_at}
+use Rattle.tables.specs.Format.{count_at, message_at, process_at}
 use Rattle.tables.specs.Lists.{any_below, rows, select, tabulate}
 use Rattle.tables.specs.Parts.{MessageThere}
 use Rattle.tables.specs.Table.{Message}
@@ -24,7 +24,7 @@ checkpoints_at i checkpoints = map (λ c. record { process = i; number = c }) ch
 
 -- The kept checkpoints of n processes, from a part of their counts.
 unfoldable pub checkpoints_of : ℕ → (ℕ → Line) → List ℕ → List Checkpoint
-checkpoints_of n line counts = rows (λ i. checkpoints_at i (kept_of n line i (count_at_lem counts i))) n
+checkpoints_of n line counts = rows (λ i. checkpoints_at i (kept_of n line i (count_at counts i))) n
 
 -- The least of n numbers of 16 bits; 65,535 where n is 0.
 unfoldable pub least_below : ℕ → (ℕ → ℕ) → ℕ

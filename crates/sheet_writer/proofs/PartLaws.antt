@@ -16,7 +16,7 @@ use Rattle.keep_sheet.specs.Sheet.{Checkpoint, sheet}
 use Rattle.tables.proofs.ListLaws.{map_rows, rows_ext}
 use Rattle.tables.proofs.NumberLaws.{length-u16s}
 use Rattle.tables.proofs.ReadLaws.{ReadMessages}
-use Rattle.tables.specs.Format.{count_at_lem, counts_part, decode}
+use Rattle.tables.specs.Format.{count_at, counts_part, decode}
 use Rattle.tables.specs.Numbers.{put_at, u16s}
 use Rattle.tables.specs.Table.{Table, process_count}
 use Rattle.sheet_entries.proofs.FoundLaws.{checkpoints_found, positions_found}
@@ -43,7 +43,7 @@ module _ {part : Part} {bytes s : List ℕ} (given : LinesOf bytes s) {n : ℕ} 
   unfolding column_of column_at checkpoints_of checkpoints_at numbers_of
   column_is {counts} counts_are {column} e =
       let number : Checkpoint → ℕ = λ k. number_in column k.process k.number in
-      rows_ext _ _ n (λ i _. sym (map-map number (λ c. record { process = i; number = c }) (kept_of n (lines_in s n) i (count_at_lem counts i))))
+      rows_ext _ _ n (λ i _. sym (map-map number (λ c. record { process = i; number = c }) (kept_of n (lines_in s n) i (count_at counts i))))
       ∙ sym (map_rows number _ n) ∙ ap (map number) (checkpoints_found given n_is counts_are)
       ∙ sym (ap (λ (x : Part). numbers_of x (decode bytes)) e)
 

@@ -9,7 +9,7 @@ use Rattle.sheet_writer.specs.declared.writing.Column.{Column}
 use Rattle.sheet_writer.specs.declared.writing.Column.TheVariants.{Number, Process}
 use Rattle.sheet_writer.specs.declared.writing.Part.{Part}
 use Rattle.sheet_writer.specs.declared.writing.Part.TheVariants.{Kept, Positions, Sizes}
-use Rattle.tables.specs.Format.{count_at_lem, decode}
+use Rattle.tables.specs.Format.{count_at, decode}
 use Rattle.tables.specs.Lists.{rows}
 use Rattle.tables.specs.Table.{Table}
 
@@ -31,7 +31,7 @@ unfoldable pub column_at : Column → ℕ → List ℕ → List ℕ
 column_at column i kept = map (number_in column i) kept
 
 unfoldable pub column_of : Column → ℕ → (ℕ → Line) → List ℕ → List ℕ
-column_of column n line counts = rows (λ i. column_at column i (kept_of n line i (count_at_lem counts i))) n
+column_of column n line counts = rows (λ i. column_at column i (kept_of n line i (count_at counts i))) n
 
 -- A part of the sheet of an accepted table can be put, given a scratch with the lines of its single holders: the buffer
 -- has room for it from a place on.

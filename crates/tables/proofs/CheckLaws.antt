@@ -15,7 +15,7 @@ use lib.Dec.{eqb, ltb}
 use lib.ListN.{length}
 use Rattle.tables.proofs.FormatLaws.{ReadSizes}
 use Rattle.tables.proofs.ListLaws.{and_left, and_right}
-use Rattle.tables.specs.Checks.{Check, bad_length, bad_process_count, first_caught, outside, table_checks, too_many_messages, too_short_lem}
+use Rattle.tables.specs.Checks.{Check, bad_length, bad_process_count, first_caught, outside, table_checks, too_many_messages, too_short}
 use Rattle.tables.specs.Format.{messages_in, processes_in, table_length}
 use Rattle.tables.specs.Table.{most_messages, most_processes}
 
@@ -118,8 +118,8 @@ module _ (limit n : ℕ) where
 
 -- ---- checks 1 to 4
 module _ (bytes : List ℕ) where
-  pub not_short : 4 ≤ length bytes → too_short_lem bytes ≡ false
-  unfolding too_short_lem
+  pub not_short : 4 ≤ length bytes → too_short bytes ≡ false
+  unfolding too_short
   not_short l = le-ltb (length bytes) 4 l
 
 module _ {bytes : List ℕ} {n m : ℕ} (read : ReadSizes bytes n m) where

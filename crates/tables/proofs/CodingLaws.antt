@@ -16,7 +16,7 @@ use Rattle.tables.proofs.FormatLaws.{ReadSizes, count_place, count_some, decode-
 use Rattle.tables.proofs.FormatLaws.{receipt_place, received-there, receiver_there, send_place, sender_there, sent_there}
 use Rattle.tables.proofs.ListLaws.{tabulate-append, tabulate_ext}
 use Rattle.tables.proofs.NumberLaws.{later-number, number_at-drop, u16_at-u16s}
-use Rattle.tables.specs.Format.{checkpoint_at, count_at_lem, counts_at, counts_part, decode, encode, entries_of, message_at, messages_in}
+use Rattle.tables.specs.Format.{checkpoint_at, count_at, counts_at, counts_part, decode, encode, entries_of, message_at, messages_in}
 use Rattle.tables.specs.Format.{process_at, processes_in, receipts_at, receipts_of, receipts_part, sends_at, sends_of, sends_part, table_length}
 use Rattle.tables.specs.Lists.{tabulate}
 use Rattle.tables.specs.Numbers.{bytes_of, bytes_of_all, number_at, u16_at, u16s}
@@ -237,7 +237,7 @@ module _ (bytes : List ℕ) where
   abbrev m : ℕ
   m = messages_in bytes
 
-  counts_read : tabulate n (count_at_lem (counts_part bytes)) ≡ tabulate n (λ p. w (suc (suc p)))
+  counts_read : tabulate n (count_at (counts_part bytes)) ≡ tabulate n (λ p. w (suc (suc p)))
   counts_read = tabulate_ext n _ _ (λ p l. count_place bytes p l ∙ ap (u16_at bytes) (count_byte p))
 
   sends_read : sends_of (tabulate m (message_at (sends_part bytes) (receipts_part bytes))) ≡ tabulate (2 * m) (λ i. w (suc (suc (n + i))))

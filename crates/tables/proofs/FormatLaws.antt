@@ -17,7 +17,7 @@ use native.Mathlib.Omega.{arith}
 use lib.ListN.{length, length-append, drop, length-take, length-drop, get_or-eq_default}
 use Rattle.tables.proofs.ListLaws.{get_or_tabulate, length-tabulate}
 use Rattle.tables.proofs.NumberLaws.{length-u16s, number_at-drop, number_at-take}
-use Rattle.tables.specs.Format.{checkpoint_at, count_at_lem, counts_at, counts_part, decode, encode, entries_of, message_at, messages_in}
+use Rattle.tables.specs.Format.{checkpoint_at, count_at, counts_at, counts_part, decode, encode, entries_of, message_at, messages_in}
 use Rattle.tables.specs.Format.{process_at, processes_in, receipts_at, receipts_of, receipts_part, sends_at, sends_of, sends_part, table_length}
 use Rattle.tables.specs.Numbers.{u16_at}
 use Rattle.tables.specs.Table.{Message, Table, count_of, message_count, message_of, no_message, process_count}
@@ -38,15 +38,15 @@ module _ (bytes : List ℕ) (whole : length bytes ≡ table_length (processes_in
 module _ (bytes : List ℕ) where
   pub decode-processes : process_count (decode bytes) ≡ processes_in bytes
   unfolding process_count decode
-  decode-processes = length-tabulate (processes_in bytes) (count_at_lem (counts_part bytes))
+  decode-processes = length-tabulate (processes_in bytes) (count_at (counts_part bytes))
 
   pub decode-messages : message_count (decode bytes) ≡ messages_in bytes
   unfolding message_count decode
   decode-messages = length-tabulate (messages_in bytes) (message_at (sends_part bytes) (receipts_part bytes))
 
-  pub decode_count : (p : ℕ) → p < processes_in bytes → count_of (decode bytes) p ≡ count_at_lem (counts_part bytes) p
+  pub decode_count : (p : ℕ) → p < processes_in bytes → count_of (decode bytes) p ≡ count_at (counts_part bytes) p
   unfolding count_of decode
-  decode_count p l = get_or_tabulate (processes_in bytes) (count_at_lem (counts_part bytes)) p 0 l
+  decode_count p l = get_or_tabulate (processes_in bytes) (count_at (counts_part bytes)) p 0 l
 
   pub decode_message : (k : ℕ) → k < messages_in bytes → message_of (decode bytes) k ≡ message_at (sends_part bytes) (receipts_part bytes) k
   unfolding message_of decode
@@ -54,8 +54,8 @@ module _ (bytes : List ℕ) where
 
 -- where the numbers of the parts stand among the bytes
 module _ (bytes : List ℕ) where
-  pub count_place : (p : ℕ) → p < processes_in bytes → count_at_lem (counts_part bytes) p ≡ u16_at bytes (counts_at + 2 * p)
-  unfolding count_at_lem counts_part
+  pub count_place : (p : ℕ) → p < processes_in bytes → count_at (counts_part bytes) p ≡ u16_at bytes (counts_at + 2 * p)
+  unfolding count_at counts_part
   count_place p l = number_at-take 2 (2 * processes_in bytes) (drop counts_at bytes) (2 * p) (omega arith) ∙ number_at-drop 2 counts_at bytes (2 * p)
 
   module _ (at : ℕ) (l : at + 1 < 4 * messages_in bytes) where

@@ -18,7 +18,7 @@ use lib.ListN.{length, take, drop}
 use Rattle.tables.proofs.AcceptLaws.{facts}
 use Rattle.tables.proofs.FormatLaws.{counts_length, decode_count, decode_message, decode-messages, decode-processes, receipts_length, sends_length}
 use Rattle.tables.specs.Checks.{GoodMessage, table_refusal}
-use Rattle.tables.specs.Format.{checkpoint_at, count_at_lem, counts_at, counts_part, decode, message_at, messages_in}
+use Rattle.tables.specs.Format.{checkpoint_at, count_at, counts_at, counts_part, decode, message_at, messages_in}
 use Rattle.tables.specs.Format.{process_at, processes_in, receipts_at, receipts_part, sends_at, sends_part, table_length}
 use Rattle.tables.specs.Numbers.{u16_at}
 use Rattle.tables.specs.Parts.{Counts, MessageThere, Messages}
@@ -58,10 +58,10 @@ module _ (bytes : List ℕ) (accepted : table_refusal bytes ≡ 0) where
 
   -- ---- their entries
   module _ (p : ℕ) (l : p < N) where
-    pub count_is : count_at_lem (counts_part bytes) p ≡ count_of (decode bytes) p
+    pub count_is : count_at (counts_part bytes) p ≡ count_of (decode bytes) p
     count_is = sym (decode_count bytes p (omega (arith, decode-processes bytes)))
 
-    counts_positive : 0 < count_at_lem (counts_part bytes) p
+    counts_positive : 0 < count_at (counts_part bytes) p
     counts_positive = omega (arith, count_is, (facts bytes accepted).well_formed.some_checkpoint p l)
 
   module _ (k : ℕ) (l : k < M) where
@@ -135,7 +135,7 @@ counts_read {bytes} accepted n_is counts_are =
 -- count p, by the number that was read of it
 pub count_read : {bytes : List ℕ} {n : ℕ} {counts : List ℕ} → ReadCounts bytes n counts → {p : ℕ} → p < n
     → {v : ℕ} → v ≡ u16_at counts (2 * p) → v ≡ count_of (decode bytes) p
-unfolding count_at_lem
+unfolding count_at
 count_read {bytes} read {p} l e =
     e ∙ ap (λ (part : List ℕ). u16_at part (2 * p)) read.counts_are ∙ count_is bytes read.accepted p (omega (arith, read.n_is))
 

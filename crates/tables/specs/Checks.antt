@@ -23,8 +23,8 @@ unfoldable pub outside : ℕ → ℕ → Bool
 outside limit n = eqb n 0 || ltb limit n
 
 -- 1. The table has fewer than 4 bytes.
-unfoldable pub too_short_lem : List ℕ → Bool
-too_short_lem bytes = ltb (length bytes) 4
+unfoldable pub too_short : List ℕ → Bool
+too_short bytes = ltb (length bytes) 4
 
 -- 2. N is 0 or above 32.
 unfoldable pub bad_process_count : List ℕ → Bool
@@ -87,7 +87,7 @@ broken_channel t = broken_below (message_count t) (message_of t)
 unfoldable pub table_checks : List ℕ → List Check
 table_checks bytes =
     let t = decode bytes in
-    record { caught = too_short_lem bytes; number = 1 }
+    record { caught = too_short bytes; number = 1 }
     ∷ record { caught = bad_process_count bytes; number = 2 }
     ∷ record { caught = too_many_messages bytes; number = 3 }
     ∷ record { caught = bad_length bytes; number = 4 }

@@ -43,8 +43,8 @@ unfoldable pub receipts_part : List ℕ → List ℕ
 receipts_part bytes = take (4 * messages_in bytes) (drop (receipts_at (processes_in bytes) (messages_in bytes)) bytes)
 
 -- Entry p of a part of counts.
-unfoldable pub count_at_lem : List ℕ → ℕ → ℕ
-count_at_lem counts p = u16_at counts (2 * p)
+unfoldable pub count_at : List ℕ → ℕ → ℕ
+count_at counts p = u16_at counts (2 * p)
 
 -- The process and the checkpoint of entry k of a part of sends or of receipts.
 unfoldable pub process_at : List ℕ → ℕ → ℕ
@@ -65,7 +65,7 @@ message_at sends receipts k = record {
 -- The table that the bytes give.
 unfoldable pub decode : List ℕ → Table
 decode bytes =
-    table_of (tabulate (processes_in bytes) (count_at_lem (counts_part bytes)))
+    table_of (tabulate (processes_in bytes) (count_at (counts_part bytes)))
     (tabulate (messages_in bytes) (message_at (sends_part bytes) (receipts_part bytes)))
 
 -- The numbers of one array, entry after entry: a process and a checkpoint of each message.

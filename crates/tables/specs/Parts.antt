@@ -1,13 +1,13 @@
 -- Of the code: what it may assume of the parts of an accepted table's bytes. Assumes nothing.
 use Rattle.std.specs.Prelude.{List, ◌≡◌, ℕ, ◌+◌, ◌*◌, ◌≤◌, ◌<◌, length}
-use Rattle.tables.specs.Format.{count_at_lem, process_at}
+use Rattle.tables.specs.Format.{count_at, process_at}
 use Rattle.tables.specs.Table.{most_messages, most_processes}
 
 -- n counts, each at least 1.
 pub record Counts (n : ℕ) (counts : List ℕ) : Type 0 where
   pub few : n ≤ most_processes
   pub size : length counts ≡ 2 * n
-  pub positive : (p : ℕ) → p < n → 0 < count_at_lem counts p
+  pub positive : (p : ℕ) → p < n → 0 < count_at counts p
 
 -- The sends and the receipts of m messages between n processes.
 pub record Messages (n m : ℕ) (sends receipts : List ℕ) : Type 0 where

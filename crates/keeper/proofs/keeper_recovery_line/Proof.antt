@@ -5,7 +5,7 @@ use Rattle.consistency.proofs.CeilingLaws.{set_ceiling}
 use Rattle.consistency.specs.Ceilings.{line_of, recovery_line}
 use Rattle.calls.proofs.AnswerLaws.{call_answered, call_refused, call_short}
 use Rattle.calls.proofs.LineAnswers.{line_judged}
-use Rattle.lines.proofs.LineReads.{all_hold}
+use Rattle.lines.proofs.LineReads.{all_hold_lem}
 use Rattle.calls.specs.Calls.{line_answer, recovery_line_answer}
 use Rattle.process_set.specs.Sets.{all_processes}
 use Rattle.call_checks.proofs.RefusalLaws.{QuietCall, quiet_table}
@@ -40,4 +40,4 @@ keeper_recovery_line_spec =
     let put = c.before.before in
     let size = put.before.before.before in
     call_answered (line_judged (quiet size.before) (set_ceiling _ _)) size.line_size-size.ensures put.before.before.if-answer-size.false
-    (rw (all_hold _ (quiet size.before).accepted) at put.put_line_of_set.ensures)))
+    (rw (all_hold_lem _ (quiet size.before).accepted) at put.put_line_of_set.ensures)))

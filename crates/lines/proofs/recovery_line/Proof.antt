@@ -2,7 +2,7 @@
 -- Assumes nothing.
 use borrow.Author.Rules.{rules}
 use mathlib.Core.Path.{ap, ◌∙◌}
-use Rattle.lines.proofs.LineReads.{all_hold}
+use Rattle.lines.proofs.LineReads.{all_hold_lem}
 use Rattle.process_set.specs.Sets.{all_processes}
 use Rattle.tables.specs.Arrays.{array_of}
 use Rattle.lines.proofs.recovery_line.Statement.{statement}
@@ -14,4 +14,4 @@ recovery_line_spec =
     tie.close
     (tie.spec
     (λ c κs. search rules)
-    (λ c. c.line_of_set.ensures ∙ ap array_of (all_hold _ c.before.before.requires)))
+    (λ c. c.line_of_set.ensures ∙ ap array_of (all_hold_lem _ c.before.before.requires)))

@@ -6,7 +6,7 @@ use Prim.Native.Nat.{◌-◌}
 use Rattle.lines.proofs.LineReads.{height_beyond, height_read}
 use Rattle.tables.proofs.ArrayLaws.{Filling, filling_all, filling_more, filling_none}
 use Rattle.lines.specs.Arrays.{height_at}
-use Rattle.tables.specs.Format.{count_at_lem}
+use Rattle.tables.specs.Format.{count_at}
 use Rattle.tables.specs.Parts.{Counts}
 use Rattle.lines.proofs.ceilings.ceiling.Statement.{statement}
 use Rattle.lines.proofs.ceilings.ceiling.Tie as tie
@@ -23,7 +23,7 @@ turn c = c.before.before
 
 -- ---- the needs, in the code's course
 pub ceiling_spec : {M : Type 1} → statement M
-unfolding count_at_lem
+unfolding count_at
 ceiling_spec =
     tie.close
     (tie.spec

@@ -7,16 +7,16 @@ use Rattle.listing_text.proofs.rows.put_long_row.Statement.{statement}
 use Rattle.listing_text.proofs.rows.put_long_row.Tie as tie
 
 -- ---- the places: the entry, and where the word, the first number and the others were put
-abbrev entry : tie.After-put-word → tie.Start
+abbrev entry : tie.After-put_word-after_word → tie.Start
 entry c = c.before.before.before.before.before
 
-abbrev worded : tie.After-put-field → tie.After-put-word
+abbrev worded : tie.After-put_field-after_first → tie.After-put_word-after_word
 worded c = c.before.before.before.before
 
-abbrev second : tie.After-put-fields → tie.After-put-field
+abbrev second : tie.After-put_fields-after_rest → tie.After-put_field-after_first
 second c = c.before.before.before.before
 
-abbrev third : tie.After-put-byte → tie.After-put-fields
+abbrev third : tie.After-put_byte → tie.After-put_fields-after_rest
 third c = c.before.before.before.before
 
 -- ---- the needs, in the code's course
@@ -27,22 +27,22 @@ put_long_row_spec =
     (λ c κs. part_room (row_more _ {before = []} _ _ c.before.before.before.before.requires))
     (λ c κs.
     let word = c.before.before.before in
-    part_room (part_laid (row_more _ _ _ (entry word).requires) word.put_word.ensures))
+    part_room (part_laid (row_more _ _ _ (entry word).requires) word.put_word-after_word.ensures))
     (λ c κs.
     let first = c.before.before.before in
     let word = worded first in
-    part_room (part_laid (part_laid (row_more _ _ _ (entry word).pre) word.put_word.ensures) first.put-field.ensures))
+    part_room (part_laid (part_laid (row_more _ _ _ (entry word).requires) word.put_word-after_word.ensures) first.put_field-after_first.ensures))
     (λ c κs.
     let last = c.before.before.before in
     let first = second last in
     let word = worded first in
-    let row = part_laid (part_laid (row_more _ _ _ (entry word).pre) word.put_word.ensures) first.put-field.ensures in
-    part_room (part_laid row last.put-fields.ensures))
+    let row = part_laid (part_laid (row_more _ _ _ (entry word).requires) word.put_word-after_word.ensures) first.put_field-after_first.ensures in
+    part_room (part_laid row last.put_fields-after_rest.ensures))
     (λ c. search rules)
     (λ c.
     let feed = c.before.before in
     let last = third feed in
     let first = second last in
     let word = worded first in
-    let row = part_laid (part_laid (row_more _ _ _ (entry word).pre) word.put_word.ensures) first.put-field.ensures in
-    none_left (part_laid (part_laid row last.put-fields.ensures) feed.put_byte.ensures)))
+    let row = part_laid (part_laid (row_more _ _ _ (entry word).requires) word.put_word-after_word.ensures) first.put_field-after_first.ensures in
+    none_left (part_laid (part_laid row last.put_fields-after_rest.ensures) feed.put_byte.ensures)))

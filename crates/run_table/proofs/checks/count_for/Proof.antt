@@ -3,13 +3,13 @@
 use borrow.Author.Rules.{rules}
 use native.Mathlib.Omega.{arith}
 use Rattle.run_table.proofs.ScanLaws.{process_known}
-use Rattle.tables.specs.Format.{count_at_lem, process_at}
+use Rattle.tables.specs.Format.{count_at, process_at}
 use Rattle.run_table.proofs.checks.count_for.Statement.{statement}
 use Rattle.run_table.proofs.checks.count_for.Tie as tie
 
 -- ---- the needs, in the code's course
 pub count_for_spec : {M : Type 1} → statement M
-unfolding process_at count_at_lem
+unfolding process_at count_at
 count_for_spec =
     tie.close
     (tie.spec

@@ -7,7 +7,7 @@ use Rattle.holder_lines.specs.Scratch.{HoldsLines, lines_in}
 use Rattle.sheet_entries.specs.Kept.{kept_of}
 use Rattle.sheet_writer.proofs.PutLaws.{PuttingNumbers, putting_all, putting_length, row_more, row_room, rows_none}
 use Rattle.sheet_writer.specs.SheetParts.{column_at, column_of}
-use Rattle.tables.specs.Format.{count_at_lem}
+use Rattle.tables.specs.Format.{count_at}
 use Rattle.tables.specs.Lists.{rows}
 use Rattle.tables.specs.Parts.{Counts}
 use Rattle.sheet_writer.proofs.writing.put_column.Statement.{statement}
@@ -16,7 +16,7 @@ use Rattle.sheet_writer.proofs.writing.put_column.Tie as tie
 abbrev invariant-loop-i : tie.invariant-loop-i
 invariant-loop-i buffer₀ at column scratch n counts next₀ i₀ buffer next i =
     HoldsLines n scratch × Counts n counts
-    × PuttingNumbers (rows (λ j. column_at column j (kept_of n (lines_in scratch n) j (count_at_lem counts j)))) n buffer₀ at buffer next i
+    × PuttingNumbers (rows (λ j. column_at column j (kept_of n (lines_in scratch n) j (count_at counts j)))) n buffer₀ at buffer next i
 
 abbrev decreases-loop-i : tie.decreases-loop-i
 decreases-loop-i buffer₀ at column scratch n counts next₀ i₀ buffer next i = n - i
@@ -30,7 +30,7 @@ counted c = c.before
 
 -- ---- the needs, in the code's course
 pub put_column_spec : {M : Type 1} → statement M
-unfolding column_of count_at_lem
+unfolding column_of count_at
 put_column_spec =
     tie.close
     (tie.spec

@@ -1,0 +1,49 @@
+-- `keeper_listing` meets its contract, at each return.
+use Rattle.listing_text.proofs.ListingLaws.{listing_answered, listing_ends, listing_longer, listing_refused, sheet_answered, sheet-number}
+use Rattle.listings.proofs.SizeLaws.{text_few}
+use Rattle.listing_text.specs.Rows.{Answered}
+use Rattle.tables.specs.Checks.{table_refusal}
+use Rattle.tables.specs.Format.{decode}
+use lib.Dec.{lit≤}
+use mathlib.Core.Path.{◌≡◌, refl}
+use native.Mathlib.Omega.{arith}
+use Rattle.listing_text.proofs.keeper_listing.Goals as goal
+
+pub put_text-size-requires : goal.put_text-size-requires
+put_text-size-requires c =
+    let answers : table_refusal c.args.table.now ≡ 0
+    → Answered (decode c.args.table.now) c.keeper_keep_sheet-refusal.new.scratch c.keeper_keep_sheet-refusal.new.answer = sheet_answered _ _ _ (lit≤ tt) (lit≤ tt) c.keeper_keep_sheet-refusal.ensures.outcome c.keeper_keep_sheet-refusal.ensures.lines in
+    let refusal_is : c.keeper_keep_sheet-refusal.result ≡ table_refusal c.args.table.now = sheet-number _ _ _ (lit≤ tt) (lit≤ tt) c.keeper_keep_sheet-refusal.ensures.outcome c.keeper_keep_sheet-refusal.ensures.lines in
+    record {
+      refusal_value = refusal_is;
+      answered = answers;
+    }
+
+pub returns-then-text-size : goal.returns-then-text-size
+returns-then-text-size c =
+    let refusal_is : c.keeper_keep_sheet-refusal.result ≡ table_refusal c.args.table.now = sheet-number _ _ _ (lit≤ tt) (lit≤ tt) c.keeper_keep_sheet-refusal.ensures.outcome c.keeper_keep_sheet-refusal.ensures.lines in
+    let few = text_few c.args.table.now (omega (arith, refusal_is)) in
+    let longer = listing_longer _ _ c.put_text-size.ensures c.if-text-size.true in
+    record {
+      outcome = listing_refused _ _ c.put_text-size.ensures c.if-text-size.true;
+      rounded = λ none. absurd (omega (arith, none));
+      fits = λ room. absurd (omega (arith, room, longer, few));
+    }
+
+pub put_text-requires : goal.put_text-requires
+put_text-requires c =
+    let answers : table_refusal c.args.table.now ≡ 0
+    → Answered (decode c.args.table.now) c.keeper_keep_sheet-refusal.new.scratch c.keeper_keep_sheet-refusal.new.answer = sheet_answered _ _ _ (lit≤ tt) (lit≤ tt) c.keeper_keep_sheet-refusal.ensures.outcome c.keeper_keep_sheet-refusal.ensures.lines in
+    let refusal_is : c.keeper_keep_sheet-refusal.result ≡ table_refusal c.args.table.now = sheet-number _ _ _ (lit≤ tt) (lit≤ tt) c.keeper_keep_sheet-refusal.ensures.outcome c.keeper_keep_sheet-refusal.ensures.lines in
+    record {
+      refusal_value = refusal_is;
+      answered = answers;
+    }
+
+pub returns : goal.returns
+returns c =
+    record {
+      outcome = listing_answered _ _ c.put_text-size.ensures c.if-text-size.false c.put_text.ensures;
+      rounded = λ none. listing_ends _ _ c.put_text-size.ensures c.if-text-size.false c.put_text.ensures;
+      fits = λ room. refl;
+    }

@@ -1,0 +1,165 @@
+-- `put_listing` meets its contract: each part is put where the one before it ends.
+use Rattle.listing_text.proofs.ListingLaws.{Reading, holds_lines, kept_is, line_room, line_taken, listing_left, sheet_long, sheet_needs}
+use Rattle.text_writer.proofs.TextLaws.{none_left, part_laid, part_room}
+use Rattle.listings.specs.Listing.{share_row}
+use mathlib.Core.List.{[]}
+use mathlib.Core.Path.{refl}
+use native.Mathlib.Omega.{arith}
+use Rattle.listing_text.proofs.put_listing.Goals as goal
+
+pub u16_at-kept-requires : goal.u16_at-kept-requires
+unfolding share_row
+u16_at-kept-requires c =
+    omega (arith, sheet_long _ _ _ c.requires.answered)
+
+pub u16_at-logged-requires : goal.u16_at-logged-requires
+unfolding share_row
+u16_at-logged-requires c =
+    omega (arith, sheet_long _ _ _ c.requires.answered)
+
+pub slice_bounds-line-end : goal.slice_bounds-line-end
+unfolding share_row
+slice_bounds-line-end c =
+    let reading : Reading c.args.table.now c.process_count-n.result c.recovery_line-line.result c.args.scratch.now
+    c.args.sheet.now c.u16_at-kept.result c.u16_at-logged.result = record {
+      accepted = c.requires.table_value;
+      answered = c.requires.answered;
+      n_is = c.process_count-n.ensures;
+      line_is = c.recovery_line-line.ensures;
+      k_is = c.u16_at-kept.ensures;
+      q_is = c.u16_at-logged.ensures;
+    } in
+    line_room reading
+
+pub slice_bounds-put_line-end : goal.slice_bounds-put_line-end
+unfolding share_row
+slice_bounds-put_line-end c =
+    let reading : Reading c.args.table.now c.process_count-n.result c.recovery_line-line.result c.args.scratch.now
+    c.args.sheet.now c.u16_at-kept.result c.u16_at-logged.result = record {
+      accepted = c.requires.table_value;
+      answered = c.requires.answered;
+      n_is = c.process_count-n.ensures;
+      line_is = c.recovery_line-line.ensures;
+      k_is = c.u16_at-kept.ensures;
+      q_is = c.u16_at-logged.ensures;
+    } in
+    line_taken reading
+
+pub put_line-after_line-requires : goal.put_line-after_line-requires
+unfolding share_row
+put_line-after_line-requires c =
+    let reading : Reading c.args.table.now c.process_count-n.result c.recovery_line-line.result c.args.scratch.now
+    c.args.sheet.now c.u16_at-kept.result c.u16_at-logged.result = record {
+      accepted = c.requires.table_value;
+      answered = c.requires.answered;
+      n_is = c.process_count-n.ensures;
+      line_is = c.recovery_line-line.ensures;
+      k_is = c.u16_at-kept.ensures;
+      q_is = c.u16_at-logged.ensures;
+    } in
+    part_room (listing_left reading {before = []} refl)
+
+pub put_holds-after_holds-requires : goal.put_holds-after_holds-requires
+unfolding share_row
+put_holds-after_holds-requires c =
+    let reading : Reading c.args.table.now c.process_count-n.result c.recovery_line-line.result c.args.scratch.now
+    c.args.sheet.now c.u16_at-kept.result c.u16_at-logged.result = record {
+      accepted = c.requires.table_value;
+      answered = c.requires.answered;
+      n_is = c.process_count-n.ensures;
+      line_is = c.recovery_line-line.ensures;
+      k_is = c.u16_at-kept.ensures;
+      q_is = c.u16_at-logged.ensures;
+    } in
+    let here = reading in
+    record {
+      holds_lines = holds_lines here;
+      fits = part_room (part_laid (listing_left here refl) c.put_line-after_line.ensures);
+    }
+
+pub put_checkpoints-after_checkpoints-requires : goal.put_checkpoints-after_checkpoints-requires
+unfolding share_row
+put_checkpoints-after_checkpoints-requires c =
+    let reading : Reading c.args.table.now c.process_count-n.result c.recovery_line-line.result c.args.scratch.now
+    c.args.sheet.now c.u16_at-kept.result c.u16_at-logged.result = record {
+      accepted = c.requires.table_value;
+      answered = c.requires.answered;
+      n_is = c.process_count-n.ensures;
+      line_is = c.recovery_line-line.ensures;
+      k_is = c.u16_at-kept.ensures;
+      q_is = c.u16_at-logged.ensures;
+    } in
+    let here = reading in
+    let left = part_laid (listing_left here refl) c.put_line-after_line.ensures in
+    record {
+      k_in_bounds = omega (arith, sheet_needs here);
+      fits = part_room (part_laid left c.put_holds-after_holds.ensures);
+    }
+
+pub put_messages-after_messages-requires : goal.put_messages-after_messages-requires
+unfolding share_row
+put_messages-after_messages-requires c =
+    let reading : Reading c.args.table.now c.process_count-n.result c.recovery_line-line.result c.args.scratch.now
+    c.args.sheet.now c.u16_at-kept.result c.u16_at-logged.result = record {
+      accepted = c.requires.table_value;
+      answered = c.requires.answered;
+      n_is = c.process_count-n.ensures;
+      line_is = c.recovery_line-line.ensures;
+      k_is = c.u16_at-kept.ensures;
+      q_is = c.u16_at-logged.ensures;
+    } in
+    let here = reading in
+    let left = part_laid (part_laid (listing_left here refl) c.put_line-after_line.ensures) c.put_holds-after_holds.ensures in
+    record {
+      q_in_bounds = sheet_needs here;
+      fits = part_room (part_laid left c.put_checkpoints-after_checkpoints.ensures);
+    }
+
+pub share_of-requires : goal.share_of-requires
+unfolding share_row
+share_of-requires c =
+    let reading : Reading c.args.table.now c.process_count-n.result c.recovery_line-line.result c.args.scratch.now
+    c.args.sheet.now c.u16_at-kept.result c.u16_at-logged.result = record {
+      accepted = c.requires.table_value;
+      answered = c.requires.answered;
+      n_is = c.process_count-n.ensures;
+      line_is = c.recovery_line-line.ensures;
+      k_is = c.u16_at-kept.ensures;
+      q_is = c.u16_at-logged.ensures;
+    } in
+    record {
+      table_value = c.requires.table_value;
+      kept_value = kept_is reading;
+    }
+
+pub put_row-requires : goal.put_row-requires
+unfolding share_row
+put_row-requires c =
+    let reading : Reading c.args.table.now c.process_count-n.result c.recovery_line-line.result c.args.scratch.now
+    c.args.sheet.now c.u16_at-kept.result c.u16_at-logged.result = record {
+      accepted = c.requires.table_value;
+      answered = c.requires.answered;
+      n_is = c.process_count-n.ensures;
+      line_is = c.recovery_line-line.ensures;
+      k_is = c.u16_at-kept.ensures;
+      q_is = c.u16_at-logged.ensures;
+    } in
+    let left = part_laid (listing_left reading c.share_of.ensures) c.put_line-after_line.ensures in
+    let later = part_laid (part_laid left c.put_holds-after_holds.ensures) c.put_checkpoints-after_checkpoints.ensures in
+    part_room (part_laid later c.put_messages-after_messages.ensures)
+
+pub returns : goal.returns
+unfolding share_row
+returns c =
+    let reading : Reading c.args.table.now c.process_count-n.result c.recovery_line-line.result c.args.scratch.now
+    c.args.sheet.now c.u16_at-kept.result c.u16_at-logged.result = record {
+      accepted = c.requires.table_value;
+      answered = c.requires.answered;
+      n_is = c.process_count-n.ensures;
+      line_is = c.recovery_line-line.ensures;
+      k_is = c.u16_at-kept.ensures;
+      q_is = c.u16_at-logged.ensures;
+    } in
+    let left = part_laid (listing_left reading c.share_of.ensures) c.put_line-after_line.ensures in
+    let later = part_laid (part_laid left c.put_holds-after_holds.ensures) c.put_checkpoints-after_checkpoints.ensures in
+    none_left (part_laid (part_laid later c.put_messages-after_messages.ensures) c.put_row.ensures)

@@ -1,0 +1,36 @@
+-- `rows::put_checkpoints` meets its contract. The invariant: the rows of the first e checkpoints are laid (`Laying`). The measure: the rows that are left.
+use Prim.Native.Nat.{◌-◌}
+use Rattle.listing_text.proofs.RowLaws.{checkpoint_read}
+use Rattle.text_writer.proofs.TextLaws.{Laying, laying_all, laying_length, laying_more, laying_none, laying_room}
+use Rattle.listings.specs.Listing.{checkpoint_row}
+use Rattle.listing_text.specs.Rows.{checkpoint_at, checkpoint_rows}
+use mathlib.Core.Path.{refl}
+use native.Mathlib.Omega.{arith}
+use Rattle.listing_text.proofs.rows.put_checkpoints.Goals as goal
+
+pub loop-e-init : goal.loop-e-init
+unfolding checkpoint_rows checkpoint_row
+loop-e-init c =
+    laying_none refl c.requires.fits
+
+pub put_long_row-next-requires : goal.put_long_row-next-requires
+unfolding checkpoint_rows checkpoint_row
+put_long_row-next-requires c =
+    laying_room c.loop-e.invariant (checkpoint_read _ _ _ c.u16_at-process.ensures c.u16_at.ensures)
+    c.loop-e-test.true
+
+pub loop-e-preserved : goal.loop-e-preserved
+unfolding checkpoint_rows checkpoint_row
+loop-e-preserved c =
+    laying_more c.loop-e.invariant (checkpoint_read _ _ _ c.u16_at-process.ensures c.u16_at.ensures)
+    c.loop-e-test.true c.put_long_row-next.ensures
+
+pub shape_of-text : goal.shape_of-text
+unfolding checkpoint_rows checkpoint_row
+shape_of-text c =
+    laying_length c.loop-e.invariant
+
+pub returns : goal.returns
+unfolding checkpoint_rows checkpoint_row
+returns c =
+    laying_all c.loop-e.invariant c.loop-e-test.false

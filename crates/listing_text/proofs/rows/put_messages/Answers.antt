@@ -1,0 +1,34 @@
+-- `rows::put_messages` meets its contract. The invariant: the rows of the first e positions are laid (`Laying`). The measure: the rows that are left.
+use Prim.Native.Nat.{◌+◌, ◌-◌, ◌*◌}
+use Rattle.text_writer.proofs.TextLaws.{Laying, laying_all, laying_length, laying_more, laying_none, laying_room}
+use Rattle.listings.specs.Listing.{message_row}
+use Rattle.listing_text.specs.Rows.{message_rows}
+use Rattle.tables.specs.Numbers.{u16_at}
+use mathlib.Core.Path.{ap, refl}
+use native.Mathlib.Omega.{arith}
+use Rattle.listing_text.proofs.rows.put_messages.Goals as goal
+
+pub loop-e-init : goal.loop-e-init
+unfolding message_rows message_row
+loop-e-init c =
+    laying_none refl c.requires.fits
+
+pub put_row-next-requires : goal.put_row-next-requires
+unfolding message_rows message_row
+put_row-next-requires c =
+    laying_room c.loop-e.invariant (ap message_row c.u16_at-position.ensures) c.loop-e-test.true
+
+pub loop-e-preserved : goal.loop-e-preserved
+unfolding message_rows message_row
+loop-e-preserved c =
+    laying_more c.loop-e.invariant (ap message_row c.u16_at-position.ensures) c.loop-e-test.true c.put_row-next.ensures
+
+pub shape_of-text : goal.shape_of-text
+unfolding message_rows message_row
+shape_of-text c =
+    laying_length c.loop-e.invariant
+
+pub returns : goal.returns
+unfolding message_rows message_row
+returns c =
+    laying_all c.loop-e.invariant c.loop-e-test.false

@@ -1,0 +1,15 @@
+-- `rows::put_messages` meets its contract. The invariant: the rows of the first e positions are laid (`Laying`). The measure: the rows that are left.
+use Prim.Native.Nat.{◌+◌, ◌-◌, ◌*◌}
+use Rattle.text_writer.proofs.TextLaws.{Laying, laying_all, laying_length, laying_more, laying_none, laying_room}
+use Rattle.listings.specs.Listing.{message_row}
+use Rattle.listing_text.specs.Rows.{message_rows}
+use Rattle.tables.specs.Numbers.{u16_at}
+use mathlib.Core.Path.{ap, refl}
+use native.Mathlib.Omega.{arith}
+use Rattle.listing_text.proofs.rows.put_messages.Given as goal
+
+abbrev pub invariant-loop-e : goal.invariant-loop-e
+invariant-loop-e l = Laying (λ j. message_row (u16_at l.sheet (4 + 4 * l.k + 2 * j))) l.q (message_rows l.sheet l.k l.q) l.initial.text l.at l.text l.next l.e
+
+abbrev pub decreases-loop-e : goal.decreases-loop-e
+decreases-loop-e l = l.q - l.e
