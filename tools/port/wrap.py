@@ -33,6 +33,30 @@ def broken(line, limit):
     return [f"{head}{{{', '.join(r)}}}{end}" for r in out]
 
 
+def parted(line, limit):
+    """A line of a definition, a clause or a proof, broken where the fewest parentheses are open."""
+    out = []
+    indent = re.match(r"\s*", line).group(0)
+    more = indent + "    "
+    while size(line) > limit and not line.lstrip().startswith("--") and not line.lstrip().startswith("//"):
+        depth, best = 0, None
+        for i, ch in enumerate(line):
+            depth += ch in "([{"
+            depth -= ch in ")]}"
+            if size(line[: i + 1]) > limit:
+                break
+            if ch == " " and line[:i].strip() and size(line[:i]) > limit // 2 and not line[:i].endswith((" λ", " let", ":", " →", "λ")):
+                after = line[i + 1 :]
+                here = (depth, 0 if after.startswith(("→ ", "∙ ", "≡ ", "× ")) else 1, -i)
+                if best is None or here <= best[0]:
+                    best = (here, i)
+        if best is None:
+            break
+        out.append(line[: best[1]])
+        line = more + line[best[1] + 1 :]
+    return out + [line]
+
+
 def unfolded(lines, i, limit):
     """The lines of an `unfolding`, laid out anew, and where they end."""
     j = i + 1
@@ -64,7 +88,7 @@ def main():
                 out += new if any(size(l) > limit for l in lines[i:j]) else lines[i:j]
                 i = j
             else:
-                out += broken(lines[i], limit) if size(lines[i]) > limit else [lines[i]]
+                out += [b for l in broken(lines[i], limit) for b in parted(l, limit)] if size(lines[i]) > limit else [lines[i]]
                 i += 1
         if out != lines:
             open(p, "w", encoding="utf-8").write("\n".join(out))

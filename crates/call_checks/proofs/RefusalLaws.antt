@@ -24,7 +24,8 @@ use Rattle.process_set.specs.Sets.{high_bit, some_high_bit}
 use Rattle.steps.specs.Steps.{receipt_checks, send_checks}
 use Rattle.call_checks.specs.CallChecks.{checkpoint_call_checks, keep_sheet_checks, line_of_set_checks, line_under_checks, marked_line_checks, on_table}
 use Rattle.call_checks.specs.CallChecks.{lines_of_sets_checks, most_sets, receipt_call_checks, send_call_checks, stand_together_checks}
-use Rattle.tables.proofs.CheckLaws.{append_passed, are_refusals, caught_first, caught_by, passed, quiet_front, quiet_none, quiet_number, stopped, table_refusals}
+use Rattle.tables.proofs.CheckLaws.{append_passed, are_refusals, caught_first, caught_by, passed, quiet_front, quiet_none, quiet_number, stopped}
+use Rattle.tables.proofs.CheckLaws.{table_refusals}
 use Rattle.tables.proofs.ListLaws.{none_below}
 use Rattle.tables.specs.Checks.{Check, first_caught, table_checks, table_refusal}
 use Rattle.tables.specs.Format.{decode}
@@ -82,7 +83,8 @@ quiet_by {checks = checks} q = quiet_number checks q.quiet.refusals q.quiet.quie
 pub more_left : {table : List ℕ} {checks : List Check} → QuietCall table checks → (more : List Check) → ChecksLeft (checks ++ more) more
 more_left {checks = checks} q more = record { same = append_passed checks more q.quiet.refusals q.quiet.quiet }
 
-quiet_front_call : {table : List ℕ} (checks last : List Check) → are_refusals checks ≡ true → QuietCall table (checks ++ last) → QuietCall table checks
+quiet_front_call : {table : List ℕ} (checks last : List Check) → are_refusals checks ≡ true → QuietCall table (checks ++ last)
+    → QuietCall table checks
 quiet_front_call checks last refusals q =
     record { accepted = q.accepted; quiet = record { refusals = refusals; quiet = quiet_front checks last q.quiet.quiet } }
 
@@ -155,7 +157,8 @@ module _ (table : List ℕ) where
     unfolding marked_line_checks line_under_checks table_checks caught_by
     marks_long = ltb-false bytes (marks_size (decode table)) (quiet_by q 19)
 
-  pub quiet_receipt : (i : ℕ) (list : List ℕ) → QuietCall table (checkpoint_call_checks table i list) → QuietCall table (receipt_call_checks table i list)
+  pub quiet_receipt : (i : ℕ) (list : List ℕ) → QuietCall table (checkpoint_call_checks table i list)
+      → QuietCall table (receipt_call_checks table i list)
   unfolding checkpoint_call_checks receipt_call_checks receipt_checks table_checks are_refusals
   quiet_receipt i list = quiet_front_call _ _ refl
 

@@ -10,7 +10,8 @@ use Rattle.consistency.proofs.CeilingLaws.{ceiling_checked}
 use Rattle.marking.proofs.SameLine.{same_line}
 use Rattle.marking.specs.Procedure.{EndsWith}
 use Rattle.tables.proofs.AcceptLaws.{facts}
-use Rattle.tables.specs.Checks.{bad_count, bad_length, bad_process_count, bad_receipt, bad_send, broken_below, broken_channel, first_caught, out_of_turn, outside}
+use Rattle.tables.specs.Checks.{bad_count, bad_length, bad_process_count, bad_receipt, bad_send, broken_below, broken_channel, first_caught, out_of_turn}
+use Rattle.tables.specs.Checks.{outside}
 use Rattle.tables.specs.Checks.{same_channel, table_checks, table_refusal, to_itself, too_many_messages, too_short, unknown_process, waits}
 use Rattle.tables.specs.Format.{checkpoint_at, count_at, counts_part, decode, encode, entries_of, message_at, messages_in, process_at, processes_in}
 use Rattle.tables.specs.Format.{receipts_part, sends_part}
@@ -28,7 +29,8 @@ use Rattle.calls.specs.Calls.{checkpoint_answer, keep_sheet_answer, line_answer,
 use Rattle.calls.specs.Calls.{lines_of_sets, lines_of_sets_answer, lines_unless, recovery_line_answer, rollback_answer, scratch_of_sets, send_answer}
 use Rattle.calls.specs.Calls.{stand_together_answer, standing_bytes}
 use Rattle.marks.specs.Room.{marks_size}
-use Rattle.call_checks.specs.CallChecks.{checkpoint_call_checks, keep_sheet_checks, line_of_set_checks, line_under_checks, marked_line_checks, receipt_call_checks}
+use Rattle.call_checks.specs.CallChecks.{checkpoint_call_checks, keep_sheet_checks, line_of_set_checks, line_under_checks, marked_line_checks}
+use Rattle.call_checks.specs.CallChecks.{receipt_call_checks}
 use Rattle.call_checks.specs.CallChecks.{lines_of_sets_checks, most_sets, send_call_checks, stand_together_checks}
 use Rattle.zigzag.specs.Names.{not_below_counts, unknown_named}
 use Rattle.zigzag.specs.Paths.{first, received_in, then}
@@ -42,8 +44,8 @@ use Rattle.calls.specs.Cases.{all_sets_hold, thirty_two, three_of_two}
 -- a statement for each table of cases, by what all of them compute
 pub all_cases : (all_hold marked_cases ≡ true) × (all_hold ceiling_cases ≡ true) × (all_hold marking_cases ≡ true) × (all_hold receipt_cases ≡ true)
     × (all_hold channel_cases ≡ true) × (all_hold standing_cases ≡ true) × (all_hold send_cases ≡ true)
-unfolding first_caught outside too_short bad_process_count too_many_messages bad_length bad_count unknown_process to_itself bad_send bad_receipt same_channel waits
-    out_of_turn broken_below broken_channel table_checks table_refusal processes_in messages_in counts_part sends_part receipts_part count_at process_at
+unfolding first_caught outside too_short bad_process_count too_many_messages bad_length bad_count unknown_process to_itself bad_send bad_receipt same_channel
+    waits out_of_turn broken_below broken_channel table_checks table_refusal processes_in messages_in counts_part sends_part receipts_part count_at process_at
     checkpoint_at message_at decode entries_of encode number_at bytes_of bytes_of_all tabulate any any_below process_count message_count count_of message_of
     ceiling_of line_of recovery_line single is_orphan lower pass passes sum line_under member high_bit stays put_back remaining after_rollback holder_line
     keeps_checkpoint crosses keeps_message select rows kept_checkpoints kept_messages sheet unless answer line_answer recovery_line_answer line_of_set_checks
@@ -57,8 +59,8 @@ all_cases = (refl, refl, refl, refl, refl, refl, refl)
 
 -- and of many sets, with their scratch
 pub all_set_cases : (all_sets_hold set_cases ≡ true) × (scratch_cases ≡ true)
-unfolding first_caught outside too_short bad_process_count too_many_messages bad_length bad_count unknown_process to_itself bad_send bad_receipt same_channel waits
-    out_of_turn broken_below broken_channel table_checks table_refusal processes_in messages_in counts_part sends_part receipts_part count_at process_at
+unfolding first_caught outside too_short bad_process_count too_many_messages bad_length bad_count unknown_process to_itself bad_send bad_receipt same_channel
+    waits out_of_turn broken_below broken_channel table_checks table_refusal processes_in messages_in counts_part sends_part receipts_part count_at process_at
     checkpoint_at message_at decode entries_of encode number_at bytes_of bytes_of_all tabulate any any_below process_count message_count count_of message_of
     ceiling_of line_of recovery_line single is_orphan lower pass passes sum line_under member high_bit stays put_back remaining after_rollback holder_line
     keeps_checkpoint crosses keeps_message select rows kept_checkpoints kept_messages sheet unless answer line_answer recovery_line_answer line_of_set_checks
@@ -67,8 +69,8 @@ unfolding first_caught outside too_short bad_process_count too_many_messages bad
     marked_line_answer marking_cases waits_for bad_position not_rising_after not_rising passes_over receipt_checks received_at after_receipt after_checkpoint
     receipt_call_checks checkpoint_call_checks receipt_answer checkpoint_answer crossing one_message full receipt_cases channel_with full_receiver channel_cases
     unknown_named not_below_counts put_named named_ceiling named_line misses stand_together_checks standing_bytes stand_together_answer figure_one one_interval
-    standing_cases send_checks after_send send_call_checks send_answer send_cases some_high_bit most_sets lines_of_sets_checks lines_of_sets lines_of_sets_answer holder_lines
-    lines_unless scratch_of_sets three_of_two thirty_two set_cases scratch_cases all_sets_hold
+    standing_cases send_checks after_send send_call_checks send_answer send_cases some_high_bit most_sets lines_of_sets_checks lines_of_sets
+    lines_of_sets_answer holder_lines lines_unless scratch_of_sets three_of_two thirty_two set_cases scratch_cases all_sets_hold
 all_set_cases = (refl, refl)
 
 pub marked_cases_lem : all_hold marked_cases ≡ true
@@ -76,10 +78,10 @@ marked_cases_lem = all_cases.0
 
 -- by the theorem: the procedure ends, and with the computed line
 pub marking_example : MarkingExample
-unfolding first_caught outside too_short bad_process_count too_many_messages bad_length bad_count unknown_process to_itself bad_send bad_receipt same_channel waits
-    out_of_turn broken_below broken_channel table_checks table_refusal processes_in messages_in counts_part sends_part receipts_part count_at process_at
-    checkpoint_at message_at decode number_at bytes_of bytes_of_all tabulate any any_below process_count message_count count_of message_of is_orphan lower pass passes sum
-    line_under case_table like_a above_counts MarkingExample
+unfolding first_caught outside too_short bad_process_count too_many_messages bad_length bad_count unknown_process to_itself bad_send bad_receipt same_channel
+    waits out_of_turn broken_below broken_channel table_checks table_refusal processes_in messages_in counts_part sends_part receipts_part count_at process_at
+    checkpoint_at message_at decode number_at bytes_of bytes_of_all tabulate any any_below process_count message_count count_of message_of is_orphan lower pass
+    passes sum line_under case_table like_a above_counts MarkingExample
 marking_example =
     let ceilings : List ℕ = 2 ∷ 2 ∷ [] in
     let agrees = same_line (decode table_a) (facts table_a refl).well_formed ceilings (ceiling_checked (decode table_a) ceilings refl refl) in
@@ -88,8 +90,8 @@ marking_example =
 -- process 0 sent message 3 after its checkpoint 2; process 1 received it in interval 1, in which it sent message 2; and process 0 received
 -- that before its checkpoint 2
 pub zigzag_example : ZigzagExample
-unfolding processes_in messages_in counts_part sends_part receipts_part count_at process_at checkpoint_at message_at decode number_at bytes_of bytes_of_all tabulate
-    message_of case_table like_a received_in ZigzagExample
+unfolding processes_in messages_in counts_part sends_part receipts_part count_at process_at checkpoint_at message_at decode number_at bytes_of bytes_of_all
+    tabulate message_of case_table like_a received_in ZigzagExample
 zigzag_example = record {
   last = 2;
   chain =

@@ -97,7 +97,8 @@ sets_promise table sets numbers = record {
   Leaves = λ buffer _. HoldsLineOfEach table sets buffer;
 }
 
-pub sets_judged : (table sets : List ℕ) (numbers : ℕ) → QuietCall table (lines_of_sets_checks table sets numbers) → Judged (sets_promise table sets numbers)
+pub sets_judged : (table sets : List ℕ) (numbers : ℕ) → QuietCall table (lines_of_sets_checks table sets numbers)
+    → Judged (sets_promise table sets numbers)
 unfolding HoldsLineOfEach
 sets_judged table sets numbers q = record {
   quiet = q.quiet;

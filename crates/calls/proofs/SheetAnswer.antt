@@ -20,7 +20,8 @@ use Rattle.tables.specs.Format.{decode}
 use Rattle.tables.specs.Numbers.{put_at}
 
 module _ (table scratch : List ℕ) where
-  pub scratch_kept : {r : ℕ} → r ≡ first_caught (keep_sheet_checks table (length scratch)) → (r ≡ 0 → ⊥) → scratch ≡ scratch_after table scratch
+  pub scratch_kept : {r : ℕ} → r ≡ first_caught (keep_sheet_checks table (length scratch)) → (r ≡ 0 → ⊥) → scratch
+      ≡ scratch_after table scratch
   unfolding scratch_after lines_unless
   scratch_kept {r = zero} e nonzero = absurd (nonzero refl)
   scratch_kept {r = suc n} e nonzero = ap (λ (r : ℕ). lines_unless r (holder_lines (decode table)) scratch) e
@@ -40,7 +41,8 @@ sheet_promise table numbers kept logged = record {
 }
 
 pub sheet_judged : {table : List ℕ} (numbers : ℕ) → QuietCall table (keep_sheet_checks table numbers) → {kept logged : ℕ}
-    → kept ≡ length (kept_checkpoints (decode table)) → logged ≡ length (kept_messages (decode table)) → Judged (sheet_promise table numbers kept logged)
+    → kept ≡ length (kept_checkpoints (decode table)) → logged ≡ length (kept_messages (decode table))
+    → Judged (sheet_promise table numbers kept logged)
 sheet_judged {table} numbers q kept_is logged_is = record {
   quiet = q.quiet;
   sized = omega (arith, sheet-length (decode table));

@@ -95,7 +95,8 @@ module _ (table : List ℕ) (accepted : table_refusal table ≡ 0) (before after
         let inside : get_or qs n d < message_count t = ((messages_listed t (get_or qs n d)).0 (listed_at qs n d l)).0 in
         ap (u16_at after) (omega (arith, read_kept, sizes.0, sizes.1))
         ∙ read (suc (suc (length ps + (length ss + n)))) (get_or qs n d) (omega (arith, size, sizes.0, sizes.1))
-        (get_or-append-add ps (ss ++ qs) (length ss + n) 0 ∙ get_or-append-add ss qs n 0 ∙ any_default qs n 0 d l) (omega (arith, messages_few table accepted))
+        (get_or-append-add ps (ss ++ qs) (length ss + n) 0 ∙ get_or-append-add ss qs n 0 ∙ any_default qs n 0 d l)
+        (omega (arith, messages_few table accepted))
 
   abbrev demand : Demand3 t
   demand = demand_3 t (facts table accepted).well_formed

@@ -1,6 +1,7 @@
 -- The answer of each call, from the table's bytes, its other arguments and the length of the answer buffer. The checks
 -- before 16 are those of `refusals`. Assumes nothing.
-use Rattle.std.specs.Prelude.{cond, true, List, [], ◌++◌, ◌↔◌, ◌≡◌, ℕ, zero, suc, ◌+◌, ◌*◌, ◌≤◌, ◌<◌, get_or, length, take, drop}
+use Rattle.std.specs.Prelude.{cond, true, List, [], ◌++◌, ◌↔◌, ◌≡◌, ℕ, zero, suc, ◌+◌, ◌*◌}
+use Rattle.std.specs.Prelude.{◌≤◌, ◌<◌, get_or, length, take, drop}
 use Rattle.consistency.specs.Ceilings.{ceiling_of, holder_lines, line_of}
 use Rattle.consistency.specs.Lines.{AtOrBelow, Latest, Line, as_line}
 use Rattle.consistency.specs.Lowering.{line_under}
@@ -11,8 +12,10 @@ use Rattle.calls.specs.Answers.{Answer, Yields, answer, answered}
 use Rattle.marking.specs.Procedure.{EndsWith}
 use Rattle.marks.specs.Room.{cleared, marks_size}
 use Rattle.process_set.specs.Sets.{member}
-use Rattle.call_checks.specs.CallChecks.{checkpoint_call_checks, keep_sheet_checks, line_of_set_checks, line_under_checks}
-use Rattle.call_checks.specs.CallChecks.{lines_of_sets_checks, marked_line_checks, receipt_call_checks, send_call_checks}
+use Rattle.call_checks.specs.CallChecks.{checkpoint_call_checks, keep_sheet_checks, line_of_set_checks}
+use Rattle.call_checks.specs.CallChecks.{line_under_checks}
+use Rattle.call_checks.specs.CallChecks.{lines_of_sets_checks, marked_line_checks, receipt_call_checks}
+use Rattle.call_checks.specs.CallChecks.{send_call_checks}
 use Rattle.call_checks.specs.CallChecks.{stand_together_checks}
 use Rattle.tables.specs.Checks.{Accepted, Check, first_caught, table_checks}
 use Rattle.tables.specs.Format.{decode, encode}
@@ -36,8 +39,8 @@ unfoldable pub line_of_set_answer : List ℕ → ℕ → ℕ → Answer
 line_of_set_answer table set room =
     line_answer (line_of_set_checks table set) table (ceiling_of (decode table) (member set)) room
 
--- The recovery line of the run: that under the ceiling of all processes, which is `recovery_line` of the table, the line
--- that futures and rollbacks speak of. Checks: the table's, 16.
+-- The recovery line of the run: that under the ceiling of all processes, which is `recovery_line` of the table, the
+-- line that futures and rollbacks speak of. Checks: the table's, 16.
 unfoldable pub recovery_line_answer : List ℕ → ℕ → Answer
 recovery_line_answer table room = line_answer (table_checks table) table (ceiling_of (decode table) (λ p. true)) room
 
@@ -87,7 +90,8 @@ HoldsLineOfEach table sets buffer =
 pub record YieldsByMarking (table ceilings : List ℕ) (bytes room number : ℕ) (buffer buffer' : List ℕ)
     (written written' : ℕ) : Type 0 where
   pub roots : List ℕ
-  pub by_marking : first_caught (marked_line_checks table ceilings bytes) ≡ 0 → EndsWith (decode table) ceilings roots
+  pub by_marking : first_caught (marked_line_checks table ceilings bytes) ≡ 0
+      → EndsWith (decode table) ceilings roots
   pub yields : Yields (answer (marked_line_checks table ceilings bytes) (u16s roots) room) number buffer buffer'
       written written'
 
@@ -131,7 +135,8 @@ pub record TellsTogether (t : Table) (processes states : List ℕ) (number : ℕ
 -- ---- the steps
 -- The table after a send: its checks, 16.
 unfoldable pub send_answer : List ℕ → ℕ → ℕ → ℕ → Answer
-send_answer table from to room = answer (send_call_checks table from to) (encode (after_send (decode table) from to)) room
+send_answer table from to room =
+    answer (send_call_checks table from to) (encode (after_send (decode table) from to)) room
 
 -- The table after a receipt: its checks, 16.
 unfoldable pub receipt_answer : List ℕ → ℕ → List ℕ → ℕ → Answer

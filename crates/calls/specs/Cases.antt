@@ -114,7 +114,11 @@ marked_cases =
     -- C: its hold lines and its sheet
     ∷ record { table = table_c; call = hold 1; expected = answered (u16s (0 ∷ 4 ∷ [])) }
     ∷ record { table = table_c; call = hold 2; expected = answered (u16s (1 ∷ 3 ∷ [])) }
-    ∷ record { table = table_c; call = keep_sheet; expected = answered (u16s (2 ∷ 0 ∷ 0 ∷ 1 ∷ 0 ∷ 3 ∷ [])) }
+    ∷ record {
+      table = table_c;
+      call = keep_sheet;
+      expected = answered (u16s (2 ∷ 0 ∷ 0 ∷ 1 ∷ 0 ∷ 3 ∷ []));
+    }
     -- D: its line, its hold lines and its sheet
     ∷ record { table = table_d; call = recovery_line; expected = answered (u16s (0 ∷ 0 ∷ [])) }
     ∷ record { table = table_d; call = hold 1; expected = answered (u16s (0 ∷ 0 ∷ [])) }

@@ -1,6 +1,7 @@
 -- Of the code: each message beside the one before it in its channel. A law says that this finds what all pairs of
 -- positions do. Assumes nothing.
-use Rattle.std.specs.Prelude.{Bool, cond, false, List, ◌≡◌, ℕ, zero, suc, ◌+◌, ◌*◌, ◌<◌, eqb, get_or, length}
+use Rattle.std.specs.Prelude.{Bool, cond, false, List, ◌≡◌, ℕ, zero, suc, ◌+◌, ◌*◌, ◌<◌, eqb}
+use Rattle.std.specs.Prelude.{get_or, length}
 use Rattle.tables.specs.Checks.{out_of_turn}
 use Rattle.tables.specs.Format.{process_at}
 use Rattle.tables.specs.Table.{Message}

@@ -67,7 +67,8 @@ pub record Chases (m : ℕ) (sends receipts start cursors line stack : List ℕ)
   pub room : height + idle stacked ≤ most_processes
 
 -- at first every process is on the stack
-pub chase_begins : {n m : ℕ} {sends receipts cursors stack : List ℕ} (start : List ℕ) → Messages most_processes m sends receipts → n ≤ most_processes
+pub chase_begins : {n m : ℕ} {sends receipts cursors stack : List ℕ} (start : List ℕ) → Messages most_processes m sends receipts
+    → n ≤ most_processes
     → Placed m cursors → stack ≡ tabulate 32 (λ p. p) → Chases m sends receipts start cursors start stack (tabulate 32 (λ _. true)) n
 chase_begins start given few placed all = record {
   given = given;

@@ -243,7 +243,8 @@ line_monotone ms ceiling ceiling' below =
     latest_monotone ms (as_line ceiling) (as_line ceiling') _ _ below (line_latest ms ceiling) (line_latest ms ceiling')
 
 -- any start between the line and its ceiling ends at the same line
-pub line_from : (ms : List Message) (ceiling start : List ℕ) → length start ≡ length ceiling → AtOrBelow (as_line (line_under ms ceiling)) (as_line start)
+pub line_from : (ms : List Message) (ceiling start : List ℕ) → length start ≡ length ceiling
+    → AtOrBelow (as_line (line_under ms ceiling)) (as_line start)
     → AtOrBelow (as_line start) (as_line ceiling) → line_under ms start ≡ line_under ms ceiling
 line_from ms ceiling start e above below =
     sym (line_is ms start (line_under ms ceiling) (line_length ms ceiling ∙ sym e)

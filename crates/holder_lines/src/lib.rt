@@ -55,7 +55,8 @@ pub fn line_of_holder(table: &[u8], k: usize, propagates: bool, few: &mut bool) 
 // a few passes did not settle a line, they are not tried for the next ones.
 pub fn fill_lines(table: &[u8], scratch: &mut [u16])
     requires table_value { table_refusal table.now ≡ 0 }
-    requires table_in_bounds { process_count (decode table.now) * process_count (decode table.now) ≤ length scratch.old }
+    requires table_in_bounds { process_count (decode table.now) * process_count (decode table.now) ≤ length
+        scratch.old }
     ensures { scratch.new
         ≡ put_at scratch.old 0 (holder_lines (decode table.now)) }
 {

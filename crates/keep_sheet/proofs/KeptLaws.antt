@@ -283,7 +283,8 @@ module _ (t : Table) where
         ap (keeps_checkpoint t i) (sym same) ∙ ((select_listed (keeps_checkpoint t i) (count_of t i) entry.0).0 entry.1).1,
       )
 
-  pub checkpoints_listed : (i c : ℕ) → Listed {A = Checkpoint} (record { process = i; number = c }) (kept_checkpoints t) ↔ (keeps_checkpoint t i c ≡ true)
+  pub checkpoints_listed : (i c : ℕ) → Listed {A = Checkpoint} (record { process = i; number = c }) (kept_checkpoints t) ↔
+      (keeps_checkpoint t i c ≡ true)
   unfolding kept_checkpoints
   checkpoints_listed i c = (there, back)
     where
@@ -331,6 +332,7 @@ module _ (t : Table) where
       never x (inl h) = omega arith
       never x (inr h) = omega (arith, h.1)
 
-  pub messages_once : (a b d : ℕ) → a < length (kept_messages t) → b < length (kept_messages t) → get_or (kept_messages t) a d ≡ get_or (kept_messages t) b d
+  pub messages_once : (a b d : ℕ) → a < length (kept_messages t) → b < length (kept_messages t) → get_or (kept_messages t) a d
+      ≡ get_or (kept_messages t) b d
       → a ≡ b
   messages_once = ordered_once ◌<◌ (λ x h. omega arith) (kept_messages t) messages_ordered

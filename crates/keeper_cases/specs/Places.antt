@@ -9,4 +9,5 @@ scratch_size = 1216
 -- How many numbers of the scratch hold lines, of n processes, 32 at most: n of n numbers after a keep sheet, and after
 -- the refusal of its buffer; none after another call.
 unfoldable pub line_numbers : Bool → ℕ → ℕ → ℕ
-line_numbers sheet number n = cond (not sheet || ltb most_processes n) 0 (cond (eqb number 0 || eqb number 16) (n * n) 0)
+line_numbers sheet number n =
+    cond (not sheet || ltb most_processes n) 0 (cond (eqb number 0 || eqb number 16) (n * n) 0)

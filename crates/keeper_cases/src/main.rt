@@ -25,8 +25,9 @@ ghost use Rattle.std.specs.Prelude.{◌≡◌, ◌+◌, ◌-◌, ◌≤◌, drop
 ghost use Rattle.keeper_cases.specs.Places.{line_numbers, scratch_size};
 ghost use Rattle.test_kit.specs.Guards.{guards, most_room, space_size};
 
-use libc::STDIN_FILENO;
 use number_writer::put_numbers;
+use std::io;
+use std::io::Write;
 use tables::format::MOST_PROCESSES;
 use test_kit::guards::{GUARDS, MOST_ROOM, answer_end, is_guarded};
 use test_kit::{
@@ -36,6 +37,7 @@ use test_script::{
     Line, MOST_CEILINGS, ceilings_of, lent, line_at, numbers_in, says, size, size_up_to, small,
     smalls,
 };
+use whole_input::read_into;
 
 // What `ask` answers of a line that asks for no call: no refusal has this number.
 const NO_CALL: u32 = 4294967295;
@@ -97,7 +99,7 @@ fn stand_together(table: &[u8], line: Line, answer: &mut [u8], written: &mut usi
 }
 
 // A call that a line asks for.
-#[derive(Drop)]
+#[derive(Clone, Copy)]
 enum Call {
     Recovery,
     Hold,
@@ -213,6 +215,7 @@ fn scratch_of(sheet: bool, list: &[u64; 16]) -> usize {
 
 // How many numbers of the scratch a call for n processes fills: a keep sheet, also under 16, with n
 // lines of n numbers.
+#[tactic(auto, unfolding(crate::specs::Places::line_numbers))]
 fn line_numbers(sheet: bool, number: u32, n: usize) -> usize
     ensures { (result ≤ 1024) × (result ≡ line_numbers sheet number n) }
 {
@@ -231,17 +234,18 @@ fn line_numbers(sheet: bool, number: u32, n: usize) -> usize
 }
 
 // Prints the lines, if there are any: their numbers or a checksum of them.
-fn show_lines(lines: &[u8]) {
+fn show_lines<W: Write>(out: &mut W, lines: &[u8]) -> io::Result<()> {
     if lines.len() == 0 {
-        return;
+        return Ok(());
     }
-    word(b" lines");
-    numbers(lines);
+    word(out, b" lines")?;
+    numbers(out, lines)
 }
 
 // Prints what a call left in the guarded buffer and in the guarded scratch, and `ok` if the rest of both
 // is as it was. Says where the answer ends.
-fn show(
+fn show<W: Write>(
+    out: &mut W,
     sheet: bool,
     number: u32,
     written: usize,
@@ -249,7 +253,7 @@ fn show(
     scratch: &[u16],
     space: &[u8],
     room: usize,
-) -> usize
+) -> io::Result<usize>
     requires scratch_len { length scratch.now ≡ scratch_size }
     requires room_le_most_room { (room ≤ most_room) × (guards + room ≤ length space.now) }
 {
@@ -258,27 +262,28 @@ fn show(
     let lines_end = lines_at + 2 * line_numbers(sheet, number, n);
     let mut bytes = [0u8; 2 * SCRATCH];
     put_numbers(&mut bytes, 0, scratch);
-    value(number as u64);
-    value(written as u64);
-    numbers(&space[GUARDS..to]);
-    show_lines(&bytes[lines_at..lines_end]);
+    value(out, number as u64)?;
+    value(out, written as u64)?;
+    numbers(out, &space[GUARDS..to])?;
+    show_lines(out, &bytes[lines_at..lines_end])?;
     if is_guarded(space, GUARDS, to) {
         if is_guarded(&bytes, lines_at, lines_end) {
-            word(b" ok");
+            word(out, b" ok")?;
         }
     }
-    to
+    Ok(to)
 }
 
 // Makes the call that a line asks for, with a lent part of the guarded scratch and a room inside the
 // guarded buffer, and prints what it left. Says where the answer ends in the guarded buffer.
-fn guarded_call(
+fn guarded_call<W: Write>(
+    out: &mut W,
     text: &[u8],
     table: &[u8],
     line: Line,
     scratch: &mut [u16],
     space: &mut [u8],
-) -> usize
+) -> io::Result<usize>
     requires count_bound { line.count ≤ 16 }
     requires scratch_len { (length scratch.old ≡ scratch_size) × (length space.old ≡ space_size) }
 {
@@ -287,10 +292,10 @@ fn guarded_call(
     let lent = scratch_of(sheet, &line.numbers);
     let room = room_of(call, &line.numbers);
     if MOST_LENT < lent {
-        return GUARDS;
+        return Ok(GUARDS);
     }
     if MOST_ROOM < room {
-        return GUARDS;
+        return Ok(GUARDS);
     }
     let lent_end = GUARDS + lent;
     let room_end = GUARDS + room;
@@ -304,24 +309,31 @@ fn guarded_call(
         &mut written,
     );
     if number == NO_CALL {
-        return GUARDS;
+        return Ok(GUARDS);
     }
-    asked(text);
+    asked(out, text)?;
     let n = run_table::run_table_processes(table) as usize;
-    let answer_end = show(sheet, number, written, n, scratch, space, room);
-    end();
-    answer_end
+    let answer_end = show(out, sheet, number, written, n, scratch, space, room)?;
+    end(out)?;
+    Ok(answer_end)
 }
 
 // Answers a line with new guards, and says where its answer ends in the guarded buffer.
-fn answer(text: &[u8], table: &[u8], line: Line, space: &mut [u8]) -> usize
+fn answer<W: Write>(
+    out: &mut W,
+    text: &[u8],
+    table: &[u8],
+    line: Line,
+    space: &mut [u8],
+) -> io::Result<usize>
     requires count_bound { line.count ≤ 16 }
     requires space_len { length space.old ≡ space_size }
 {
-    comment(text);
+    comment(out, text)?;
     let mut scratch = [42405u16; SCRATCH];
     fill(space, 165);
     guarded_call(
+        out,
         text,
         first(table, length_of(table)),
         line,
@@ -349,7 +361,13 @@ fn change(table: &mut [u8], text: &[u8], list: &[u64; 16], kept: &[u8]) {
     }
 }
 
-fn run(script: &[u8], table: &mut [u8], space: &mut [u8], kept: &mut [u8])
+fn run<W: Write>(
+    out: &mut W,
+    script: &[u8],
+    table: &mut [u8],
+    space: &mut [u8],
+    kept: &mut [u8],
+) -> io::Result<()>
     requires { length space.old ≡ space_size }
 {
     let mut at = 0;
@@ -358,17 +376,24 @@ fn run(script: &[u8], table: &mut [u8], space: &mut [u8], kept: &mut [u8])
         let text = line_at(script, at);
         let line = numbers_in(text);
         change(table, text, &line.numbers, first(kept, kept_len));
-        let answer_end = answer(text, table, line, space);
+        let answer_end = answer(out, text, table, line, space)?;
         kept_len = keep(kept, kept_len, space, answer_end);
         at += text.len() + 1;
     }
+    Ok(())
 }
 
-fn main() {
+fn main(rt: HostRuntime) -> io::Result<()> {
     let mut script = [0u8; 65536];
-    let len = io::read_full(STDIN_FILENO, &mut script);
+    let len = read_into(&mut rt.stdin(), &mut script)?;
     let mut table = [0u8; SPACE];
     let mut space = [0u8; SPACE];
     let mut kept = [0u8; SPACE];
-    run(&script[..len], &mut table, &mut space, &mut kept);
+    run(
+        &mut rt.stdout(),
+        &script[..len],
+        &mut table,
+        &mut space,
+        &mut kept,
+    )
 }

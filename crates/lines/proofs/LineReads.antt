@@ -99,4 +99,5 @@ unfolding recovery_line line_of ceiling_of
 all_hold_lem bytes accepted =
     ap (line_under (decode bytes).messages)
     (tabulate_ext (process_count (decode bytes)) _ _
-    (λ p l. ap (λ (b : Bool). cond b (count_of (decode bytes) p - 1) (count_of (decode bytes) p)) (all-member p (omega (arith, processes_few bytes accepted)))))
+    (λ p l. ap (λ (b : Bool). cond b (count_of (decode bytes) p - 1) (count_of (decode bytes) p))
+    (all-member p (omega (arith, processes_few bytes accepted)))))

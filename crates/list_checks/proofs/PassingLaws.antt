@@ -134,7 +134,8 @@ module _ {sends receipts : List ℕ} {i : ℕ} {list : List ℕ} {skipped : List
     goes_on e = record { given = w.given; behind = λ b l. omega (arith, w.behind b l); ahead = ahead_here; marks = e; none = w.none }
 
     module _ {r : ℕ} (receiver : r ≡ u16_at receipts (4 * k)) where
-      skipped_is : {s : ℕ} → s ≡ u16_at receipts (4 * k + 2) → (p : ℕ) → entry_skipped sends receipts i list p k ≡ (eqb j p && (eqb r i && eqb s 0))
+      skipped_is : {s : ℕ} → s ≡ u16_at receipts (4 * k + 2) → (p : ℕ) → entry_skipped sends receipts i list p k
+          ≡ (eqb j p && (eqb r i && eqb s 0))
       unfolding entry_skipped entry_waits process_at checkpoint_at
       skipped_is {s} received p =
           rw (← receiver, ← received, ← x.sender, unlisted) (and-true (eqb j p && (eqb r i && eqb s 0)))

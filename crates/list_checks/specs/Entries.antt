@@ -1,5 +1,6 @@
 -- Of the code: what the checks of a list ask of the sends and the receipts, entry by entry. Assumes nothing.
-use Rattle.std.specs.Prelude.{Bool, false, not, ◌&&◌, ◌||◌, List, ◌≡◌, ℕ, ◌+◌, ◌*◌, ◌<◌, eqb, leb, length, get_or}
+use Rattle.std.specs.Prelude.{Bool, false, not, ◌&&◌, ◌||◌, List, ◌≡◌, ℕ, ◌+◌, ◌*◌, ◌<◌}
+use Rattle.std.specs.Prelude.{eqb, leb, length, get_or}
 use Rattle.steps.specs.Steps.{not_rising}
 use Rattle.tables.specs.Format.{checkpoint_at, process_at}
 use Rattle.tables.specs.Lists.{any, any_below}

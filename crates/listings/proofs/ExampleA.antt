@@ -9,7 +9,8 @@ use Rattle.keep_sheet.specs.Sheet.{crosses, keeps_checkpoint, keeps_message, kep
 use Rattle.listings.specs.ExampleA.{example_text}
 use Rattle.listings.specs.Listing.{checkpoint_row, hold_row, line_row, listing, listing_of, listing_unless, message_row, share, share_row}
 use Rattle.rounding.specs.Rounding.{even_of, rounded_quotient}
-use Rattle.tables.specs.Checks.{bad_count, bad_length, bad_process_count, bad_receipt, bad_send, broken_below, broken_channel, first_caught, out_of_turn, outside}
+use Rattle.tables.specs.Checks.{bad_count, bad_length, bad_process_count, bad_receipt, bad_send, broken_below, broken_channel, first_caught, out_of_turn}
+use Rattle.tables.specs.Checks.{outside}
 use Rattle.tables.specs.Checks.{same_channel, table_checks, table_refusal, to_itself, too_many_messages, too_short, unknown_process, waits}
 use Rattle.tables.specs.Format.{checkpoint_at, count_at, counts_part, decode, message_at, messages_in, process_at, processes_in, receipts_part, sends_part}
 use Rattle.tables.specs.Lists.{any, any_below, rows, select, sum, tabulate}

@@ -21,6 +21,7 @@ all-portions = refl
 
 pub share_cases_lem : all_shares share_cases ≡ true
 unfolding even_of rounded_quotient all_shares share_cases share checkpoint_total case_table like_a table_b table_c table_d processes_in messages_in counts_part
-    sends_part receipts_part count_at process_at checkpoint_at message_at decode number_at bytes_of bytes_of_all tabulate any_below rows select sum process_count
-    message_count count_of message_of ceiling_of line_of single is_orphan lower pass passes line_under holder_line keeps_checkpoint kept_checkpoints
+    sends_part receipts_part count_at process_at checkpoint_at message_at decode number_at bytes_of bytes_of_all tabulate any_below rows select sum
+    process_count message_count count_of message_of ceiling_of line_of single is_orphan lower pass passes line_under holder_line keeps_checkpoint
+    kept_checkpoints
 share_cases_lem = refl

@@ -117,7 +117,8 @@ module _ {m : ℕ} {sends receipts start line : List ℕ} {lowered : Bool} {k j 
   skips_received_after h = skips (λ o. omega (arith, o.received-before))
 
   -- it is an orphan, and its receiver is put back
-  pub pass_lowers : (r ≡ 0 → ⊥) → get_or line j 0 ≤ y → r ≤ get_or line i 0 → LoweringPass m sends receipts start (set line i (r - 1)) true (k - 1)
+  pub pass_lowers : (r ≡ 0 → ⊥) → get_or line j 0 ≤ y → r ≤ get_or line i 0
+      → LoweringPass m sends receipts start (set line i (r - 1)) true (k - 1)
   pass_lowers d s b = record {
     given = x.passing.given;
     within = omega (arith, x.message.within);

@@ -1,6 +1,7 @@
 -- Of the code: the marks of a run in a lent buffer, and what the functions that set them leave. The laws join this to
 -- the procedure. Assumes nothing.
-use Rattle.std.specs.Prelude.{Bool, false, true, ◌&&◌, List, ◌⊎◌, ◌≡◌, ℕ, suc, ◌+◌, ◌/◌, ◌≤◌, ◌<◌, leb, ltb, get_or, length, take}
+use Rattle.std.specs.Prelude.{Bool, false, true, ◌&&◌, List, ◌⊎◌, ◌≡◌, ℕ, suc, ◌+◌, ◌/◌}
+use Rattle.std.specs.Prelude.{◌≤◌, ◌<◌, leb, ltb, get_or, length, take}
 use Rattle.checkpoint_graph.specs.Graph.{state}
 use Rattle.consistency.specs.Ceilings.{Ceiling}
 use Rattle.marking.specs.Procedure.{After, EndsWith, Marks, MarksReachable, Reachable, Stage}

@@ -2,7 +2,8 @@
 // of a lent buffer.
 #![tactic(auto)]
 
-ghost use Rattle.std.specs.Prelude.{false, ◌||◌, ◌≡◌, ◌+◌, ◌*◌, ◌/◌, ◌≤◌, ◌<◌, eqb, get_or, length, take};
+ghost use Rattle.std.specs.Prelude.{false, ◌||◌, ◌≡◌, ◌+◌, ◌*◌, ◌/◌, ◌≤◌, ◌<◌, eqb};
+ghost use Rattle.std.specs.Prelude.{get_or, length, take};
 ghost use Rattle.consistency.specs.Ceilings.{Ceiling};
 ghost use Rattle.marked_line.specs.Marking.{BitThere, GaveWay, Given, Kept, LatestUnset, Lent, OnlyBehind};
 ghost use Rattle.marked_line.specs.Marking.{PassMade, PutByMarking, Reached, Ready, RoundMade, Running};

@@ -1,6 +1,7 @@
 -- The marking procedure on the checkpoint graph (docs/MANUAL.md, "The same line by marking"; Figure 3 of the source),
 -- from the graph alone. A round is a relation between what stands before it and after it. Assumes nothing.
-use Rattle.std.specs.Prelude.{Bool, false, true, List, ◌⊎◌, ◌≡◌, ℕ, zero, suc, ◌≤◌, ◌<◌, get_or, length}
+use Rattle.std.specs.Prelude.{Bool, false, true, List, ◌⊎◌, ◌≡◌, ℕ, zero, suc, ◌≤◌, ◌<◌, get_or}
+use Rattle.std.specs.Prelude.{length}
 use Rattle.checkpoint_graph.specs.Graph.{Leads, State, state}
 use Rattle.tables.specs.Table.{Table, count_of, process_count}
 

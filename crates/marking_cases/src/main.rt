@@ -14,7 +14,8 @@
 ghost use Rattle.std.specs.Prelude.{◌≡◌, ◌+◌, ◌≤◌, length};
 ghost use Rattle.test_kit.specs.Guards.{guards, most_room, space_size};
 
-use libc::STDIN_FILENO;
+use std::io;
+use std::io::Write;
 use test_kit::guards::{GUARDS, MOST_ROOM, answer_end, is_guarded};
 use test_kit::{
     SPACE, all_are, asked, build, comment, end, fill, first, length_of, numbers, value, values_end,
@@ -23,6 +24,7 @@ use test_kit::{
 use test_script::{
     Line, MOST_CEILINGS, ceilings_of, lent, line_at, numbers_in, says, size, size_up_to, smalls,
 };
+use whole_input::read_into;
 
 // The most bytes of a mark buffer that a line lends.
 const MOST_MARKS: usize = 16500;
@@ -46,7 +48,8 @@ fn marked_line(
 
 // Prints what a call left in the guarded buffers, and `ok` if the rest of both is as it was: of the marks,
 // which end at a place, what lies behind the zeros at their front.
-fn show(
+fn show<W: Write>(
+    out: &mut W,
     number: u32,
     written: usize,
     marks: &[u8],
@@ -54,29 +57,37 @@ fn show(
     before: u8,
     space: &[u8],
     room: usize,
-)
+) -> io::Result<()>
     requires guards_le_marks_end { guards ≤ marks_end }
     requires room_le_most_room { (room ≤ most_room) × (guards + room ≤ length space.now) }
 {
     let to = answer_end(number, written, room);
     let zeros_end = values_end(marks, GUARDS, marks_end, 0);
-    value(number as u64);
-    value(written as u64);
-    numbers(&space[GUARDS..to]);
-    word(b" marks");
-    value((zeros_end - GUARDS) as u64);
+    value(out, number as u64)?;
+    value(out, written as u64)?;
+    numbers(out, &space[GUARDS..to])?;
+    word(out, b" marks")?;
+    value(out, (zeros_end - GUARDS) as u64)?;
     if is_guarded(space, GUARDS, to) {
         if is_guarded(marks, GUARDS, marks_end) {
             if all_are(marks, zeros_end, marks_end, before) {
-                word(b" ok");
+                return word(out, b" ok");
             }
         }
     }
+    Ok(())
 }
 
 // Makes the call that a line asks for, with marks and a room inside the guarded buffers, and prints what
 // it left.
-fn call(text: &[u8], table: &[u8], line: Line, marks: &mut [u8], space: &mut [u8])
+fn call<W: Write>(
+    out: &mut W,
+    text: &[u8],
+    table: &[u8],
+    line: Line,
+    marks: &mut [u8],
+    space: &mut [u8],
+) -> io::Result<()>
     requires count_bound { line.count ≤ 16 }
     requires marks_len { (length marks.old ≡ space_size) × (length space.old ≡ space_size) }
 {
@@ -93,25 +104,46 @@ fn call(text: &[u8], table: &[u8], line: Line, marks: &mut [u8], space: &mut [u8
         &mut space[GUARDS..room_end],
         &mut written,
     );
-    asked(text);
-    show(number, written, marks, marks_end, before, space, room);
-    end();
+    asked(out, text)?;
+    show(out, number, written, marks, marks_end, before, space, room)?;
+    end(out)
 }
 
 // Answers a line with new guards.
-fn answer(text: &[u8], table: &[u8], line: Line, marks: &mut [u8], space: &mut [u8])
+fn answer<W: Write>(
+    out: &mut W,
+    text: &[u8],
+    table: &[u8],
+    line: Line,
+    marks: &mut [u8],
+    space: &mut [u8],
+) -> io::Result<()>
     requires count_bound { line.count ≤ 16 }
     requires marks_len { (length marks.old ≡ space_size) × (length space.old ≡ space_size) }
 {
-    comment(text);
+    comment(out, text)?;
     if says(text, b"marked") {
         fill(marks, 165);
         fill(space, 165);
-        call(text, first(table, length_of(table)), line, marks, space);
+        call(
+            out,
+            text,
+            first(table, length_of(table)),
+            line,
+            marks,
+            space,
+        )?;
     }
+    Ok(())
 }
 
-fn run(script: &[u8], table: &mut [u8], marks: &mut [u8], space: &mut [u8])
+fn run<W: Write>(
+    out: &mut W,
+    script: &[u8],
+    table: &mut [u8],
+    marks: &mut [u8],
+    space: &mut [u8],
+) -> io::Result<()>
     requires { (length marks.old ≡ space_size) × (length space.old ≡ space_size) }
 {
     let mut at = 0;
@@ -119,16 +151,23 @@ fn run(script: &[u8], table: &mut [u8], marks: &mut [u8], space: &mut [u8])
         let text = line_at(script, at);
         let line = numbers_in(text);
         build(table, text, &line.numbers);
-        answer(text, table, line, marks, space);
+        answer(out, text, table, line, marks, space)?;
         at += text.len() + 1;
     }
+    Ok(())
 }
 
-fn main() {
+fn main(rt: HostRuntime) -> io::Result<()> {
     let mut script = [0u8; 32768];
-    let len = io::read_full(STDIN_FILENO, &mut script);
+    let len = read_into(&mut rt.stdin(), &mut script)?;
     let mut table = [0u8; SPACE];
     let mut marks = [0u8; SPACE];
     let mut space = [0u8; SPACE];
-    run(&script[..len], &mut table, &mut marks, &mut space);
+    run(
+        &mut rt.stdout(),
+        &script[..len],
+        &mut table,
+        &mut marks,
+        &mut space,
+    )
 }

@@ -1,6 +1,7 @@
 -- Of the code: marks as bits. State y of process p has the bit first p + y, where first p is the number of states of
 -- the processes before p; bit b of a buffer is bit b % 8 of its byte b / 8. Assumes nothing.
-use Rattle.std.specs.Prelude.{Bool, cond, true, List, ◌≡◌, ℕ, zero, suc, ◌+◌, ◌*◌, ◌/◌, ◌%◌, ◌^◌, ◌≤◌, ◌<◌, get_or, length, set}
+use Rattle.std.specs.Prelude.{Bool, cond, true, List, ◌≡◌, ℕ, zero, suc, ◌+◌, ◌*◌, ◌/◌, ◌%◌}
+use Rattle.std.specs.Prelude.{◌^◌, ◌≤◌, ◌<◌, get_or, length, set}
 use Rattle.std.specs.Int.Bits.{bit_or}
 use Rattle.process_set.specs.Sets.{member}
 use Rattle.tables.specs.Lists.{sum, tabulate}

@@ -44,7 +44,8 @@ parallel t processes states e none = record {
 }
 
 -- in an accepted table a named process has a place in an array of 32
-pub place_inside : (table : List ℕ) → table_refusal table ≡ 0 → {processes states : List ℕ} → Parallel (process_count (decode table)) processes states
+pub place_inside : (table : List ℕ) → table_refusal table ≡ 0 → {processes states : List ℕ}
+    → Parallel (process_count (decode table)) processes states
     → {k : ℕ} → k < length processes → get_or processes k 0 < most_processes
 place_inside table accepted lists l = omega (arith, lists.known _ l, processes_few table accepted)
 

@@ -4,8 +4,10 @@
 
 ghost use Rattle.std.specs.Prelude.{◌≡◌, leb};
 ghost use Rattle.call_checks.specs.CallChecks.{checkpoint_call_checks, full_of_checkpoints, full_of_messages};
-ghost use Rattle.call_checks.specs.CallChecks.{keep_sheet_checks, line_of_set_checks, line_under_checks, marked_line_checks};
-ghost use Rattle.call_checks.specs.CallChecks.{receipt_call_checks, send_call_checks, short_of_lines, stand_together_checks};
+ghost use Rattle.call_checks.specs.CallChecks.{keep_sheet_checks, line_of_set_checks, line_under_checks};
+ghost use Rattle.call_checks.specs.CallChecks.{marked_line_checks};
+ghost use Rattle.call_checks.specs.CallChecks.{receipt_call_checks, send_call_checks, short_of_lines};
+ghost use Rattle.call_checks.specs.CallChecks.{stand_together_checks};
 ghost use Rattle.tables.specs.Checks.{first_caught, table_refusal};
 ghost use Rattle.tables.specs.Format.{decode};
 ghost use Rattle.tables.specs.Table.{process_count};

@@ -138,7 +138,8 @@ module _ (t : Table) (w : WellFormed t) where
       (λ s x _ on. grown_checkpoint t (step t s) w x.grown i c b on)
       (λ keeps. rolled_checkpoint t i c ((rollback_keeps t i c).0 keeps)) s
 
-  pub message_back : (s : Step) (k n : ℕ) → k < message_count t → MovedTo t s k n → Open (step t s) (message_of (step t s) n) → Open t (message_of t k)
+  pub message_back : (s : Step) (k n : ℕ) → k < message_count t → MovedTo t s k n → Open (step t s) (message_of (step t s) n)
+      → Open t (message_of t k)
   unfolding step
   message_back s k n l =
       by_step t (λ s. MovedTo t s k n → Open (step t s) (message_of (step t s) n) → Open t (message_of t k))

@@ -20,7 +20,8 @@ use Rattle.steps.proofs.StepLaws.{receipt_older, receipt_quiet, receipt_receives
 use Rattle.steps.proofs.StepLaws.{receives_messages, recovery_latest, rollback_count, rollback_each, stays_sent, step_cases, waits_for_lem}
 use Rattle.run_futures.specs.Futures.{FollowedTo, StepKeeps, StillThere, end_of, moved, place_of}
 use Rattle.keep_sheet.specs.Sheet.{crosses, keeps_message}
-use Rattle.steps.specs.Steps.{after_checkpoint, after_receipt, after_rollback, checkpoint, not_rising, receipt_checks, receive, rollback, stays, step, waits_for}
+use Rattle.steps.specs.Steps.{after_checkpoint, after_receipt, after_rollback, checkpoint, not_rising, receipt_checks, receive, rollback, stays, step}
+use Rattle.steps.specs.Steps.{waits_for}
 use Rattle.run_futures.specs.Unsaved.{Receipts, Unsaved, waiting_up_to}
 use Rattle.tables.proofs.ListLaws.{and_left, and_right, select_gap, select_more}
 use Rattle.tables.proofs.TurnLaws.{channel_on, channel_same, one_channel, undelivered_waits, waits_undelivered}
@@ -200,7 +201,7 @@ unfolding StillThere StepKeeps FollowedTo place_of moved
 receipts_hold t w =
     record {
       received = received_in_turn t w;
-      received-alone = received-first t w;
+      received_alone = received-first t w;
       passed_over = alone_leaves t w;
       nothing_lost = λ i list. (λ p c. (tt, tt), λ k. refl);
       of_nothing = none_received t w;

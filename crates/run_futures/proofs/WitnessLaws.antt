@@ -75,7 +75,8 @@ module _ (holds : Holders) where
       → Waited holds (suc n) t (checkpoint n [] ∷ future)
   unfolding end_of StepKeeps StillThere FollowedTo place_of moved
   other_checkpoints n t future h known a = record {
-    same_processes = ap (λ (x : Table). process_count (end_of x future)) (alone t n known) ∙ a.same_processes ∙ (checkpoint_receives t n []).same_processes;
+    same_processes = ap (λ (x : Table). process_count (end_of x future)) (alone t n known) ∙ a.same_processes
+        ∙ (checkpoint_receives t n []).same_processes;
     same_messages = ap (λ (x : Table). (end_of x future).messages) (alone t n known) ∙ a.same_messages ∙ alone-messages t n known;
     counts_below = λ p l. count p ∙ go p l (ℕ_discrete p n);
     counts_beyond = λ p l. count p ∙ a.counts_beyond p (omega arith) ∙ checkpoint_count_other t n [] p (omega arith);
@@ -108,7 +109,8 @@ module _ (holds : Holders) where
   others_end (suc n) t l =
       go (holds n) refl (others_end n t (omega arith)) (others_end n (after_checkpoint t n []) (omega (arith, (checkpoint_receives t n []).same_processes)))
     where
-      go : (b : Bool) → holds n ≡ b → Waited holds n t (others_checkpoint holds n) → Waited holds n (after_checkpoint t n []) (others_checkpoint holds n)
+      go : (b : Bool) → holds n ≡ b → Waited holds n t (others_checkpoint holds n)
+          → Waited holds n (after_checkpoint t n []) (others_checkpoint holds n)
           → Waited holds (suc n) t (cond b (others_checkpoint holds n) (checkpoint n [] ∷ others_checkpoint holds n))
       go true h waits checkpoints = holder_waits n t (others_checkpoint holds n) h waits
       go false h waits checkpoints = other_checkpoints n t (others_checkpoint holds n) h (omega arith) checkpoints

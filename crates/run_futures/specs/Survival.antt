@@ -42,7 +42,8 @@ pub record Survival (t : Table) : Type 0 where
       → (k' < message_count (end_of t future)) × SameMessage (message_of t k) (message_of (end_of t future) k')
   pub messages_order : (future : Future) (a b a' b' : ℕ) → a < b → b < message_count t
       → FollowedTo t future a a' → FollowedTo t future b b' → a' < b'
-  pub rolled_checkpoint : (i c : ℕ) → StillThere t (rollback ∷ []) i c ↔ NotBelow i c (as_line (recovery_line t))
+  pub rolled_checkpoint : (i c : ℕ) → StillThere t (rollback ∷ []) i c ↔ NotBelow i c
+      (as_line (recovery_line t))
   pub rolled_message : (k : ℕ) → k < message_count t
       → ((n : ℕ) × FollowedTo t (rollback ∷ []) k n) ↔ SentBefore (message_of t k) (as_line (recovery_line t))
   pub rolled_receipt : (k n : ℕ) → k < message_count t → FollowedTo t (rollback ∷ []) k n

@@ -27,7 +27,7 @@ waiting_up_to t k = select (λ q. same_channel (message_of t q) (message_of t k)
 pub record Receipts (t : Table) : Type 0 where
   pub received : (i k : ℕ) → k < message_count t → waits_for i (message_of t k) ≡ true
       → Unsaved (end_of t (receive i (waiting_up_to t k) ∷ [])) k
-  pub received-alone : (i k : ℕ) → k < message_count t → waits_for i (message_of t k) ≡ true
+  pub received_alone : (i k : ℕ) → k < message_count t → waits_for i (message_of t k) ≡ true
       → ((q : ℕ) → q < k → same_channel (message_of t q) (message_of t k) ≡ true
       → waits (message_of t q) ≡ true → ⊥)
       → Unsaved (end_of t (receive i (k ∷ []) ∷ [])) k

@@ -1,6 +1,7 @@
 -- Of the code: what the loops of the checks read off a part of a table's bytes, entry by entry. The laws join these to
 -- the checks of the table. Assumes nothing.
-use Rattle.std.specs.Prelude.{Bool, true, false, cond, List, [], ◌∷◌, ◌++◌, map, ◌≡◌, ℕ, suc, ◌+◌, ◌*◌, ◌≤◌, ◌<◌, eqb, leb, ltb, length}
+use Rattle.std.specs.Prelude.{Bool, true, false, cond, List, [], ◌∷◌, ◌++◌, map, ◌≡◌, ℕ, suc, ◌+◌}
+use Rattle.std.specs.Prelude.{◌*◌, ◌≤◌, ◌<◌, eqb, leb, ltb, length}
 use Rattle.tables.specs.Checks.{Check, bad_count, broken_below, first_caught}
 use Rattle.tables.specs.Format.{checkpoint_at, count_at, message_at, process_at}
 use Rattle.tables.specs.Lists.{any_below}

@@ -13,12 +13,14 @@
 ghost use Rattle.std.specs.Prelude.{◌≡◌, ◌+◌, ◌≤◌, ◌<◌, length};
 ghost use Rattle.test_kit.specs.Guards.{guards, most_room, space_size};
 
-use libc::STDIN_FILENO;
 use number_writer::put_numbers;
+use std::io;
+use std::io::Write;
 use tables::format::MOST_PROCESSES;
 use test_kit::guards::{GUARDS, MOST_ROOM, answer_end, is_guarded};
 use test_kit::{SPACE, asked, build, comment, end, fill, first, length_of, numbers, value, word};
 use test_script::{Line, line_at, numbers_in, says, size, size_up_to};
+use whole_input::read_into;
 
 // The most sets that a line lends.
 const MOST_LENT: usize = 300;
@@ -91,7 +93,15 @@ fn line_numbers(number: u32, n: usize) -> usize
 
 // Prints what a call left in the guarded buffer and in the guarded scratch, and `ok` if the rest of both is
 // as it was.
-fn show(number: u32, written: usize, n: usize, scratch: &[u16], space: &[u8], room: usize)
+fn show<W: Write>(
+    out: &mut W,
+    number: u32,
+    written: usize,
+    n: usize,
+    scratch: &[u16],
+    space: &[u8],
+    room: usize,
+) -> io::Result<()>
     requires scratch_len { length scratch.now ≡ 1132 }
     requires room_le_most_room { (room ≤ most_room) × (guards + room ≤ length space.now) }
 {
@@ -100,21 +110,29 @@ fn show(number: u32, written: usize, n: usize, scratch: &[u16], space: &[u8], ro
     let lines_end = lines_at + 2 * line_numbers(number, n);
     let mut bytes = [0u8; 2 * SCRATCH];
     put_numbers(&mut bytes, 0, scratch);
-    value(number as u64);
-    value(written as u64);
-    numbers(&space[GUARDS..to]);
-    word(b" scratch");
-    numbers(&bytes[lines_at..lines_end]);
+    value(out, number as u64)?;
+    value(out, written as u64)?;
+    numbers(out, &space[GUARDS..to])?;
+    word(out, b" scratch")?;
+    numbers(out, &bytes[lines_at..lines_end])?;
     if is_guarded(space, GUARDS, to) {
         if is_guarded(&bytes, lines_at, lines_end) {
-            word(b" ok");
+            return word(out, b" ok");
         }
     }
+    Ok(())
 }
 
 // Makes the call that a line asks for, with a lent part of the guarded scratch and a room inside the guarded
 // buffer, and prints what it left.
-fn call(text: &[u8], table: &[u8], line: Line, scratch: &mut [u16], space: &mut [u8])
+fn call<W: Write>(
+    out: &mut W,
+    text: &[u8],
+    table: &[u8],
+    line: Line,
+    scratch: &mut [u16],
+    space: &mut [u8],
+) -> io::Result<()>
     requires count_bound { line.count ≤ 16 }
     requires scratch_len { (length scratch.old ≡ 1132) × (length space.old ≡ space_size) }
 {
@@ -129,32 +147,40 @@ fn call(text: &[u8], table: &[u8], line: Line, scratch: &mut [u16], space: &mut 
         &mut space[GUARDS..room_end],
         &mut written,
     );
-    asked(text);
+    asked(out, text)?;
     let n = run_table::run_table_processes(table) as usize;
-    show(number, written, n, scratch, space, room);
-    end();
+    show(out, number, written, n, scratch, space, room)?;
+    end(out)
 }
 
 // Answers a line with new guards.
-fn answer(text: &[u8], table: &[u8], line: Line, space: &mut [u8])
+fn answer<W: Write>(
+    out: &mut W,
+    text: &[u8],
+    table: &[u8],
+    line: Line,
+    space: &mut [u8],
+) -> io::Result<()>
     requires count_bound { line.count ≤ 16 }
     requires space_len { length space.old ≡ space_size }
 {
-    comment(text);
+    comment(out, text)?;
     if says(text, b"sets") {
         let mut scratch = [42405u16; SCRATCH];
         fill(space, 165);
         call(
+            out,
             text,
             first(table, length_of(table)),
             line,
             &mut scratch,
             space,
-        );
+        )?;
     }
+    Ok(())
 }
 
-fn run(script: &[u8], table: &mut [u8], space: &mut [u8])
+fn run<W: Write>(out: &mut W, script: &[u8], table: &mut [u8], space: &mut [u8]) -> io::Result<()>
     requires { length space.old ≡ space_size }
 {
     let mut at = 0;
@@ -162,15 +188,16 @@ fn run(script: &[u8], table: &mut [u8], space: &mut [u8])
         let text = line_at(script, at);
         let line = numbers_in(text);
         build(table, text, &line.numbers);
-        answer(text, table, line, space);
+        answer(out, text, table, line, space)?;
         at += text.len() + 1;
     }
+    Ok(())
 }
 
-fn main() {
+fn main(rt: HostRuntime) -> io::Result<()> {
     let mut script = [0u8; 16384];
-    let len = io::read_full(STDIN_FILENO, &mut script);
+    let len = read_into(&mut rt.stdin(), &mut script)?;
     let mut table = [0u8; SPACE];
     let mut space = [0u8; SPACE];
-    run(&script[..len], &mut table, &mut space);
+    run(&mut rt.stdout(), &script[..len], &mut table, &mut space)
 }

@@ -42,7 +42,8 @@ fn put_each(table: &[u8], sets: &[u32], scratch: &[u16], answer: &mut [u8])
 // after another, to the front of a buffer that has room for them.
 pub fn put_lines_of_sets(table: &[u8], sets: &[u32], scratch: &mut [u16], answer: &mut [u8])
     requires table_value { table_refusal table.now ≡ 0 }
-    requires table_in_bounds { process_count (decode table.now) * process_count (decode table.now) ≤ length scratch.old }
+    requires table_in_bounds { process_count (decode table.now) * process_count (decode table.now) ≤ length
+        scratch.old }
     requires sets_in_bounds { 2 * process_count (decode table.now) * length sets.now ≤ length answer.old }
     ensures holders { scratch.new
         ≡ put_at scratch.old 0 (holder_lines (decode table.now)) }

@@ -61,7 +61,8 @@ module _ (f : ℕ → ℕ) where
           omega (arith, least_at_most n there.0 there.1, eqb-true (f there.0) r there.2)
 
 -- the lowest line's number at process i, as it was found
-pub lowest_found : {n : ℕ} (line : ℕ → Line) {i v : ℕ} → i < n → First (shows n line i) 0 65535 v → v ≡ get_or (tabulate n (lowest_at n line)) i 0
+pub lowest_found : {n : ℕ} (line : ℕ → Line) {i v : ℕ} → i < n → First (shows n line i) 0 65535 v → v
+    ≡ get_or (tabulate n (lowest_at n line)) i 0
 unfolding shows lowest_at
 lowest_found {n} line {i} {v} l first = least_first (λ k. line k i) n v first ∙ sym (get_or_tabulate n (lowest_at n line) i 0 l)
 

@@ -94,7 +94,12 @@ receipts_set_lem ms (k ∷ rest) n listed =
     (ap (λ (j : ℕ). put_at (u16s (receipts_of ms)) j (u16_bytes n)) place
     ∙ number-set 2 (receipts_of ms) (2 * k + 1) n (omega (arith, length_entries (λ x. x.receiver) (λ x. x.received) ms))
     ∙ ap u16s (receipt_set ms k n here))
-    ∙ receipts_set_lem (received_in ms k n) rest n (λ a l. omega (arith, listed (suc a) (suc-le-suc l), length-set ms k (with_receipt (get_or ms k no_message) n)))
+    ∙ receipts_set_lem (received_in ms k n) rest n (λ a l. omega (
+      arith,
+      listed (suc a) (suc-le-suc l),
+      length-set ms k
+          (with_receipt (get_or ms k no_message) n),
+    ))
 
 -- ---- a loop that sets them
 -- With those from entry a of the list on still to be set, the part becomes what it is to be.

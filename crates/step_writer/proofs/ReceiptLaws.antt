@@ -44,7 +44,8 @@ module _ {table : List ℕ} {m : ℕ} {sends receipts : List ℕ} (read : ReadMe
   unfolding message_count
   receipts_new number_is =
       ap₂ (λ (x : List ℕ) (n : ℕ). receipts_set (u16s x) list n) (copied_receipts read) number_is
-      ∙ receipts_set_lem t.messages list (count_of t i) (positions_below can refl) ∙ ap (λ (x : List Message). u16s (receipts_of x)) (messages-set t i list)
+      ∙ receipts_set_lem t.messages list (count_of t i) (positions_below can refl)
+      ∙ ap (λ (x : List Message). u16s (receipts_of x)) (messages-set t i list)
 
   pub received_put : {n : ℕ} {counts : List ℕ} → Read table n m counts → {number : ℕ} → number ≡ get_or counts i 0 → (taken : ℕ)
       → {a z : ℕ} {before headed sent after : List ℕ}

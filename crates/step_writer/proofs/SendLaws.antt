@@ -98,7 +98,8 @@ pub record Writes (n m : ℕ) (counts sends receipts : List ℕ) (a z : ℕ) (be
   pub receipts_put : after ≡ put_at sent z receipts
 
 pub table_written : {n m : ℕ} {counts sends receipts : List ℕ} {a z : ℕ} {before headed sent after : List ℕ}
-    → Writes n m counts sends receipts a z before headed sent after → (t : Table) → n ≡ process_count t → m ≡ message_count t → counts ≡ t.counts
+    → Writes n m counts sends receipts a z before headed sent after → (t : Table) → n ≡ process_count t → m ≡ message_count t → counts
+    ≡ t.counts
     → sends ≡ u16s (sends_of t.messages) → receipts ≡ u16s (receipts_of t.messages) → after ≡ put_at before 0 (encode t)
 unfolding process_count
 table_written {n} {m} {counts} {before = before} {headed = headed} {sent = sent} w t n_is m_is counts_are sends_are receipts_are =

@@ -40,7 +40,8 @@ module _ (t : Table) (list : List ℕ) (k : ℕ) where
       not-false (any (eqb q) list) (rw (channel, undelivered_waits (message_of t q) undelivered) at (none_below _ k quiet q older))
 
 -- ---- a list of which each entry rises above the one before it
-follows_none : (x : ℕ) (rest : List ℕ) → ((a : ℕ) → a < length rest → get_or (x ∷ rest) a 0 < get_or rest a 0) → not_rising_after x rest ≡ false
+follows_none : (x : ℕ) (rest : List ℕ) → ((a : ℕ) → a < length rest → get_or (x ∷ rest) a 0 < get_or rest a 0) → not_rising_after x rest
+    ≡ false
 unfolding not_rising_after
 follows_none x [] h = refl
 follows_none x (y ∷ rest) h = rw (lt-leb y x (h zero (suc-le-suc zero-le))) (follows_none y rest (λ a l. h (suc a) (suc-le-suc l)))

@@ -207,7 +207,8 @@ module _ (t : Table) (i : ℕ) (list : List ℕ) where
     received_at_sent = received_at_cases (λ m. m.sent ≡ (message_of t k).sent) (λ _. refl) refl
 
   module _ (quiet : first_caught (receipt_checks t i list) ≡ 0) where
-    quiet_list : (leb (process_count t) i ≡ false) × ((any (bad_position t i) list || not_rising list) ≡ false) × (any (passes_over t list) list ≡ false)
+    quiet_list : (leb (process_count t) i ≡ false) × ((any (bad_position t i) list || not_rising list) ≡ false)
+        × (any (passes_over t list) list ≡ false)
     unfolding receipt_checks
     quiet_list =
         let known = quiet_cons _ _ (omega arith) quiet in
@@ -301,7 +302,8 @@ module _ (t : Table) where
   pub recovery_latest : Latest t.messages (λ p. count_of t p - 1) (as_line (recovery_line t))
   unfolding recovery_line
   recovery_latest =
-      latest_same t.messages (as_line (ceiling_of t (λ p. true))) (λ p. count_of t p - 1) (as_line (line_of t (λ p. true))) (as_line (line_of t (λ p. true)))
+      latest_same t.messages (as_line (ceiling_of t (λ p. true))) (λ p. count_of t p - 1) (as_line (line_of t (λ p. true)))
+      (as_line (line_of t (λ p. true)))
       (ceiling_at_lem t (λ p. true)) (λ p. refl) (set-latest t (λ p. true))
 
   pub recovery_length : length (recovery_line t) ≡ process_count t
@@ -487,7 +489,8 @@ module _ (t : Table) where
     unfolding after_rollback message_count message_of
     rollback_place = remaining_place (recovery_line t) t.messages k h e
 
-    pub rollback_message : message_of (after_rollback t) (length (remaining (recovery_line t) (take k t.messages))) ≡ put_back (recovery_line t) (message_of t k)
+    pub rollback_message : message_of (after_rollback t) (length (remaining (recovery_line t) (take k t.messages)))
+        ≡ put_back (recovery_line t) (message_of t k)
     unfolding after_rollback message_count message_of
     rollback_message = remaining_message (recovery_line t) t.messages k h e
 
@@ -707,7 +710,8 @@ receives_in_turn t o i list t' r quiet q k before l =
         → same_channel (message_of t q) (message_of t k) ≡ true → (0 < (message_of t q).received) × ((message_of t q).received ≤ count_of t i)
     received_earlier l a b channel =
         let some : (message_of t q).received ≡ 0 → ⊥ = λ z. false≢true (sym a ∙ receipt_older t i list quiet k b q before channel z) in
-        let to-i : (message_of t q).receiver ≡ i = (one_channel (message_of t q) (message_of t k) channel).1 ∙ (receipt_waiting t i list quiet k b).to_process in
+        let to-i : (message_of t q).receiver ≡ i = (one_channel (message_of t q) (message_of t k) channel).1
+        ∙ (receipt_waiting t i list quiet k b).to_process in
         (omega (arith, some), omega (arith, (o.well_formed.good_messages q (omega arith)).received-within, ap (count_of t) to-i))
 
     go : (x y : Bool) → any (eqb q) list ≡ x → any (eqb k) list ≡ y → k < message_count t → Turn (message_of t q) (message_of t k)

@@ -1,7 +1,8 @@
 -- Send, receive, checkpoint (save) and rollback (fall back) on tables (docs/MANUAL.md, "Steps"). The same steps serve
 -- the calls and the futures. They are total: a step that is caught gives the table back. Numbers have no upper bound.
 -- Assumes nothing.
-use Rattle.std.specs.Prelude.{Bool, cond, false, not, ◌&&◌, ◌||◌, List, [], ◌∷◌, ◌++◌, map, ℕ, ◌+◌, ◌-◌, eqb, leb, ltb, set}
+use Rattle.std.specs.Prelude.{Bool, cond, false, not, ◌&&◌, ◌||◌, List, [], ◌∷◌, ◌++◌, map, ℕ}
+use Rattle.std.specs.Prelude.{◌+◌, ◌-◌, eqb, leb, ltb, set}
 use Rattle.consistency.specs.Ceilings.{recovery_line}
 use Rattle.consistency.specs.Lines.{as_line}
 use Rattle.tables.specs.Checks.{Check, first_caught, same_channel, waits}

@@ -39,7 +39,8 @@ within_limit limit n e = ltb-false limit n (or_false_right (eqb n 0) (ltb limit 
 
 -- the tests of one message, and what it satisfies
 module _ (t : Table) (m : Message) where
-  good_message : unknown_process (process_count t) m ≡ false → to_itself m ≡ false → bad_send t m ≡ false → bad_receipt t m ≡ false → GoodMessage t m
+  good_message : unknown_process (process_count t) m ≡ false → to_itself m ≡ false → bad_send t m ≡ false → bad_receipt t m ≡ false
+      → GoodMessage t m
   unfolding unknown_process to_itself bad_send bad_receipt
   good_message e6 e7 e8 e9 = record {
     sender_known = leb-false (process_count t) m.sender (or_false_left (leb (process_count t) m.sender) (leb (process_count t) m.receiver) e6);

@@ -1,6 +1,7 @@
 -- The checks of a table (docs/MANUAL.md, "Refusals"). Each is a test over the whole table, and the refusal is the
 -- number of the first one, in checking order, that catches; 0 says that none does. Assumes nothing.
-use Rattle.std.specs.Prelude.{Bool, true, cond, not, ◌&&◌, ◌||◌, List, [], ◌∷◌, ◌≡◌, ℕ, ◌≤◌, ◌<◌, eqb, leb, ltb, length}
+use Rattle.std.specs.Prelude.{Bool, true, cond, not, ◌&&◌, ◌||◌, List, [], ◌∷◌, ◌≡◌, ℕ, ◌≤◌}
+use Rattle.std.specs.Prelude.{◌<◌, eqb, leb, ltb, length}
 use Rattle.tables.specs.Format.{decode, messages_in, processes_in, table_length}
 use Rattle.tables.specs.Lists.{any, any_below}
 use Rattle.tables.specs.Table.{Message, Table, count_of, message_count, message_of, process_count}
@@ -126,7 +127,8 @@ pub record WellFormed (t : Table) : Type 0 where
 
 -- The messages of each channel are in turn.
 abbrev pub ChannelsInTurn : Table → Type 0
-ChannelsInTurn t = (q k : ℕ) → q < k → k < message_count t → same_channel (message_of t q) (message_of t k) ≡ true
+ChannelsInTurn t = (q k : ℕ) → q < k → k < message_count t → same_channel (message_of t q) (message_of t k)
+    ≡ true
     → InTurn (message_of t q) (message_of t k)
 
 -- An orderly table: well formed, with its channels in turn. This is what an accepted table satisfies, the limits apart.

@@ -1,5 +1,6 @@
 -- Lists that are given by their entries, and searches in lists and among numbers. Assumes nothing.
-use Rattle.std.specs.Prelude.{Bool, cond, true, false, ◌||◌, List, [], ◌∷◌, ◌++◌, ◌≡◌, ℕ, zero, suc, ◌+◌, ◌≤◌, ◌<◌, length, get_or}
+use Rattle.std.specs.Prelude.{Bool, cond, true, false, ◌||◌, List, [], ◌∷◌, ◌++◌, ◌≡◌, ℕ, zero}
+use Rattle.std.specs.Prelude.{suc, ◌+◌, ◌≤◌, ◌<◌, length, get_or}
 
 -- The list of n entries whose entry k is f k.
 unfoldable pub tabulate : {A : Type 0} → ℕ → (ℕ → A) → List A

@@ -1,5 +1,6 @@
 -- Numbers in bytes, each of w bytes, low byte first. Assumes nothing.
-use Rattle.std.specs.Prelude.{List, [], ◌∷◌, ◌++◌, ℕ, zero, suc, ◌+◌, ◌*◌, ◌/◌, ◌%◌, length, get_or, take, drop}
+use Rattle.std.specs.Prelude.{List, [], ◌∷◌, ◌++◌, ℕ, zero, suc, ◌+◌, ◌*◌, ◌/◌, ◌%◌, length}
+use Rattle.std.specs.Prelude.{get_or, take, drop}
 
 -- The unsigned number of w bytes at byte `at`. What stands beyond the end is 0.
 unfoldable pub number_at : ℕ → List ℕ → ℕ → ℕ

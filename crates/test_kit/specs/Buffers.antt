@@ -1,5 +1,6 @@
 -- What is written to a buffer, and what a test says of one. A place beyond the end is left out. Assumes nothing.
-use Rattle.std.specs.Prelude.{Bool, true, false, List, ◌≡◌, ℕ, zero, suc, ◌+◌, ◌*◌, ◌/◌, ◌%◌, ◌≤◌, ◌<◌, length, get_or, set}
+use Rattle.std.specs.Prelude.{Bool, true, false, List, ◌≡◌, length, get_or, set}
+use Rattle.std.specs.Prelude.{ℕ, zero, suc, ◌+◌, ◌*◌, ◌/◌, ◌%◌, ◌≤◌, ◌<◌}
 
 -- A 16-bit number at a place, low byte first.
 unfoldable pub with_number : List ℕ → ℕ → ℕ → List ℕ
@@ -14,7 +15,8 @@ pub record ValuesEnd (buffer : List ℕ) (from to value end : ℕ) : Type 0 wher
 
 -- The answer of a test whether every byte from one place to another has a value.
 pub record AllAre (buffer : List ℕ) (from to value : ℕ) (answer : Bool) : Type 0 where
-  pub all : answer ≡ true → (i : ℕ) → from ≤ i → i < to → i < length buffer → get_or buffer i 0 ≡ value
+  pub all : answer ≡ true → (i : ℕ) → from ≤ i → i < to → i < length buffer
+      → get_or buffer i 0 ≡ value
   pub another : answer ≡ false
       → (i : ℕ) × (from ≤ i) × (i < to) × (i < length buffer) × (get_or buffer i 0 ≡ value → ⊥)
 

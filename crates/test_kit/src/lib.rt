@@ -1,17 +1,21 @@
 // What the test programs build tables and print their lines with. A place beyond the end of a buffer
-// is left out, so that every function takes any buffer.
+// is left out, so that every function takes any buffer. A line is printed to a writer, as standard output is.
 #![tactic(auto)]
 
 pub mod guards;
 
-ghost use Rattle.std.specs.Prelude.{◌≡◌, ◌<◌, get_or, length, set, take};
+ghost use Rattle.std.specs.Prelude.{[], OnOk, ◌++◌, ◌∷◌, ◌≡◌, ◌<◌, codes};
+ghost use Rattle.std.specs.Prelude.{get_or, length, set, take};
+ghost use Rattle.std.specs.Fmt.{decimal};
+ghost use Rattle.std.specs.Io.KnownBytes.{Appends};
 ghost use Rattle.tables.specs.Arrays.{Filled};
 ghost use Rattle.tables.specs.Format.{messages_in, processes_in, table_length};
 ghost use Rattle.test_kit.specs.Buffers.{AllAre, ValuesEnd, checksum_of, with_number};
 ghost use Rattle.test_kit.specs.Tables.{domino_place, each, with_count, with_domino, with_entry};
 ghost use Rattle.test_kit.specs.Tables.{with_message, with_sizes};
 
-use libc::STDOUT_FILENO;
+use std::io;
+use std::io::Write;
 use tables::format::{COUNTS_AT, receipts_at, sends_at, table_length};
 use tables::numbers::u16_or_zero;
 use test_script::{says, size, small};
@@ -199,17 +203,17 @@ pub fn all_are(buffer: &[u8], from: usize, to: usize, value: u8) -> bool
 }
 
 // Prints the 16-bit numbers of some bytes: each of them, or a checksum of more than 128 bytes.
-pub fn numbers(bytes: &[u8]) {
+pub fn numbers<W: Write>(out: &mut W, bytes: &[u8]) -> io::Result<()> {
     if 128 < bytes.len() {
-        word(b" sum");
-        value(checksum(bytes));
-        return;
+        word(out, b" sum")?;
+        return value(out, checksum(bytes));
     }
     let mut at = 0;
     while at < bytes.len() {
-        value(u16_or_zero(bytes, at) as u64);
+        value(out, u16_or_zero(bytes, at) as u64)?;
         at += 2;
     }
+    Ok(())
 }
 
 // A checksum of some bytes.
@@ -226,33 +230,41 @@ fn checksum(bytes: &[u8]) -> u64
 }
 
 // Prints a word, with no space.
-pub fn word(text: &[u8]) {
-    io::write_all(STDOUT_FILENO, text);
+pub fn word<W: Write>(out: &mut W, text: &[u8]) -> io::Result<()>
+    ensures { OnOk result (Appends (W.contents out.old) (W.contents out.new) text.now) }
+{
+    out.write_all(text)
 }
 
 // Prints a space and a number.
-pub fn value(n: u64) {
-    io::write_all(STDOUT_FILENO, b" ");
-    io::print_decimal(STDOUT_FILENO, n);
+pub fn value<W: Write>(out: &mut W, n: u64) -> io::Result<()>
+    ensures { OnOk result (Appends (W.contents out.old) (W.contents out.new) (32 ∷ decimal n)) }
+{
+    write!(out, " {n}")
 }
 
 // Ends a line.
-pub fn end() {
-    io::write_all(STDOUT_FILENO, b"\n");
+pub fn end<W: Write>(out: &mut W) -> io::Result<()>
+    ensures { OnOk result (Appends (W.contents out.old) (W.contents out.new) (10 ∷ [])) }
+{
+    out.write_all(b"\n")
 }
 
 // Prints a line that is a comment.
-pub fn comment(line: &[u8]) {
+pub fn comment<W: Write>(out: &mut W, line: &[u8]) -> io::Result<()> {
     if says(line, b"#") {
-        word(line);
-        end();
+        word(out, line)?;
+        end(out)?;
     }
+    Ok(())
 }
 
 // Prints a line that asks something, and what stands in front of the answer.
-pub fn asked(line: &[u8]) {
-    word(line);
-    word(b" ->");
+pub fn asked<W: Write>(out: &mut W, line: &[u8]) -> io::Result<()>
+    ensures { OnOk result (Appends (W.contents out.old) (W.contents out.new) (line.now ++ codes " ->")) }
+{
+    word(out, line)?;
+    word(out, b" ->")
 }
 
 // What a line of a script writes to the table in a buffer:

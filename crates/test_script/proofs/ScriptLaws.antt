@@ -1,27 +1,32 @@
 -- The lines of a script.
---     up_to_found, line_there                    what stands before a byte that was searched for; a line, in what is left of the script
+--     index_here                                 where a byte stands that was searched for
+--     line_there                                 a line, in what is left of the script
 --     given                                      a ceiling that the line has
 --     Lending, lending_none .. lending_all       a loop that takes the ceilings of a line
 -- Assumes nothing.
-use mathlib.Core.List.{List}
+use mathlib.Core.List.{List, [], ◌∷◌}
 use mathlib.Core.Path.{◌≡◌, refl, ap, ◌∙◌}
-use Prim.Native.Nat.{ℕ, ◌+◌, ◌-◌, ◌≤◌, ◌<◌, min, zero-le}
+use Prim.Native.Nat.{ℕ, zero, suc, ◌+◌, ◌-◌, ◌≤◌, ◌<◌, zero-le}
 use native.Mathlib.Decide.{dec_lt}
-use native.Mathlib.Nat.{min-eq_left, min-eq_right, sub-zero, zero-add}
+use native.Mathlib.Nat.{min-eq_left, min-eq_right}
 use native.Mathlib.Omega.{arith}
-use borrow.Author.Tests.{le-ltb, lt-ltb}
+use borrow.Author.Tests.{eq-eqb, le-ltb, lt-ltb, ne_eqb}
 use lib.ListN.{drop, get_or, length, length-drop, replicate, set, take}
-use lib.Seq.{take_all, take-length}
-use Rattle.bytes.specs.Bytes.{index_of, slice}
+use lib.Seq.{take_all}
 use Rattle.tables.proofs.ArrayLaws.{filled_list, filled_more, filled_none}
 use Rattle.tables.specs.Arrays.{Filled}
 use Rattle.tables.specs.Lists.{tabulate}
-use Rattle.test_script.specs.Scripts.{ceiling_at, line_at, up_to}
+use Rattle.test_script.specs.Scripts.{ceiling_at, index_of, line_at, up_to}
 
--- What stands before a byte that was searched for in all of the text.
-pub up_to_found : (stop : ℕ) (text : List ℕ) {e : ℕ} → e ≡ 0 + index_of stop (slice 0 (length text) text) → take (e - 0) text ≡ up_to stop text
-unfolding up_to slice
-up_to_found stop text found = rw (sub-zero, found, zero-add, take-length)
+-- Where a byte stands, of which none stands before: at a place that has it, or at the end of the text.
+pub index_here : (value : ℕ) (text : List ℕ) (i : ℕ) → ((k : ℕ) → k < i → get_or text k 0 ≡ value → ⊥)
+    → (i < length text → get_or text i 0 ≡ value) → i ≤ length text → i ≡ index_of value text
+unfolding index_of
+index_here value [] i before here within = omega arith
+index_here value (x ∷ xs) zero before here within = rw (eq-eqb x value (here (omega arith)))
+index_here value (x ∷ xs) (suc i) before here within =
+    rw (ne_eqb x value (before 0 (omega arith)))
+    (ap suc (index_here value xs i (λ k l. before (suc k) (omega arith)) (λ l. here (omega arith)) (omega arith)))
 
 -- A line, in what is left of the script.
 pub line_there : (script : List ℕ) (at : ℕ) → up_to 10 (take (length script - at) (drop at script)) ≡ line_at script at

@@ -1,6 +1,10 @@
 -- The lines of a script: their words, and what their numbers say. Assumes nothing.
-use Rattle.std.specs.Prelude.{cond, List, ℕ, ◌+◌, ◌-◌, min, ltb, drop, get_or, take}
-use Rattle.bytes.specs.Bytes.{index_of}
+use Rattle.std.specs.Prelude.{cond, List, [], ◌∷◌, ℕ, suc, ◌+◌, ◌-◌, min, eqb, ltb, drop, get_or, take}
+
+-- Where the first byte of a value stands, or the length of the text.
+unfoldable pub index_of : ℕ → List ℕ → ℕ
+index_of value [] = 0
+index_of value (x ∷ xs) = cond (eqb x value) 0 (suc (index_of value xs))
 
 -- What stands before the first byte of a value, or all of the text.
 unfoldable pub up_to : ℕ → List ℕ → List ℕ

@@ -4,10 +4,7 @@
 
 ghost use Rattle.std.specs.Prelude.{true, ◌≡◌, ◌+◌, ◌%◌, ◌<◌, ◌≤◌, min, get_or, length, take};
 ghost use Rattle.tables.specs.Lists.{tabulate};
-ghost use Rattle.test_script.specs.Scripts.{ceiling_at, line_at, up_to, word_of};
-
-use bytes::scan::find;
-use check::same;
+ghost use Rattle.test_script.specs.Scripts.{ceiling_at, index_of, line_at, up_to, word_of};
 
 // The numbers of a line, and how many they are.
 #[derive(Drop)]
@@ -16,12 +13,24 @@ pub struct Line {
     pub count: usize,
 }
 
+// Where the first byte of a value stands, or the length of the text.
+fn find(text: &[u8], value: u8) -> usize
+    ensures { (result ≡ index_of value text.now) × (result ≤ length text.now) }
+{
+    for (i, byte) in text.iter().enumerate() {
+        if *byte == value {
+            return i;
+        }
+    }
+    text.len()
+}
+
 // What stands before the first byte of a value, or all of the text.
 fn up_to(text: &[u8], stop: u8) -> &[u8]
     ensures { (result.now ≡ up_to stop text.now)
         × (length result.now ≤ length text.now) }
 {
-    let end = find(text, 0, text.len(), stop);
+    let end = find(text, stop);
     &text[0..end]
 }
 
@@ -39,7 +48,7 @@ pub fn says(line: &[u8], word: &[u8]) -> bool
     ensures { (result ≡ true → word_of line.now ≡ word.now)
         × (word_of line.now ≡ word.now → result ≡ true) }
 {
-    same(up_to(line, b' '), word)
+    up_to(line, b' ') == word
 }
 
 // A number, and where its digits end.

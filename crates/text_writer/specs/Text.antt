@@ -1,5 +1,6 @@
 -- Text in ASCII, and what it leaves in a buffer. Assumes nothing.
-use Rattle.std.specs.Prelude.{cond, List, [], ◌∷◌, ◌++◌, ◌≡◌, ℕ, zero, suc, ◌+◌, ◌/◌, ◌%◌, ◌<◌, ltb, length}
+use Rattle.std.specs.Prelude.{cond, List, [], ◌∷◌, ◌++◌, ◌≡◌, ℕ, zero, suc, ◌+◌, ◌/◌, ◌%◌}
+use Rattle.std.specs.Prelude.{◌<◌, ltb, length}
 
 -- The decimal digits of a number, the most significant first, in so many steps; a step more than the number is enough.
 unfoldable pub digits : ℕ → ℕ → List ℕ

@@ -161,7 +161,8 @@ module _ {t : Table} (w : WellFormed t) {processes states : List ℕ} (names : N
   missing_path e =
       let found = found_below other (length processes) e in
       let k = found.0 in
-      ⊎_elim (λ (same : as_line line (get_or processes k 0) ≡ get_or states k 0). absurd (false≢true (sym (ap not (eq-eqb _ _ same)) ∙ found.2))) (λ z. z)
+      ⊎_elim (λ (same : as_line line (get_or processes k 0) ≡ get_or states k 0). absurd (false≢true (sym (ap not (eq-eqb _ _ same)) ∙ found.2)))
+      (λ z. z)
       (stands_or_path (get_or processes k 0) (get_or states k 0) (here k found.1))
 
   not_missing : misses processes states line ≡ false → NamedZigzag t processes states → ⊥

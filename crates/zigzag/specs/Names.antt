@@ -19,7 +19,8 @@ not_below_counts t processes states =
 pub record Names (t : Table) (processes states : List ℕ) : Type 0 where
   pub for_each : length states ≡ length processes
   pub known : (k : ℕ) → k < length processes → get_or processes k 0 < process_count t
-  pub different : (k l : ℕ) → k < l → l < length processes → get_or processes k 0 ≡ get_or processes l 0 → ⊥
+  pub different : (k l : ℕ) → k < l → l < length processes → get_or processes k 0 ≡ get_or processes l 0
+      → ⊥
   pub saved : (k : ℕ) → k < length processes → get_or states k 0 < count_of t (get_or processes k 0)
 
 -- Checkpoint c of process p is named.

@@ -34,7 +34,8 @@ pub record Ends (m : Message) (q j : ℕ) : Type 0 where
 -- last of them stands at this position.
 pub data Chain (t : Table) (p i : ℕ) : ℕ → Type 0 where
   first : (k : ℕ) → Begins p i (message_of t k) → Chain t p i k
-  then : {k : ℕ} → Chain t p i k → (next : ℕ) → GoesOn (message_of t k) (message_of t next) → Chain t p i next
+  then : {k : ℕ} → Chain t p i k → (next : ℕ) → GoesOn (message_of t k) (message_of t next)
+      → Chain t p i next
 
 -- A zigzag path leads from C_{p,i} to C_{q,j}: there are such messages, and the last is as (3) asks. From a checkpoint
 -- to itself it is a zigzag cycle.

@@ -31,19 +31,24 @@ decreases-chase n sends receipts m line₀ cursors₀ stack₀ stacked₀ height
 
 -- ---- the places: the entry, from a turn of the chase; that, from a process that goes back; there, from where its message was sent after the
 -- line, and from where all of the message was read and the next one found
-abbrev swept : tie.In-chase invariant-back decreases-back invariant-chase decreases-chase → tie.After-sweep invariant-back decreases-back invariant-chase decreases-chase
+abbrev swept : tie.In-chase invariant-back decreases-back invariant-chase decreases-chase
+    → tie.After-sweep invariant-back decreases-back invariant-chase decreases-chase
 swept c = c.before.before.before.before.before
 
-abbrev entry : tie.In-chase invariant-back decreases-back invariant-chase decreases-chase → tie.Start invariant-back decreases-back invariant-chase decreases-chase
+abbrev entry : tie.In-chase invariant-back decreases-back invariant-chase decreases-chase
+    → tie.Start invariant-back decreases-back invariant-chase decreases-chase
 entry c = (swept c).before.before.before.before.before
 
-abbrev turn : tie.In-back invariant-back decreases-back invariant-chase decreases-chase → tie.In-chase invariant-back decreases-back invariant-chase decreases-chase
+abbrev turn : tie.In-back invariant-back decreases-back invariant-chase decreases-chase
+    → tie.In-chase invariant-back decreases-back invariant-chase decreases-chase
 turn c = c.before.before.before
 
-abbrev back : tie.Else-u16_at-fallen invariant-back decreases-back invariant-chase decreases-chase → tie.In-back invariant-back decreases-back invariant-chase decreases-chase
+abbrev back : tie.Else-u16_at-fallen invariant-back decreases-back invariant-chase decreases-chase
+    → tie.In-back invariant-back decreases-back invariant-chase decreases-chase
 back c = c.before.before
 
-abbrev after : tie.After-last_sent-k-in-back invariant-back decreases-back invariant-chase decreases-chase → tie.Else-u16_at-fallen invariant-back decreases-back invariant-chase decreases-chase
+abbrev after : tie.After-last_sent-k-in-back invariant-back decreases-back invariant-chase decreases-chase
+    → tie.Else-u16_at-fallen invariant-back decreases-back invariant-chase decreases-chase
 after c = c.before.before.before
 
 -- ---- what is known there: the process that leaves the stack; the message; and that it is an orphan

@@ -23,13 +23,15 @@ returns-then-refusal-ne0 c =
 pub fill_lines-requires : goal.fill_lines-requires
 unfolding keep_sheet_answer
 fill_lines-requires c =
-    let quiet : QuietCall c.args.table.now (keep_sheet_checks c.args.table.now (length c.args.scratch.now)) = quiet_sheet _ _ c.sheet_refusal-refusal.ensures c.if-refusal-ne0.false in
+    let quiet : QuietCall c.args.table.now (keep_sheet_checks c.args.table.now (length c.args.scratch.now)) = quiet_sheet _ _ c.sheet_refusal-refusal.ensures
+    c.if-refusal-ne0.false in
     record { table_value = quiet.accepted; table_in_bounds = scratch_long _ _ quiet }
 
 pub count_checkpoints-kept-requires : goal.count_checkpoints-kept-requires
 unfolding keep_sheet_answer
 count_checkpoints-kept-requires c =
-    let quiet : QuietCall c.args.table.now (keep_sheet_checks c.args.table.now (length c.args.scratch.now)) = quiet_sheet _ _ c.sheet_refusal-refusal.ensures c.if-refusal-ne0.false in
+    let quiet : QuietCall c.args.table.now (keep_sheet_checks c.args.table.now (length c.args.scratch.now)) = quiet_sheet _ _ c.sheet_refusal-refusal.ensures
+    c.if-refusal-ne0.false in
     let lined : LinesOf c.args.table.now c.fill_lines.new.scratch =
     record { accepted = quiet.accepted; lines = lines-stand _ _ _ (scratch_long _ _ quiet) c.fill_lines.ensures } in
     lined
@@ -37,7 +39,8 @@ count_checkpoints-kept-requires c =
 pub count_messages-logged-requires : goal.count_messages-logged-requires
 unfolding keep_sheet_answer
 count_messages-logged-requires c =
-    let quiet : QuietCall c.args.table.now (keep_sheet_checks c.args.table.now (length c.args.scratch.now)) = quiet_sheet _ _ c.sheet_refusal-refusal.ensures c.if-refusal-ne0.false in
+    let quiet : QuietCall c.args.table.now (keep_sheet_checks c.args.table.now (length c.args.scratch.now)) = quiet_sheet _ _ c.sheet_refusal-refusal.ensures
+    c.if-refusal-ne0.false in
     let lined : LinesOf c.args.table.now c.fill_lines.new.scratch =
     record { accepted = quiet.accepted; lines = lines-stand _ _ _ (scratch_long _ _ quiet) c.fill_lines.ensures } in
     lined
@@ -45,23 +48,27 @@ count_messages-logged-requires c =
 pub sheet_size-size-requires : goal.sheet_size-size-requires
 unfolding keep_sheet_answer
 sheet_size-size-requires c =
-    let quiet : QuietCall c.args.table.now (keep_sheet_checks c.args.table.now (length c.args.scratch.now)) = quiet_sheet _ _ c.sheet_refusal-refusal.ensures c.if-refusal-ne0.false in
+    let quiet : QuietCall c.args.table.now (keep_sheet_checks c.args.table.now (length c.args.scratch.now)) = quiet_sheet _ _ c.sheet_refusal-refusal.ensures
+    c.if-refusal-ne0.false in
     let few = kept_few _ quiet.accepted in
     record { kept_bound = omega (arith, c.count_checkpoints-kept.ensures, few.0); logged_bound = omega (arith, c.count_messages-logged.ensures, few.1) }
 
 pub returns-then-answer-size : goal.returns-then-answer-size
 unfolding keep_sheet_answer
 returns-then-answer-size c =
-    let quiet : QuietCall c.args.table.now (keep_sheet_checks c.args.table.now (length c.args.scratch.now)) = quiet_sheet _ _ c.sheet_refusal-refusal.ensures c.if-refusal-ne0.false in
+    let quiet : QuietCall c.args.table.now (keep_sheet_checks c.args.table.now (length c.args.scratch.now)) = quiet_sheet _ _ c.sheet_refusal-refusal.ensures
+    c.if-refusal-ne0.false in
     let sheeted : (Judged
-    (sheet_promise c.args.table.now (length c.args.scratch.now) c.count_checkpoints-kept.result c.count_messages-logged.result)) = sheet_judged _ quiet c.count_checkpoints-kept.ensures c.count_messages-logged.ensures in
+    (sheet_promise c.args.table.now (length c.args.scratch.now) c.count_checkpoints-kept.result c.count_messages-logged.result)) = sheet_judged _ quiet
+    c.count_checkpoints-kept.ensures c.count_messages-logged.ensures in
     let short = call_short sheeted c.sheet_size-size.ensures c.if-answer-size.true in
     record { outcome = short.0; lines = scratch_filled _ _ quiet.quiet _ c.fill_lines.ensures; demand = short.1 }
 
 pub put_sheet-requires : goal.put_sheet-requires
 unfolding keep_sheet_answer
 put_sheet-requires c =
-    let quiet : QuietCall c.args.table.now (keep_sheet_checks c.args.table.now (length c.args.scratch.now)) = quiet_sheet _ _ c.sheet_refusal-refusal.ensures c.if-refusal-ne0.false in
+    let quiet : QuietCall c.args.table.now (keep_sheet_checks c.args.table.now (length c.args.scratch.now)) = quiet_sheet _ _ c.sheet_refusal-refusal.ensures
+    c.if-refusal-ne0.false in
     let lined : LinesOf c.args.table.now c.fill_lines.new.scratch =
     record { accepted = quiet.accepted; lines = lines-stand _ _ _ (scratch_long _ _ quiet) c.fill_lines.ensures } in
     record {
@@ -74,8 +81,10 @@ put_sheet-requires c =
 pub returns : goal.returns
 unfolding keep_sheet_answer
 returns c =
-    let quiet : QuietCall c.args.table.now (keep_sheet_checks c.args.table.now (length c.args.scratch.now)) = quiet_sheet _ _ c.sheet_refusal-refusal.ensures c.if-refusal-ne0.false in
+    let quiet : QuietCall c.args.table.now (keep_sheet_checks c.args.table.now (length c.args.scratch.now)) = quiet_sheet _ _ c.sheet_refusal-refusal.ensures
+    c.if-refusal-ne0.false in
     let sheeted : (Judged
-    (sheet_promise c.args.table.now (length c.args.scratch.now) c.count_checkpoints-kept.result c.count_messages-logged.result)) = sheet_judged _ quiet c.count_checkpoints-kept.ensures c.count_messages-logged.ensures in
+    (sheet_promise c.args.table.now (length c.args.scratch.now) c.count_checkpoints-kept.result c.count_messages-logged.result)) = sheet_judged _ quiet
+    c.count_checkpoints-kept.ensures c.count_messages-logged.ensures in
     let all = call_answered sheeted c.sheet_size-size.ensures c.if-answer-size.false c.put_sheet.ensures in
     record { outcome = all.0; lines = scratch_filled _ _ quiet.quiet _ c.fill_lines.ensures; demand = all.1 }

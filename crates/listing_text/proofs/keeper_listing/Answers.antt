@@ -12,8 +12,10 @@ use Rattle.listing_text.proofs.keeper_listing.Goals as goal
 pub put_text-size-requires : goal.put_text-size-requires
 put_text-size-requires c =
     let answers : table_refusal c.args.table.now ≡ 0
-    → Answered (decode c.args.table.now) c.keeper_keep_sheet-refusal.new.scratch c.keeper_keep_sheet-refusal.new.answer = sheet_answered _ _ _ (lit≤ tt) (lit≤ tt) c.keeper_keep_sheet-refusal.ensures.outcome c.keeper_keep_sheet-refusal.ensures.lines in
-    let refusal_is : c.keeper_keep_sheet-refusal.result ≡ table_refusal c.args.table.now = sheet-number _ _ _ (lit≤ tt) (lit≤ tt) c.keeper_keep_sheet-refusal.ensures.outcome c.keeper_keep_sheet-refusal.ensures.lines in
+    → Answered (decode c.args.table.now) c.keeper_keep_sheet-refusal.new.scratch c.keeper_keep_sheet-refusal.new.answer = sheet_answered _ _ _ (lit≤ tt)
+    (lit≤ tt) c.keeper_keep_sheet-refusal.ensures.outcome c.keeper_keep_sheet-refusal.ensures.lines in
+    let refusal_is : c.keeper_keep_sheet-refusal.result ≡ table_refusal c.args.table.now = sheet-number _ _ _ (lit≤ tt) (lit≤ tt)
+    c.keeper_keep_sheet-refusal.ensures.outcome c.keeper_keep_sheet-refusal.ensures.lines in
     record {
       refusal_value = refusal_is;
       answered = answers;
@@ -21,7 +23,8 @@ put_text-size-requires c =
 
 pub returns-then-text-size : goal.returns-then-text-size
 returns-then-text-size c =
-    let refusal_is : c.keeper_keep_sheet-refusal.result ≡ table_refusal c.args.table.now = sheet-number _ _ _ (lit≤ tt) (lit≤ tt) c.keeper_keep_sheet-refusal.ensures.outcome c.keeper_keep_sheet-refusal.ensures.lines in
+    let refusal_is : c.keeper_keep_sheet-refusal.result ≡ table_refusal c.args.table.now = sheet-number _ _ _ (lit≤ tt) (lit≤ tt)
+    c.keeper_keep_sheet-refusal.ensures.outcome c.keeper_keep_sheet-refusal.ensures.lines in
     let few = text_few c.args.table.now (omega (arith, refusal_is)) in
     let longer = listing_longer _ _ c.put_text-size.ensures c.if-text-size.true in
     record {
@@ -33,8 +36,10 @@ returns-then-text-size c =
 pub put_text-requires : goal.put_text-requires
 put_text-requires c =
     let answers : table_refusal c.args.table.now ≡ 0
-    → Answered (decode c.args.table.now) c.keeper_keep_sheet-refusal.new.scratch c.keeper_keep_sheet-refusal.new.answer = sheet_answered _ _ _ (lit≤ tt) (lit≤ tt) c.keeper_keep_sheet-refusal.ensures.outcome c.keeper_keep_sheet-refusal.ensures.lines in
-    let refusal_is : c.keeper_keep_sheet-refusal.result ≡ table_refusal c.args.table.now = sheet-number _ _ _ (lit≤ tt) (lit≤ tt) c.keeper_keep_sheet-refusal.ensures.outcome c.keeper_keep_sheet-refusal.ensures.lines in
+    → Answered (decode c.args.table.now) c.keeper_keep_sheet-refusal.new.scratch c.keeper_keep_sheet-refusal.new.answer = sheet_answered _ _ _ (lit≤ tt)
+    (lit≤ tt) c.keeper_keep_sheet-refusal.ensures.outcome c.keeper_keep_sheet-refusal.ensures.lines in
+    let refusal_is : c.keeper_keep_sheet-refusal.result ≡ table_refusal c.args.table.now = sheet-number _ _ _ (lit≤ tt) (lit≤ tt)
+    c.keeper_keep_sheet-refusal.ensures.outcome c.keeper_keep_sheet-refusal.ensures.lines in
     record {
       refusal_value = refusal_is;
       answered = answers;

@@ -43,5 +43,6 @@ root_marked_spec =
     (λ c. omega arith) (λ c. omega arith)
     (λ c.
     let here = c.before.before in
-    asked_more (turn here).before.loop-p.invariant (turn here).loop-p-test.true here.state_bit.ensures (sym c.before.is_marked.ensures ∙ c.if-is_marked.false))
+    asked_more (turn here).before.loop-p.invariant (turn here).loop-p-test.true here.state_bit.ensures
+    (sym c.before.is_marked.ensures ∙ c.if-is_marked.false))
     (λ c. asked_none c.before.loop-p.invariant c.loop-p-test.false))

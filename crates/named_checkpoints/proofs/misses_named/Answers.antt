@@ -10,7 +10,6 @@ use Rattle.named_checkpoints.specs.Lists.{Parallel}
 use Rattle.tables.specs.Table.{most_processes}
 use Rattle.zigzag.specs.Together.{misses}
 use Rattle.tables.proofs.SearchedLaws.{Searched, searched_all, searched_here, searched_more, searched_none}
-
 use Rattle.named_checkpoints.proofs.misses_named.Goals as goal
 
 pub loop-k-init : goal.loop-k-init

@@ -4,7 +4,6 @@ use Prim.Native.Nat.{◌-◌, ◌<◌}
 use lib.ListN.{get_or, length}
 use Rattle.named_checkpoints.proofs.NamedLaws.{NamedPut, place_inside, put_all, put_more, put_none}
 use Rattle.tables.specs.Table.{most_processes}
-
 use Rattle.named_checkpoints.proofs.named_ceiling.Goals as goal
 
 pub loop-k-init : goal.loop-k-init
@@ -13,7 +12,8 @@ loop-k-init c =
 
 pub overflow_cast-p : goal.overflow_cast-p
 overflow_cast-p c =
-    let inside : get_or c.args.processes.now c.loop-k.k 0 < most_processes = place_inside _ c.loop-k.invariant.given.accepted c.loop-k.invariant.given.lists c.loop-k-test.true in
+    let inside : get_or c.args.processes.now c.loop-k.k 0 < most_processes = place_inside _ c.loop-k.invariant.given.accepted c.loop-k.invariant.given.lists
+    c.loop-k-test.true in
     omega (arith, inside)
 
 pub bounds-states-k : goal.bounds-states-k
@@ -22,12 +22,14 @@ bounds-states-k c =
 
 pub offset_bounds-ceiling-p : goal.offset_bounds-ceiling-p
 offset_bounds-ceiling-p c =
-    let inside : get_or c.args.processes.now c.loop-k.k 0 < most_processes = place_inside _ c.loop-k.invariant.given.accepted c.loop-k.invariant.given.lists c.loop-k-test.true in
+    let inside : get_or c.args.processes.now c.loop-k.k 0 < most_processes = place_inside _ c.loop-k.invariant.given.accepted c.loop-k.invariant.given.lists
+    c.loop-k-test.true in
     omega (arith, inside)
 
 pub bounds-ceiling-p : goal.bounds-ceiling-p
 bounds-ceiling-p c =
-    let inside : get_or c.args.processes.now c.loop-k.k 0 < most_processes = place_inside _ c.loop-k.invariant.given.accepted c.loop-k.invariant.given.lists c.loop-k-test.true in
+    let inside : get_or c.args.processes.now c.loop-k.k 0 < most_processes = place_inside _ c.loop-k.invariant.given.accepted c.loop-k.invariant.given.lists
+    c.loop-k-test.true in
     inside
 
 pub loop-k-preserved : goal.loop-k-preserved

@@ -5,26 +5,33 @@ use lib.ListN.{get_or, length}
 use Rattle.named_checkpoints.proofs.NamedLaws.{NamedBelow, below_all, below_here, not_below_here, place_inside}
 use Rattle.tables.proofs.SearchedLaws.{searched_none}
 use Rattle.tables.specs.Table.{most_processes}
-
 use Rattle.named_checkpoints.proofs.not_below_counts.Goals as goal
 
 pub loop-k-init : goal.loop-k-init
 loop-k-init c =
-    record { given = record { accepted = c.requires.table_value; lists = c.requires.parallel }; counts_are = c.count_array-counts.ensures; searched = searched_none }
+    record {
+      given = record { accepted = c.requires.table_value; lists = c.requires.parallel };
+      counts_are = c.count_array-counts.ensures;
+      searched =
+          searched_none;
+    }
 
 pub overflow_cast-p : goal.overflow_cast-p
 overflow_cast-p c =
-    let inside : get_or c.args.processes.now c.loop-k.k 0 < most_processes = place_inside _ c.loop-k.invariant.given.accepted c.loop-k.invariant.given.lists c.loop-k-test.true in
+    let inside : get_or c.args.processes.now c.loop-k.k 0 < most_processes = place_inside _ c.loop-k.invariant.given.accepted c.loop-k.invariant.given.lists
+    c.loop-k-test.true in
     omega (arith, inside)
 
 pub offset_bounds-counts-p : goal.offset_bounds-counts-p
 offset_bounds-counts-p c =
-    let inside : get_or c.args.processes.now c.loop-k.k 0 < most_processes = place_inside _ c.loop-k.invariant.given.accepted c.loop-k.invariant.given.lists c.loop-k-test.true in
+    let inside : get_or c.args.processes.now c.loop-k.k 0 < most_processes = place_inside _ c.loop-k.invariant.given.accepted c.loop-k.invariant.given.lists
+    c.loop-k-test.true in
     omega (arith, inside)
 
 pub bounds-counts-p : goal.bounds-counts-p
 bounds-counts-p c =
-    let inside : get_or c.args.processes.now c.loop-k.k 0 < most_processes = place_inside _ c.loop-k.invariant.given.accepted c.loop-k.invariant.given.lists c.loop-k-test.true in
+    let inside : get_or c.args.processes.now c.loop-k.k 0 < most_processes = place_inside _ c.loop-k.invariant.given.accepted c.loop-k.invariant.given.lists
+    c.loop-k-test.true in
     inside
 
 pub bounds-states-k : goal.bounds-states-k

@@ -42,7 +42,8 @@ receipt_refusal_spec =
     let good = all.before.before in
     let here = good.before.before in
     let ten = sym here.before.unknown.ensures ∙ here.if-unknown.false in
-    let thirteen = neither _ _ (sym good.before.bad_position.ensures ∙ good.if-bad_position.false) (sym all.before.not_rising.ensures ∙ all.if-not_rising.false) in
+    let thirteen = neither _ _ (sym good.before.bad_position.ensures ∙ good.if-bad_position.false)
+    (sym all.before.not_rising.ensures ∙ all.if-not_rising.false) in
     catches (next (next (own_left _ _ (search rules)) ten) thirteen) (sym c.before.passes_over.ensures ∙ c.if-passes_over.true))
     -- none
     (λ c.
@@ -50,6 +51,7 @@ receipt_refusal_spec =
     let good = all.before.before in
     let here = good.before.before in
     let ten = sym here.before.unknown.ensures ∙ here.if-unknown.false in
-    let thirteen = neither _ _ (sym good.before.bad_position.ensures ∙ good.if-bad_position.false) (sym all.before.not_rising.ensures ∙ all.if-not_rising.false) in
+    let thirteen = neither _ _ (sym good.before.bad_position.ensures ∙ good.if-bad_position.false)
+    (sym all.before.not_rising.ensures ∙ all.if-not_rising.false) in
     none_left
     (next (next (next (own_left _ _ (search rules)) ten) thirteen) (sym c.before.passes_over.ensures ∙ c.if-passes_over.false))))

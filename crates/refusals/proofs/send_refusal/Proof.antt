@@ -39,7 +39,8 @@ send_refusal_spec =
     let both = two.before in
     let here = both.before.before in
     let ten = neither _ _ (sym here.before.unknown.ensures ∙ here.if-unknown.false) (sym both.before.unknown-2.ensures ∙ both.if-unknown-2.false) in
-    catches (next (next (own_left _ _ (search rules)) ten) (ne_eqb _ _ two.if-from-to.false)) (sym c.before.full_of_messages.ensures ∙ c.if-full_of_messages.true))
+    catches (next (next (own_left _ _ (search rules)) ten) (ne_eqb _ _ two.if-from-to.false))
+    (sym c.before.full_of_messages.ensures ∙ c.if-full_of_messages.true))
     -- none
     (λ c.
     let two = c.before.before in
@@ -47,4 +48,5 @@ send_refusal_spec =
     let here = both.before.before in
     let ten = neither _ _ (sym here.before.unknown.ensures ∙ here.if-unknown.false) (sym both.before.unknown-2.ensures ∙ both.if-unknown-2.false) in
     none_left
-    (next (next (next (own_left _ _ (search rules)) ten) (ne_eqb _ _ two.if-from-to.false)) (sym c.before.full_of_messages.ensures ∙ c.if-full_of_messages.false))))
+    (next (next (next (own_left _ _ (search rules)) ten) (ne_eqb _ _ two.if-from-to.false))
+    (sym c.before.full_of_messages.ensures ∙ c.if-full_of_messages.false))))

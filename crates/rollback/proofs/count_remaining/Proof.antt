@@ -50,5 +50,6 @@ count_remaining_spec =
     (λ c. omega arith)
     (λ c.
     let sent = c.before in
-    counted_stays (turn sent).before.loop-k.invariant (turn sent).loop-k-test.true sent.before.u16_at-sender.ensures sent.u16_at-sent.ensures c.if-line-sender.false)
+    counted_stays (turn sent).before.loop-k.invariant (turn sent).loop-k-test.true sent.before.u16_at-sender.ensures sent.u16_at-sent.ensures
+    c.if-line-sender.false)
     (λ c. counted-all c.before.loop-k.invariant c.loop-k-test.false))

@@ -11,7 +11,8 @@ use Rattle.rollback.proofs.put_messages.Statement.{statement}
 use Rattle.rollback.proofs.put_messages.Tie as tie
 
 abbrev invariant-loop-k : tie.invariant-loop-k
-invariant-loop-k table m buffer₀ at line all sends receipts place₀ k₀ buffer place k = Gathering table line m at buffer₀ all sends receipts k place buffer
+invariant-loop-k table m buffer₀ at line all sends receipts place₀ k₀ buffer place k = Gathering table line m at buffer₀ all sends receipts k place
+    buffer
 
 abbrev decreases-loop-k : tie.decreases-loop-k
 decreases-loop-k table m buffer₀ at line all sends receipts place₀ k₀ buffer place k = all - k
@@ -41,7 +42,8 @@ room : (c : tie.Else-line-sender invariant-loop-k decreases-loop-k)
     → (turn c.before).before.loop-k.place + 4 * (entry (counted (turn c.before))).args.m + 4 ≤ length (turn c.before).before.loop-k.buffer
 room c =
     let sent = c.before in
-    gathering_room (turn sent).before.loop-k.invariant (turn sent).loop-k-test.true sent.before.u16_at-sender.ensures sent.u16_at-sent.ensures c.if-line-sender.false
+    gathering_room (turn sent).before.loop-k.invariant (turn sent).loop-k-test.true sent.before.u16_at-sender.ensures sent.u16_at-sent.ensures
+    c.if-line-sender.false
 
 -- ---- the needs, in the code's course
 pub put_messages_spec : {M : Type 1} → statement M
@@ -63,7 +65,8 @@ put_messages_spec =
     (λ c. omega arith)
     (λ c.
     let sent = c.before in
-    gathering_goes (turn sent).before.loop-k.invariant (turn sent).loop-k-test.true sent.before.u16_at-sender.ensures sent.u16_at-sent.ensures c.if-line-sender.true)
+    gathering_goes (turn sent).before.loop-k.invariant (turn sent).loop-k-test.true sent.before.u16_at-sender.ensures sent.u16_at-sent.ensures
+    c.if-line-sender.true)
     -- it stays: its receipt
     (λ c. omega arith) (λ c κs. omega arith) (λ c. omega arith) (λ c. omega arith) (λ c κs. omega arith)
     -- its send is put

@@ -11,5 +11,5 @@ line_numbers_spec =
     (tie.spec
     (λ c. omega arith)
     (λ c. omega arith)
-    (λ c. omega (arith, mul-le-mul c.if2.false c.if2.false))
-    (λ c. omega (arith, mul-le-mul c.if2.false c.if2.false)))
+    (λ c. omega (arith, mul-le-mul c.if-n-gt-MOST_PROCESSES.false c.if-n-gt-MOST_PROCESSES.false))
+    (λ c. omega (arith, mul-le-mul c.if-n-gt-MOST_PROCESSES.false c.if-n-gt-MOST_PROCESSES.false)))

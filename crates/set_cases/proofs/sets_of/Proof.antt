@@ -5,22 +5,22 @@ use Prim.Native.Nat.{◌-◌, ◌≤◌}
 use Rattle.set_cases.proofs.sets_of.Statement.{statement}
 use Rattle.set_cases.proofs.sets_of.Tie as tie
 
-abbrev invariant-loop : tie.invariant-loop
-invariant-loop list count sets₀ last₀ k₀ sets last k = k ≤ 300
+abbrev invariant-loop-k : tie.invariant-loop-k
+invariant-loop-k list count sets₀ last₀ k₀ sets last k = k ≤ 300
 
-abbrev decreases-loop : tie.decreases-loop
-decreases-loop list count sets₀ last₀ k₀ sets last k = 300 - k
+abbrev decreases-loop-k : tie.decreases-loop-k
+decreases-loop-k list count sets₀ last₀ k₀ sets last k = 300 - k
 
 -- ---- the needs, in the code's course
 pub sets_of_spec : {M : Type 1} → statement M
 sets_of_spec =
     tie.close
     (tie.spec
-    invariant-loop
-    decreases-loop
+    invariant-loop-k
+    decreases-loop-k
     (λ c. omega arith)
     -- the set
-    (λ c. omega arith) (λ c. omega arith) (λ c κs. omega (arith, c.if1.true))
+    (λ c. omega arith) (λ c. omega arith) (λ c κs. omega (arith, c.if-k-count.true))
     -- it is put
     (λ c. omega arith) (λ c. omega arith) (λ c. omega arith) (λ c. omega arith) (λ c. omega arith)
     (λ c. tt))

@@ -12,8 +12,8 @@ all_are_spec =
     (tie.spec
     (λ c κs. search rules)
     -- every place
-    (λ c. ends_all c.before.values-end.ensures (λ k a b. omega (arith, c.if1.true)))
+    (λ c. ends_all c.before.values_end-end.ensures (λ k a b. omega (arith, c.if-to-end.true)))
     -- every place of the buffer
-    (λ c. ends_all c.before.before.values-end.ensures (λ k a b. omega (arith, c.if2.true)))
+    (λ c. ends_all c.before.before.values_end-end.ensures (λ k a b. omega (arith, c.if-buffer-end.true)))
     -- another value
-    (λ c. ends_another c.before.before.values-end.ensures c.before.if1.false c.if2.false))
+    (λ c. ends_another c.before.before.values_end-end.ensures c.before.if-to-end.false c.if-buffer-end.false))

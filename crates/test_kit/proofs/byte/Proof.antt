@@ -8,4 +8,4 @@ use Rattle.test_kit.proofs.byte.Tie as tie
 
 pub byte_spec : {M : Type 1} → statement M
 byte_spec =
-    tie.close (tie.spec (λ c. sym (set_out _ _ _ c.if1.true)) (λ c. search rules) (λ c. search rules) (λ c. search rules))
+    tie.close (tie.spec (λ c. sym (set_out _ _ _ c.if-buffer-at.true)) (λ c. search rules) (λ c. search rules) (λ c. search rules))

@@ -10,14 +10,14 @@ use Rattle.tables.specs.Arrays.{Filled}
 use Rattle.test_kit.proofs.copy.Statement.{statement}
 use Rattle.test_kit.proofs.copy.Tie as tie
 
-abbrev invariant-loop : tie.invariant-loop
-invariant-loop buffer₀ bytes i₀ buffer i = (i ≤ length bytes) × Filled (λ k. get_or bytes k 0) i buffer₀ buffer
+abbrev invariant-loop-i : tie.invariant-loop-i
+invariant-loop-i buffer₀ bytes i₀ buffer i = (i ≤ length bytes) × Filled (λ k. get_or bytes k 0) i buffer₀ buffer
 
-abbrev decreases-loop : tie.decreases-loop
-decreases-loop buffer₀ bytes i₀ buffer i = length bytes - i
+abbrev decreases-loop-i : tie.decreases-loop-i
+decreases-loop-i buffer₀ bytes i₀ buffer i = length bytes - i
 
 -- ---- the places: a turn of the loop, from where its byte was put
-abbrev turn : tie.After-byte invariant-loop decreases-loop → tie.In-loop invariant-loop decreases-loop
+abbrev turn : tie.After-byte invariant-loop-i decreases-loop-i → tie.In-loop-i invariant-loop-i decreases-loop-i
 turn c = c.before.before.before
 
 -- ---- the needs, in the code's course
@@ -25,12 +25,12 @@ pub copy_spec : {M : Type 1} → statement M
 copy_spec =
     tie.close
     (tie.spec
-    invariant-loop
-    decreases-loop
+    invariant-loop-i
+    decreases-loop-i
     (λ c. (omega arith, filled_none))
     (λ c. omega arith) (λ c κs. search rules) (λ c. omega arith) (λ c. omega arith)
     (λ c.
     let put = c.before.before in
-    (omega arith, filled_more (turn put).before.loop.invariant.1 refl put.byte.ensures))
-    (λ c. c.before.loop.invariant.1.same_length)
-    (λ c. filled_all c.before.loop.invariant.1 c.before.loop.invariant.0 c.loop-test.false))
+    (omega arith, filled_more (turn put).before.loop-i.invariant.1 refl put.byte.ensures))
+    (λ c. c.before.loop-i.invariant.1.same_length)
+    (λ c. filled_all c.before.loop-i.invariant.1 c.before.loop-i.invariant.0 c.loop-i-test.false))

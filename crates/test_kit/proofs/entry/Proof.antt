@@ -5,7 +5,7 @@ use Rattle.test_kit.proofs.entry.Statement.{statement}
 use Rattle.test_kit.proofs.entry.Tie as tie
 
 -- ---- the places: where the first number was put, from where the second was
-abbrev first : tie.After-number2 → tie.After-number
+abbrev first : tie.After-number-2 → tie.After-number
 first c = c.before.before.before.before
 
 -- ---- the needs, in the code's course
@@ -16,4 +16,4 @@ entry_spec =
     (λ c κs. search rules) (λ c. search rules) (λ c κs. search rules) (λ c. search rules)
     (λ c.
     let second = c.before.before in
-    rw (first second).number.ensures at second.number2.ensures))
+    rw (first second).number.ensures at second.number-2.ensures))

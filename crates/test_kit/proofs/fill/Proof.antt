@@ -9,21 +9,21 @@ use Rattle.tables.specs.Arrays.{Filled}
 use Rattle.test_kit.proofs.fill.Statement.{statement}
 use Rattle.test_kit.proofs.fill.Tie as tie
 
-abbrev invariant-loop : tie.invariant-loop
-invariant-loop buffer₀ value i₀ buffer i = (i ≤ length buffer₀) × Filled (λ _. value) i buffer₀ buffer
+abbrev invariant-loop-i : tie.invariant-loop-i
+invariant-loop-i buffer₀ value i₀ buffer i = (i ≤ length buffer₀) × Filled (λ _. value) i buffer₀ buffer
 
-abbrev decreases-loop : tie.decreases-loop
-decreases-loop buffer₀ value i₀ buffer i = length buffer₀ - i
+abbrev decreases-loop-i : tie.decreases-loop-i
+decreases-loop-i buffer₀ value i₀ buffer i = length buffer₀ - i
 
 -- ---- the needs, in the code's course
 pub fill_spec : {M : Type 1} → statement M
 fill_spec =
     tie.close
     (tie.spec
-    invariant-loop
-    decreases-loop
+    invariant-loop-i
+    decreases-loop-i
     (λ c. (omega arith, filled_none))
     (λ c. omega arith) (λ c. omega arith) (λ c. omega arith)
-    (λ c. (omega arith, filled_more c.before.loop.invariant.1 refl refl))
-    (λ c. c.before.loop.invariant.1.same_length)
-    (λ c. filled_all c.before.loop.invariant.1 c.before.loop.invariant.0 (omega arith)))
+    (λ c. (omega arith, filled_more c.before.loop-i.invariant.1 refl refl))
+    (λ c. c.before.loop-i.invariant.1.same_length)
+    (λ c. filled_all c.before.loop-i.invariant.1 c.before.loop-i.invariant.0 (omega arith)))

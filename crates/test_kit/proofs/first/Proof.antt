@@ -11,6 +11,6 @@ pub first_spec : {M : Type 1} → statement M
 first_spec =
     tie.close
     (tie.spec
-    (λ c. sym (take_all _ _ c.if1.true))
+    (λ c. sym (take_all _ _ c.if-buffer-len.true))
     (λ c. search rules) (λ c. search rules) (λ c. search rules)
     (λ c. rw sub-zero))

@@ -8,14 +8,14 @@ use Rattle.test_kit.specs.Tables.{with_message}
 use Rattle.test_kit.proofs.messages.Statement.{statement}
 use Rattle.test_kit.proofs.messages.Tie as tie
 
-abbrev invariant-loop : tie.invariant-loop
-invariant-loop buffer₀ m j y i r k₀ buffer k = Changing (λ k b. with_message b k j y i r) m buffer₀ buffer k
+abbrev invariant-loop-k : tie.invariant-loop-k
+invariant-loop-k buffer₀ m j y i r k₀ buffer k = Changing (λ k b. with_message b k j y i r) m buffer₀ buffer k
 
-abbrev decreases-loop : tie.decreases-loop
-decreases-loop buffer₀ m j y i r k₀ buffer k = m - k
+abbrev decreases-loop-k : tie.decreases-loop-k
+decreases-loop-k buffer₀ m j y i r k₀ buffer k = m - k
 
 -- ---- the places: a turn of the loop, from where its message was put
-abbrev turn : tie.After-message invariant-loop decreases-loop → tie.In-loop invariant-loop decreases-loop
+abbrev turn : tie.After-message invariant-loop-k decreases-loop-k → tie.In-loop-k invariant-loop-k decreases-loop-k
 turn c = c.before.before
 
 -- ---- the needs, in the code's course
@@ -23,12 +23,12 @@ pub messages_spec : {M : Type 1} → statement M
 messages_spec =
     tie.close
     (tie.spec
-    invariant-loop
-    decreases-loop
+    invariant-loop-k
+    decreases-loop-k
     (λ c. changing_none)
     (λ c κs. search rules) (λ c. search rules) (λ c. search rules)
     (λ c.
     let put = c.before.before in
-    changing_more (turn put).before.loop.invariant (turn put).loop-test.true (omega arith) put.message.ensures)
-    (λ c. c.before.loop.invariant.same_length)
-    (λ c. changing_all c.before.loop.invariant c.loop-test.false))
+    changing_more (turn put).before.loop-k.invariant (turn put).loop-k-test.true (omega arith) put.message.ensures)
+    (λ c. c.before.loop-k.invariant.same_length)
+    (λ c. changing_all c.before.loop-k.invariant c.loop-k-test.false))

@@ -9,10 +9,10 @@ use Rattle.test_kit.proofs.number.Statement.{statement}
 use Rattle.test_kit.proofs.number.Tie as tie
 
 -- ---- the places: where the low byte was put, from where the end was looked for; this, from where the high byte was put
-abbrev low : tie.After-slice-known2 → tie.After-byte
+abbrev low : tie.After-slice_known-2-1 → tie.After-byte
 low c = c.before.before
 
-abbrev inside : tie.After-byte2 → tie.Else1
+abbrev inside : tie.After-byte-2 → tie.Else-buffer-at
 inside c = c.before.before
 
 -- ---- the needs, in the code's course
@@ -24,9 +24,9 @@ number_spec =
     (λ c. search rules) (λ c κs. search rules)
     -- beyond the end
     (λ c. search rules)
-    (λ c. rw (← (low c.before).byte.ensures) (sym (set_out _ _ _ (omega (arith, c.if1.true)))))
+    (λ c. rw (← (low c.before).byte.ensures) (sym (set_out _ _ _ (omega (arith, c.if-buffer-at.true)))))
     -- within
     (λ c. search rules) (λ c. search rules) (λ c κs. search rules) (λ c. search rules)
     (λ c.
     let high = c.before.before in
-    rw (low (inside high).before).byte.ensures at high.byte2.ensures))
+    rw (low (inside high).before).byte.ensures at high.byte-2.ensures))

@@ -7,14 +7,14 @@ use Rattle.test_kit.proofs.BufferLaws.{Tested, tested_end, tested_more, tested_n
 use Rattle.test_kit.proofs.values_end.Statement.{statement}
 use Rattle.test_kit.proofs.values_end.Tie as tie
 
-abbrev invariant-loop : tie.invariant-loop
-invariant-loop buffer from to value i₀ i = Tested buffer from to value i
+abbrev invariant-loop-i : tie.invariant-loop-i
+invariant-loop-i buffer from to value i₀ i = Tested buffer from to value i
 
-abbrev decreases-loop : tie.decreases-loop
-decreases-loop buffer from to value i₀ i = to - i
+abbrev decreases-loop-i : tie.decreases-loop-i
+decreases-loop-i buffer from to value i₀ i = to - i
 
 -- ---- the places: a turn of the loop, from where its byte was read
-abbrev turn : tie.After-shared-slice-known invariant-loop decreases-loop → tie.In-loop invariant-loop decreases-loop
+abbrev turn : tie.After-shared_slice_known-1 invariant-loop-i decreases-loop-i → tie.In-loop-i invariant-loop-i decreases-loop-i
 turn c = c.before.before
 
 -- ---- the needs, in the code's course
@@ -22,15 +22,15 @@ pub values_end_spec : {M : Type 1} → statement M
 values_end_spec =
     tie.close
     (tie.spec
-    invariant-loop
-    decreases-loop
+    invariant-loop-i
+    decreases-loop-i
     (λ c. tested_none)
     -- the end of the buffer
-    (λ c. tested_end c.before.before.loop.invariant (λ _ l _. omega (arith, c.if1.true)))
+    (λ c. tested_end c.before.before.loop-i.invariant (λ _ l _. omega (arith, c.if-buffer-i.true)))
     -- another value
     (λ c. omega arith)
-    (λ c. tested_end (turn c.before).before.loop.inv (λ _ _. c.if2.true))
+    (λ c. tested_end (turn c.before).before.loop-i.invariant (λ _ _. c.if-buffer-i-2.true))
     -- the same
     (λ c. omega arith) (λ c. omega arith)
-    (λ c. tested_more (turn c.before).before.loop.inv (turn c.before).loop-test.taken c.if2.false)
-    (λ c. tested_end c.before.loop.invariant (λ l _ _. omega (arith, c.loop-test.false))))
+    (λ c. tested_more (turn c.before).before.loop-i.invariant (turn c.before).loop-i-test.true c.if-buffer-i-2.false)
+    (λ c. tested_end c.before.loop-i.invariant (λ l _ _. omega (arith, c.loop-i-test.false))))

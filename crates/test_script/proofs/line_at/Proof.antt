@@ -15,4 +15,4 @@ line_at_spec =
     (λ c. search rules) (λ c. search rules) (λ c. search rules) (λ c κs. search rules)
     (λ c.
     let given = c.before.before.before.args in
-    (c.up_to_lem.ensures.0 ∙ line_there given.script.now given.at, omega (arith, simp (length-take, length-drop) at c.up_to_lem.ensures.1))))
+    (c.up_to.ensures.0 ∙ line_there given.script.now given.at, omega (arith, simp (length-take, length-drop) at c.up_to.ensures.1))))

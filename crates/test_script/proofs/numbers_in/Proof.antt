@@ -7,18 +7,18 @@ use lib.ListN.{length}
 use Rattle.test_script.proofs.numbers_in.Statement.{statement}
 use Rattle.test_script.proofs.numbers_in.Tie as tie
 
-abbrev invariant-loop : tie.invariant-loop
-invariant-loop text numbers₀ count₀ i₀ numbers count i = (i ≤ length text) × (count ≤ 16) × (length numbers ≡ 16)
+abbrev invariant-loop-i : tie.invariant-loop-i
+invariant-loop-i text numbers₀ count₀ i₀ numbers count i = (i ≤ length text) × (count ≤ 16) × (length numbers ≡ 16)
 
-abbrev decreases-loop : tie.decreases-loop
-decreases-loop text numbers₀ count₀ i₀ numbers count i = length text - i
+abbrev decreases-loop-i : tie.decreases-loop-i
+decreases-loop-i text numbers₀ count₀ i₀ numbers count i = length text - i
 
 pub numbers_in_spec : {M : Type 1} → statement M
 numbers_in_spec =
     tie.close
     (tie.spec
-    invariant-loop
-    decreases-loop
+    invariant-loop-i
+    decreases-loop-i
     (λ c. search rules)
     -- the next byte is no digit
     (λ c κs. search rules) (λ c. search rules) (λ c. search rules) (λ c. search rules)

@@ -10,7 +10,8 @@ use Rattle.text_writer.proofs.put_fields.Statement.{statement}
 use Rattle.text_writer.proofs.put_fields.Tie as tie
 
 abbrev invariant-loop-i : tie.invariant-loop-i
-invariant-loop-i text₀ at numbers next₀ i₀ text next i = Laying (λ k. field (get_or numbers k 0)) (length numbers) (each field numbers) text₀ at text next i
+invariant-loop-i text₀ at numbers next₀ i₀ text next i = Laying (λ k. field (get_or numbers k 0)) (length numbers) (each field numbers) text₀ at text
+    next i
 
 abbrev decreases-loop-i : tie.decreases-loop-i
 decreases-loop-i text₀ at numbers next₀ i₀ text next i = length numbers - i

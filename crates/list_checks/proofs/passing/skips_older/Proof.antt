@@ -83,6 +83,7 @@ skips_older_spec =
     (λ c.
     let to = c.before.before in
     let here = unlisted to in
-    skipped_here (next here.before) here.if-here-list.false to.before.u16_at.ensures c.before.u16_at-in-loop-a.ensures to.if-u16_at-process.false c.if-u16_at-ne0.false)
+    skipped_here (next here.before) here.if-here-list.false to.before.u16_at.ensures c.before.u16_at-in-loop-a.ensures to.if-u16_at-process.false
+    c.if-u16_at-ne0.false)
     -- the list has no more positions
     (λ c. marked_all c.before.loop-a.invariant c.loop-a-test.false))

@@ -10,7 +10,8 @@ use native.Mathlib.Omega.{arith}
 use Rattle.listing_text.proofs.rows.put_holds.Given as goal
 
 abbrev pub invariant-loop-k : goal.invariant-loop-k
-invariant-loop-k l = HoldsLines l.n l.scratch × Laying (λ j. hold_row j (line_at l.scratch l.n j)) l.n (hold_rows l.scratch l.n) l.initial.text l.at l.text l.next l.k
+invariant-loop-k l = HoldsLines l.n l.scratch × Laying (λ j. hold_row j (line_at l.scratch l.n j)) l.n (hold_rows l.scratch l.n) l.initial.text l.at l.text
+    l.next l.k
 
 abbrev pub decreases-loop-k : goal.decreases-loop-k
 decreases-loop-k l = l.n - l.k

@@ -25,10 +25,12 @@ abbrev decreases-passes : tie.decreases-passes
 decreases-passes sends receipts m line₀ line = sum line
 
 -- ---- the places: the entry, from a pass; a turn of the pass; where the four numbers of its message were read
-abbrev entry : tie.At-passes invariant-loop-k decreases-loop-k invariant-passes decreases-passes → tie.Start invariant-loop-k decreases-loop-k invariant-passes decreases-passes
+abbrev entry : tie.At-passes invariant-loop-k decreases-loop-k invariant-passes decreases-passes
+    → tie.Start invariant-loop-k decreases-loop-k invariant-passes decreases-passes
 entry c = c.before.before.before
 
-abbrev turn : tie.After-u16_at-received invariant-loop-k decreases-loop-k invariant-passes decreases-passes → tie.In-loop-k invariant-loop-k decreases-loop-k invariant-passes decreases-passes
+abbrev turn : tie.After-u16_at-received invariant-loop-k decreases-loop-k invariant-passes decreases-passes
+    → tie.In-loop-k invariant-loop-k decreases-loop-k invariant-passes decreases-passes
 turn c = c.before.before.before.before
 
 -- ---- what is known there: the pass is at its next message

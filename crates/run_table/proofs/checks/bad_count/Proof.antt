@@ -31,11 +31,13 @@ bad_count_spec =
     -- it is 0
     (λ c.
     let read = c.before in
-    searched_here (turn read).before.loop-p.invariant (turn read).loop-p-test.true (bad_is _ _ read.u16_at-count.ensures (outside_zero _ _ c.if-count-eq0.true)))
+    searched_here (turn read).before.loop-p.invariant (turn read).loop-p-test.true
+    (bad_is _ _ read.u16_at-count.ensures (outside_zero _ _ c.if-count-eq0.true)))
     -- it is above 4,096
     (λ c.
     let read = c.before.before in
-    searched_here (turn read).before.loop-p.invariant (turn read).loop-p-test.true (bad_is _ _ read.u16_at-count.ensures (outside_above _ _ c.if-count-gt-MOST_CHECKPOINTS.true)))
+    searched_here (turn read).before.loop-p.invariant (turn read).loop-p-test.true
+    (bad_is _ _ read.u16_at-count.ensures (outside_above _ _ c.if-count-gt-MOST_CHECKPOINTS.true)))
     -- it is neither
     (λ c. omega arith) (λ c. omega arith)
     (λ c.

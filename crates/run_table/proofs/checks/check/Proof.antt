@@ -63,7 +63,8 @@ check_spec =
     (λ c.
     let few = few c.before in
     let read = read (some few) in
-    refused_length (sizes read) (long read).if-table-lt4.false (limited (some few)) few.if-m-gt-MOST_MESSAGES.false c.before.table_length.ensures c.if-table-table_length.true)
+    refused_length (sizes read) (long read).if-table-lt4.false (limited (some few)) few.if-m-gt-MOST_MESSAGES.false c.before.table_length.ensures
+    c.if-table-table_length.true)
     -- the parts, as they are lent on
     (λ c κs. search rules) (λ c κs. search rules) (λ c. search rules) (λ c. search rules) (λ c. search rules) (λ c. search rules)
     (λ c. search rules) (λ c. search rules) (λ c. search rules) (λ c. search rules) (λ c. search rules) (λ c κs. search rules)

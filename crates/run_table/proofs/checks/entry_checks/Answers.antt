@@ -14,13 +14,19 @@ returns-then-caught-m c =
 
 pub offset_bounds-fault : goal.offset_bounds-fault
 offset_bounds-fault c =
-    omega (arith, c.first_fault-fault.ensures,
-    place_within (checks_below (message_checks c.args.n c.args.counts.now c.args.sends.now c.args.receipts.now) c.args.m))
+    omega (
+      arith,
+      c.first_fault-fault.ensures,
+      place_within (checks_below (message_checks c.args.n c.args.counts.now c.args.sends.now c.args.receipts.now) c.args.m),
+    )
 
 pub bounds-fault : goal.bounds-fault
 bounds-fault c =
-    omega (arith, c.first_fault-fault.ensures,
-    place_within (checks_below (message_checks c.args.n c.args.counts.now c.args.sends.now c.args.receipts.now) c.args.m))
+    omega (
+      arith,
+      c.first_fault-fault.ensures,
+      place_within (checks_below (message_checks c.args.n c.args.counts.now c.args.sends.now c.args.receipts.now) c.args.m),
+    )
 
 pub returns : goal.returns
 returns c =

@@ -43,5 +43,6 @@ next_kept_spec =
     (λ c. omega arith)
     (λ c.
     let read = c.before.before in
-    search_finds (turn read).before.loop-k.invariant (turn read).loop-k-test.true read.number_in_line-checkpoint.ensures c.before.if-checkpoint-from.false c.if-least-checkpoint.false)
+    search_finds (turn read).before.loop-k.invariant (turn read).loop-k-test.true read.number_in_line-checkpoint.ensures c.before.if-checkpoint-from.false
+    c.if-least-checkpoint.false)
     (λ c. search_ends c.before.loop-k.invariant c.loop-k-test.false))

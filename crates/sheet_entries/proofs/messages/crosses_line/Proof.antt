@@ -22,7 +22,8 @@ decreases-loop-k scratch n sender sent receiver received k₀ k = n - k
 abbrev turn : tie.After-number_in_line-of_receiver invariant-loop-k decreases-loop-k → tie.In-loop-k invariant-loop-k decreases-loop-k
 turn c = c.before
 
-abbrev received : tie.After-number_in_line-of_sender invariant-loop-k decreases-loop-k → tie.After-number_in_line-of_receiver invariant-loop-k decreases-loop-k
+abbrev received : tie.After-number_in_line-of_sender invariant-loop-k decreases-loop-k
+    → tie.After-number_in_line-of_receiver invariant-loop-k decreases-loop-k
 received c = c.before.before
 
 -- ---- the needs, in the code's course

@@ -17,13 +17,16 @@ abbrev decreases-loop-checkpoint : tie.decreases-loop-checkpoint
 decreases-loop-checkpoint buffer₀ at column scratch n i count next₀ checkpoint₀ buffer next checkpoint = count - checkpoint
 
 -- ---- the places: the entry, from where the first checkpoint was found; a turn of the loop, from where its number was, and where that was put
-abbrev entry : tie.After-next_kept-checkpoint invariant-loop-checkpoint decreases-loop-checkpoint → tie.Start invariant-loop-checkpoint decreases-loop-checkpoint
+abbrev entry : tie.After-next_kept-checkpoint invariant-loop-checkpoint decreases-loop-checkpoint
+    → tie.Start invariant-loop-checkpoint decreases-loop-checkpoint
 entry c = c.before.before.before
 
-abbrev turn : tie.After-number_of invariant-loop-checkpoint decreases-loop-checkpoint → tie.In-loop-checkpoint invariant-loop-checkpoint decreases-loop-checkpoint
+abbrev turn : tie.After-number_of invariant-loop-checkpoint decreases-loop-checkpoint
+    → tie.In-loop-checkpoint invariant-loop-checkpoint decreases-loop-checkpoint
 turn c = c.before.before
 
-abbrev put : tie.After-next_kept-checkpoint-in-loop-checkpoint invariant-loop-checkpoint decreases-loop-checkpoint → tie.After-put_number-next invariant-loop-checkpoint decreases-loop-checkpoint
+abbrev put : tie.After-next_kept-checkpoint-in-loop-checkpoint invariant-loop-checkpoint decreases-loop-checkpoint
+    → tie.After-put_number-next invariant-loop-checkpoint decreases-loop-checkpoint
 put c = c.before.before.before
 
 -- ---- the needs, in the code's course

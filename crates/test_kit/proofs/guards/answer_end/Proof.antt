@@ -13,9 +13,9 @@ answer_end_spec =
     tie.close
     (tie.spec
     -- a refusal
-    (λ c. (omega arith, omega arith, rw (ne_eqb _ _ c.if1.true)))
+    (λ c. (omega arith, omega arith, rw (ne_eqb _ _ c.if-number-ne0.true)))
     -- longer than its room
-    (λ c. (omega arith, omega arith, rw (eq-eqb _ _ c.before.if1.false, lt-leb _ _ c.if2.true)))
+    (λ c. (omega arith, omega arith, rw (eq-eqb _ _ c.before.if-number-ne0.false, lt-leb _ _ c.if-room-written.true)))
     -- an answer
     (λ c. search rules)
-    (λ c. (omega arith, omega arith, rw (eq-eqb _ _ c.before.if1.false, le-leb _ _ c.if2.false))))
+    (λ c. (omega arith, omega arith, rw (eq-eqb _ _ c.before.if-number-ne0.false, le-leb _ _ c.if-room-written.false))))

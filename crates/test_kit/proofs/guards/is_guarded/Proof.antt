@@ -34,5 +34,5 @@ is_guarded_spec =
     tie.close
     (tie.spec
     (λ c κs. search rules) (λ c κs. search rules)
-    (λ c. both c.before.before.all_are.ensures c.before.if1.true c.all-are2.ensures)
-    (λ c. first-changed c.before.all_are.ensures c.if1.false))
+    (λ c. both c.before.before.all_are.ensures c.before.if-all_are.true c.all_are-then-all_are.ensures)
+    (λ c. first-changed c.before.all_are.ensures c.if-all_are.false))

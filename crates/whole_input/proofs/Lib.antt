@@ -1,0 +1,3 @@
+-- The laws of reading.
+--     InputLaws    what a read adds to what was read
+mod InputLaws

@@ -1,0 +1,12 @@
+-- The front of the buffer is what the input has lost so far. The measure is the room that is left.
+use Rattle.std.proofs.Common.{length, take, ◌-◌, ◌≡◌, ◌≤◌}
+use Rattle.std.specs.Io.KnownBytes.{Consumes}
+use Rattle.whole_input.proofs.read_into.Given as goal
+
+abbrev pub invariant-loop-len : goal.invariant-loop-len
+invariant-loop-len g l =
+    (l.len ≤ length l.buffer) × (length l.buffer ≡ length l.initial.buffer) ×
+    Consumes (g.R.Read.remaining l.initial.input) (g.R.Read.remaining l.input) (take l.len l.buffer)
+
+abbrev pub decreases-loop-len : goal.decreases-loop-len
+decreases-loop-len g l = length l.initial.buffer - l.len

@@ -1,0 +1,28 @@
+// Reads an input into a buffer: as much of it as the buffer has room for, or all of it.
+#![tactic(auto)]
+
+ghost use Rattle.std.specs.Prelude.{IfOk, IfSome, ◌≡◌, ◌≤◌, length, take};
+ghost use Rattle.std.specs.Io.KnownBytes.{Consumes};
+
+use std::io;
+use std::io::Read;
+
+// Reads until the buffer is full or the input ends: how many bytes it put at the front of the buffer. A read
+// that fails, or that a signal interrupts, ends it.
+pub fn read_into<R: Read>(input: &mut R, buffer: &mut [u8]) -> io::Result<usize>
+    ensures within { IfOk result (λ len. len ≤ length buffer.new) }
+    ensures front { IfOk result (λ len. IfSome (R.remaining input.old)
+        (λ bytes. take len buffer.new ≡ take (length buffer.new) bytes)) }
+    ensures rest { IfOk result (λ len.
+        Consumes (R.remaining input.old) (R.remaining input.new) (take len buffer.new)) }
+{
+    let mut len = 0;
+    while len < buffer.len() {
+        let count = input.read(&mut buffer[len..])?;
+        if count == 0 {
+            return Ok(len);
+        }
+        len += count;
+    }
+    Ok(len)
+}
