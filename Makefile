@@ -12,7 +12,7 @@
 # make tools    builds the command keeper, target/cargo/release/keeper
 # make bench    the archive's times beside plain C, Rust and work lists, written to docs/BENCHMARKS.md
 # make install  headers, archives, pkg-config files, programs, completions and man pages: PREFIX=/usr/local, DESTDIR
-# make clean    takes away what was built: target/, and what cargo and python left elsewhere
+# make clean    takes away what was built: target/, what rt keeps in crates/*/out, and what cargo and python left elsewhere
 # make change-report BASE=commit  what changed since a commit, for the note of a change: RUNS=2, TIMES=no, CRATES="a b"
 SHELL := /bin/sh
 .DEFAULT_GOAL := help
@@ -53,18 +53,31 @@ table-there:
 	@test ! -d "$$TABLE" || { echo "$$TABLE: this is a folder, and a table is a file" >&2; exit 1; }
 	@test -r "$$TABLE" || { echo "$$TABLE: it can't be read" >&2; exit 1; }
 
-# The listing program, proved before it is built: nothing is done again where nothing has changed. What
-# is proved is said on standard error as it goes.
+# What a proof reads: the list of the crates, and their files, with the folders, whose times tell of a file that went. What
+# rt keeps of its work, crates/*/out, is none of it.
+PROVED := crates.txt $(shell find $(wildcard crates/*/src crates/*/specs crates/*/proofs))
 
-program: need-rt
-	@test -x target/bin/listing || echo "proving and building the listing program: some three minutes the first time" >&2
-	@{ rt check listing 2>&1; echo "status $$?"; } | awk ' \
-	    /^status [0-9]+$$/ { if ($$2) { for (i = 1; i <= n; i++) print line[i] >"/dev/stderr" } exit $$2 } \
-	    { line[++n] = $$0 } \
-	    /^rt: .* proved \([0-9]/ { print >"/dev/stderr" }'
+# $(call proving,crate,command,log): the command in a crate's folder, with its output in a log. It says each crate that it
+# begins to prove on standard error, and shows the log where it fails.
+define proving
+@mkdir -p target/tests
+@{ (cd crates/$(1) && $(2)) 2>&1; echo "status $$?"; } | tee target/tests/$(3).log | sed -un 's/^rt: chose --jobs [0-9]* for \(.*\)/    \1/p' >&2
+@tail -n 1 target/tests/$(3).log | grep -qx 'status 0' || { cat target/tests/$(3).log; exit 1; }
+endef
 
-# Two lanes, a core each, and rt ci alone behind them. What needs neither the archives nor a program is tested while the
-# archives are proved; then what needs them, in two lanes of about the same length, of which one alone calls rt.
+# The listing program, proved before it is built, run on example A and then left here: nothing is done again where nothing
+# has changed.
+program: target/bin/listing
+target/bin/listing: $(PROVED) | need-rt
+	@echo "proving and building the listing program: some minutes the first time" >&2
+	$(call proving,listing,rt run <stdin >/dev/null,listing.program)
+	@mkdir -p target/bin
+	@cp crates/listing/out/listing $@
+
+# Two lanes, and rt ci alone behind them. What needs neither the archives nor a program is tested while the archives are
+# proved; then what needs them, in two lanes of about the same length, of which one alone calls rt. What `rt lib` proves for
+# the archives counts for nothing in `rt ci`, which proves all from nothing, but for what it passed before on this machine;
+# its last line is the last one here, and verdict.sh fails where it passes over a must-fail edit that can't be applied.
 APART = format version-tests refusal-tests reference-tests report-tests
 LANE = differential-tests c-tests
 TESTS = rust-lint binding-tests tools-tests examples-tests fuzz-replay corpus-tests install-test
@@ -78,15 +91,15 @@ endef
 test: need-rt need-gcc need-cargo
 	$(call beside,apart,$(APART),archives)
 	$(call beside,lane,$(LANE),$(TESTS))
-	@rt ci
+	@{ rt ci; echo "status $$?"; } | sh tests/crates/verdict.sh
 
 check: need-rt
-	@rt check
+	@rt all test
 
-# The layout of the crates, what they name, and what a person has to follow in them; that the last can fail.
+# The layout of the crates, what they name, and what a person has to follow in them; that these can fail.
 format: need-rt
 	@mkdir -p target/tests
-	@rt fmt --check
+	@sh tests/crates/layout.sh
 	@sh tests/crates/dependencies.sh
 	@sh tests/crates/readable.sh
 	@sh tests/crates/must_fail.sh target/tests
@@ -124,18 +137,19 @@ version-tests:
 	@sh tests/version.sh
 	@sh tests/version.sh must-fail target/tests
 
-# The archives of the libraries. Each is proved as it is written, every time, so it is done again only
-# where a source is newer. One rt at a time: it shares target/, and takes all processors itself.
+# The archives of the libraries. A library can't be an archive, so each has a crate NAME_c above it, which exports its
+# functions and is proved as the archive is written: this is done again only where a source is newer. One rt at a time: a
+# second one would wait for the first.
 .NOTPARALLEL:
 ARCHIVES = run_table keeper listing_text
 ARCHIVE_FILES = $(ARCHIVES:%=target/staticlib/lib%.a)
 archives: $(ARCHIVE_FILES)
 
-$(ARCHIVE_FILES): target/staticlib/lib%.a: crates.txt $(shell find crates -name '*.rt' -o -name '*.antt') | need-rt
-	@mkdir -p target/tests
+$(ARCHIVE_FILES): target/staticlib/lib%.a: $(PROVED) | need-rt
 	@echo "proving and building lib$*.a" >&2
-	@rt staticlib $* >target/tests/$*.archive.log 2>&1 || { cat target/tests/$*.archive.log; exit 1; }
-	@touch $@
+	$(call proving,$*_c,rt lib,$*.archive)
+	@mkdir -p target/staticlib
+	@cp crates/$*_c/out/lib$*_c.a $@
 
 # The headers against the archives and the sources, and C programs that make every call; that both can fail.
 c-tests: need-gcc archives
@@ -306,6 +320,7 @@ report-tests: need-cargo
 bench: need-gcc need-cargo archives
 	@sh bench/run.sh
 
-# All that is built stands in target/; the others are what cargo and python leave where they are run by hand.
+# All that is built stands in target/, and what rt keeps of its proofs in crates/*/out; the others are what cargo and python
+# leave where they are run by hand.
 clean:
-	@rm -rf target $(addsuffix /target,$(RUST_FOLDERS)) bench/__pycache__
+	@rm -rf target crates/*/out $(addsuffix /target,$(RUST_FOLDERS)) bench/__pycache__

@@ -1,10 +1,14 @@
 # For scripts that show that another script can fail: it is run over copies of the repository's files with one change
 # each, and has to find every one. To be read by `.`; before that, these are set:
-#   copy    the folder of the copy
 #   work    a folder for other files
 #   prefix  what a line begins with that tells of a difference
-# and two functions are there: `fresh` makes the copy anew, and `tested` runs the script over it.
+# and two functions are there: `fresh` makes the copy anew, and `tested` runs the script over it. `copy` is its folder:
+# outside the repository, since rt refuses sources that stand in no crate, and taken away at the end, whatever happens.
 
+outside=$(mktemp -d) || exit 1
+trap 'rm -rf "$outside"' EXIT
+trap 'exit 1' HUP INT TERM
+copy=$outside/copy
 found=0
 
 fail() {

@@ -5,7 +5,10 @@
 #   - its header compiles alone and twice over, as C99, C11 and (where g++ is there) C++11;
 #   - the functions that the header declares are those that the archive defines, both ways; static inline ones are
 #     no such functions;
-#   - each declaration is that of the source: result, types, names and order of the parameters;
+#   - each declaration is that of the source, of the archive's crate (crates/NAME_c) and of the library that it exports
+#     (crates/NAME): result, types, names and order of the parameters;
+#   - each function of the archive's crate has the comment, the signature and the clauses of the library's, word for
+#     word, and does nothing but call it with its own parameters in their order;
 #   - the manual (docs/MANUAL.md) and the page of section 3 give the same functions with the same parameters, the
 #     static inline ones too;
 #   - the Rust binding (bindings/rust/src/archive.rs) declares the same functions with the same parameters;
@@ -132,6 +135,59 @@ in_c() {
     }' | sort
 }
 
+# What a source states of its exported functions: comment, signature and clauses. What the prover is told to try is
+# no part of it.
+stated() {
+    awk '
+    /^#\[tactic/ { skipped = 1 }
+    skipped { if (/\)\]$/) skipped = 0; next }
+    /^\/\// { comment = comment $0 "\n"; next }
+    /^#\[unsafe\(no_mangle\)\]$/ { inside = 1; text = comment }
+    inside && /^\{$/ { printf "%s", text; inside = 0 }
+    inside { text = text $0 "\n" }
+    { comment = "" }' "$1"
+}
+
+# The bodies of the exported functions of a source, without blanks, and what they are where each calls the function of
+# its name in a crate.
+bodies() {
+    awk '
+    /^pub extern "C" fn / { head = ""; inside = 1 }
+    inside == 1 && /^\{$/ {
+        name = head
+        sub(/\(.*/, "", name)
+        sub(/.* /, "", name)
+        inside = 2
+        body = ""
+        next
+    }
+    inside == 1 { head = head $0 " " }
+    inside == 2 && /^\}$/ { gsub(/[ \t]/, "", body); sub(/,\)$/, ")", body); print name ": " body; inside = 0 }
+    inside == 2 { body = body $0 }' "$1"
+}
+called() {
+    awk -v crate="$2" '
+    /^pub extern "C" fn / { head = ""; inside = 1 }
+    inside && /^\{$/ {
+        list = head
+        sub(/^[^(]*\(/, "", list)
+        sub(/\).*/, "", list)
+        name = head
+        sub(/\(.*/, "", name)
+        sub(/.* /, "", name)
+        n = split(list, parameter, ",")
+        given = ""
+        for (i = 1; i <= n; i++) {
+            sub(/:.*/, "", parameter[i])
+            gsub(/[ \t]/, "", parameter[i])
+            if (parameter[i] != "") given = given (given == "" ? "" : ",") parameter[i]
+        }
+        print name ": " crate "::" name "(" given ")"
+        inside = 0
+    }
+    inside { head = head $0 " " }' "$1"
+}
+
 # The declarations of the synopsis of a page in mdoc, those whose name begins so.
 in_page() {
     awk -v prefix="$2" "$layout"'
@@ -184,9 +240,20 @@ $(cat "$work/diff")"
     nm -u --format=posix "$archive" | awk 'NF > 1 { print $1 }' | grep -vxF -f "$work/may_need" >"$work/needed"
     [ ! -s "$work/needed" ] || fail "lib$crate.a needs what docs/MANUAL.md does not name: $(cat "$work/needed")"
 
-    cat "$root/crates/$crate"/src/*.rt | in_c 'pub extern "C" fn ' >"$work/exported"
-    diff "$work/declared" "$work/exported" >"$work/diff" || fail "$crate.h (<) and the source of $crate (>):
+    for source in "$crate" "${crate}_c"; do
+        cat "$root/crates/$source"/src/*.rt | in_c 'pub extern "C" fn ' >"$work/exported"
+        diff "$work/declared" "$work/exported" >"$work/diff" || fail "$crate.h (<) and the source of $source (>):
 $(cat "$work/diff")"
+    done
+    stated "$root/crates/$crate/src/lib.rt" >"$work/library"
+    stated "$root/crates/${crate}_c/src/lib.rt" | diff "$work/library" - >"$work/diff" ||
+        fail "what crates/$crate (<) and crates/${crate}_c (>) state of a function:
+$(cat "$work/diff")"
+    called "$root/crates/${crate}_c/src/lib.rt" "$crate" >"$work/called"
+    bodies "$root/crates/${crate}_c/src/lib.rt" | diff "$work/called" - >"$work/diff" ||
+        fail "crates/${crate}_c, the calls of $crate (<) and its bodies (>):
+$(cat "$work/diff")"
+    [ "$(wc -l <"$work/called")" -eq "$(wc -l <"$work/names")" ] || fail "crates/${crate}_c does not export every call of $crate.h"
 
     # The manual and the page tell of the static inline functions too.
     { cat "$work/declared"; inlined "$header"; } | sort >"$work/public"

@@ -13,7 +13,6 @@ archives=$(cd "$1" && pwd)
 work=$(cd "$2" && pwd)
 here=$(cd "$(dirname "$0")" && pwd)
 root=$here/../..
-copy=$work/must_fail
 prefix=headers
 . "$root/tests/changes.sh"
 
@@ -137,7 +136,7 @@ fresh() {
     mkdir -p "$copy/docs" "$copy/tests/c" "$copy/archives" "$copy/bindings/rust" || exit 1
     cp -r "$root/include" "$root/man" "$copy" && cp "$root/docs/MANUAL.md" "$root/docs/BENCHMARKS.md" "$copy/docs" && cp "$here/headers.sh" "$copy/tests/c" &&
         cp -r "$root/bindings/rust/src" "$copy/bindings/rust" && cp "$archives"/*.a "$copy/archives" || exit 1
-    for crate in run_table keeper listing_text; do
+    for crate in run_table keeper listing_text run_table_c keeper_c listing_text_c; do
         mkdir -p "$copy/crates/$crate" && cp -r "$root/crates/$crate/src" "$copy/crates/$crate" || exit 1
     done
 }
@@ -236,31 +235,51 @@ changed docs/BENCHMARKS.md '/^| `keeper_receive` | [0-9]* | [0-9]* |$/d'
 changed docs/BENCHMARKS.md '/^| `keeper_stand_together` | [0-9]* | [0-9]* |$/d'
 changed docs/BENCHMARKS.md '/^| `keeper_lines_of_sets` | [0-9]* | [0-9]* |$/d'
 changed docs/BENCHMARKS.md 's/^\(| `run_table_count` | [0-9]* |\) 8/\1 16/'
-changed crates/keeper/src/lib.rt 's/set: u32/set: u64/'
-changed crates/keeper/src/lib.rt 's/    process: u16,/    saver: u16,/'
-changed crates/keeper/src/lib.rt 's/    list: &\[u16\],//'
-changed crates/keeper/src/lib.rt 's/ceilings: &\[u16\],/ceilings: \&[u8],/'
-changed crates/keeper/src/lib.rt 's/ceilings: &\[u16\],/ceilings: \&mut [u16],/'
-changed crates/keeper/src/lib.rt 's/marks: &mut \[u8\],/marks: \&[u8],/'
-changed crates/keeper/src/lib.rt 's/marks: &mut \[u8\],/marks: \&mut [u16],/'
-changed crates/keeper/src/lib.rt 's/processes: &\[u16\],/processes: \&[u8],/'
-changed crates/keeper/src/lib.rt 's/states: &\[u16\],/states: \&mut [u16],/'
-changed crates/keeper/src/lib.rt 's/    states: &\[u16\],//'
-changed crates/keeper/src/lib.rt 's/extern "C" fn keeper_stand_together(/extern "C" fn keeper_stand(/'
-changed crates/keeper/src/lib.rt 's/^pub extern "C" fn keeper_stand_together(/pub fn keeper_stand_together(/'
-changed crates/keeper/src/lib.rt 's/sets: &\[u32\],/sets: \&[u16],/'
-changed crates/keeper/src/lib.rt 's/sets: &\[u32\],/sets: \&mut [u32],/'
-changed crates/keeper/src/lib.rt 's/    sets: &\[u32\],//'
-changed crates/keeper/src/lib.rt '/fn keeper_lines_of_sets(/,/^) ->/s/scratch: &mut \[u16\]/scratch: \&[u16]/'
-changed crates/keeper/src/lib.rt '/fn keeper_lines_of_sets(/,/^) ->/s/scratch: &mut \[u16\],//'
-changed crates/keeper/src/lib.rt 's/extern "C" fn keeper_lines_of_sets(/extern "C" fn keeper_lines(/'
-changed crates/keeper/src/lib.rt 's/^pub extern "C" fn keeper_lines_of_sets(/pub fn keeper_lines_of_sets(/'
-changed crates/keeper/src/lib.rt 's/extern "C" fn keeper_receive(/extern "C" fn keeper_receipt(/'
-changed crates/keeper/src/lib.rt 's/^pub extern "C" fn keeper_receive(/pub fn keeper_receive(/'
-changed crates/keeper/src/lib.rt '/fn keeper_receive(/,/^) ->/s/process: u16/process: u8/'
-changed crates/keeper/src/lib.rt '/fn keeper_receive(/,/^) ->/s/list: &\[u16\]/list: \&[u32]/'
-changed crates/run_table/src/lib.rt 's/^pub extern "C" fn run_table_processes(table: &\[u8\]) -> u16/pub extern "C" fn run_table_processes(table: \&[u8]) -> u32/'
-changed crates/listing_text/src/lib.rt 's/text: &mut \[u8\], written/text: \&[u8], written/'
+# The source of a call: of the library, and of the archive's crate.
+in_source() {
+    changed "crates/$1/src/lib.rt" "$2"
+    changed "crates/$1_c/src/lib.rt" "$2"
+}
+in_source keeper 's/set: u32/set: u64/'
+in_source keeper 's/    process: u16,/    saver: u16,/'
+in_source keeper 's/    list: &\[u16\],//'
+in_source keeper 's/ceilings: &\[u16\],/ceilings: \&[u8],/'
+in_source keeper 's/ceilings: &\[u16\],/ceilings: \&mut [u16],/'
+in_source keeper 's/marks: &mut \[u8\],/marks: \&[u8],/'
+in_source keeper 's/marks: &mut \[u8\],/marks: \&mut [u16],/'
+in_source keeper 's/processes: &\[u16\],/processes: \&[u8],/'
+in_source keeper 's/states: &\[u16\],/states: \&mut [u16],/'
+in_source keeper 's/    states: &\[u16\],//'
+in_source keeper 's/extern "C" fn keeper_stand_together(/extern "C" fn keeper_stand(/'
+in_source keeper 's/^pub extern "C" fn keeper_stand_together(/pub fn keeper_stand_together(/'
+in_source keeper 's/sets: &\[u32\],/sets: \&[u16],/'
+in_source keeper 's/sets: &\[u32\],/sets: \&mut [u32],/'
+in_source keeper 's/    sets: &\[u32\],//'
+in_source keeper '/fn keeper_lines_of_sets(/,/^) ->/s/scratch: &mut \[u16\]/scratch: \&[u16]/'
+in_source keeper '/fn keeper_lines_of_sets(/,/^) ->/s/scratch: &mut \[u16\],//'
+in_source keeper 's/extern "C" fn keeper_lines_of_sets(/extern "C" fn keeper_lines(/'
+in_source keeper 's/^pub extern "C" fn keeper_lines_of_sets(/pub fn keeper_lines_of_sets(/'
+in_source keeper 's/extern "C" fn keeper_receive(/extern "C" fn keeper_receipt(/'
+in_source keeper 's/^pub extern "C" fn keeper_receive(/pub fn keeper_receive(/'
+in_source keeper '/fn keeper_receive(/,/^) ->/s/process: u16/process: u8/'
+in_source keeper '/fn keeper_receive(/,/^) ->/s/list: &\[u16\]/list: \&[u32]/'
+in_source run_table 's/^pub extern "C" fn run_table_processes(table: &\[u8\]) -> u16/pub extern "C" fn run_table_processes(table: \&[u8]) -> u32/'
+in_source listing_text 's/text: &mut \[u8\], written/text: \&[u8], written/'
+# What the archive's crate states again, and what it calls.
+in_source keeper '/^\/\/ The recovery line of the run/s/run/table/'
+in_source keeper '/^\/\/ The recovery line of the run/d'
+in_source keeper '/fn keeper_send(/,/^{/s/ensures table/ensures other/'
+in_source keeper '/fn keeper_send(/,/^{/s/send from to/send to from/'
+in_source keeper '/fn keeper_line_under(/,/^{/{/^    ensures latest/,/^{/{/^{/!d}}'
+in_source keeper '/fn keeper_save(/,/^{/s/^{/    requires { length table.now < 1 }\n{/'
+in_source run_table '/fn run_table_sender(/,/^{/s/)\.sender/).receiver/'
+in_source listing_text 's/ensures fits { 80000/ensures fits { 8000/'
+changed crates/keeper_c/src/lib.rt 's/keeper::keeper_check_table(table)/0/'
+changed crates/keeper_c/src/lib.rt 's/keeper::keeper_send(table, from, to,/keeper::keeper_send(table, to, from,/'
+changed crates/keeper_c/src/lib.rt 's/keeper::keeper_receive(/keeper::keeper_save(/'
+changed crates/keeper_c/src/lib.rt 's/keeper::keeper_line_of_set(.*)/{ & + 0 }/'
+changed crates/run_table_c/src/lib.rt 's/run_table::run_table_sent(table, k)/run_table::run_table_sent(table, k + 1)/'
+changed crates/listing_text_c/src/lib.rt 's/^    listing_text::keeper_listing(.*)$/    let refusal = &;\n    refusal/'
 changed docs/MANUAL.md 's/uint16_t from, uint16_t to/uint16_t to, uint16_t from/'
 changed docs/MANUAL.md '/^An archive needs nothing but/s/, `memmove`//'
 changed docs/MANUAL.md 's/ceilings, ceilings_length/ceilings_length, ceilings/'
@@ -325,5 +344,4 @@ fresh
 echo 'void *malloc(unsigned long); __attribute__((used)) static void *get(void) { return malloc(9); }' | gcc -x c -fno-builtin -c -o "$work/must_fail.o" - &&
     ar q "$copy/archives/liblisting_text.a" "$work/must_fail.o" 2>/dev/null
 finds "an archive that allocates"
-rm -rf "$copy"
 echo "must_fail: $found changes found by headers.sh"

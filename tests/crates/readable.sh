@@ -2,10 +2,11 @@
 # sh tests/crates/readable.sh [ROOT]
 #
 # What a person has to follow in the crates (CONTRIBUTING.md, "A function's proof"): no line of more than 160 columns in
-# proofs, and of 120 in definitions and code; no chain of more than six `.before`, and no `.pre` read by place deeper
+# proofs, and of 120 in definitions and code; no chain of more than six `.before`, and no `.requires` read by place deeper
 # than two, however they are broken over lines; no two files of laws with one name, and no two records, of definitions,
 # laws and functions' proofs. Columns are bytes, whatever awk is at hand: what is within them is within them by
-# characters too. Names every place that is not so, and stops where nothing was looked at.
+# characters too. What rt leaves in crates/*/out is passed over. Names every place that is not so, and stops where nothing
+# was looked at.
 
 root=${1:-$(dirname "$0")/../..}
 cd "$root" || exit 1
@@ -15,8 +16,14 @@ work=$(mktemp -d) || exit 1
 trap 'rm -rf "$work"' EXIT
 trap 'exit 1' HUP INT TERM
 
-find crates -name '*.antt' -path 'crates/*/proofs/*' | sort >"$work/proofs"
-find crates -name '*.antt' -path 'crates/*/specs/*' -o -name '*.rt' -path 'crates/*/src/*' | sort >"$work/definitions"
+# The files of a part of the crates with that ending.
+of_part() {
+    for crate in crates/*; do
+        [ ! -d "$crate/$1" ] || find "$crate/$1" -type f -name "*.$2"
+    done
+}
+of_part proofs antt | sort >"$work/proofs"
+{ of_part specs antt; of_part src rt; } | sort >"$work/definitions"
 [ -s "$work/proofs" ] && [ -s "$work/definitions" ] || { echo "readable: there are no proofs and definitions in $root" >&2; exit 1; }
 
 # Lines that are too long: the limit, the files.
@@ -30,14 +37,15 @@ chains() {
         function step(word) {
             if (word == ".before") { if (!before++) at = FNR } else before = 0
             if (before == 7) print "readable: " FILENAME ":" at ": a chain of more than six .before"
-            if (word == ".pre") { pre = 1; place = FNR } else if (pre && word ~ /^\.[0-9]+$/) pre++; else pre = 0
-            if (pre == 4) print "readable: " FILENAME ":" place ": .pre by place, deeper than two"
+            if (word == ".requires") { asked = 1; place = FNR } else if (asked && word ~ /^\.[0-9]+$/) asked++; else asked = 0
+            if (asked == 4) print "readable: " FILENAME ":" place ": .requires by place, deeper than two"
         }
-        FNR == 1 { before = 0; pre = 0 }
+        FNR == 1 { before = 0; asked = 0 }
         {
             text = $0
             sub(/(^|[ \t])--([ \t].*)?$/, "", text)
-            gsub(/\.(before|pre|[0-9]+)/, " & ", text)
+            gsub(/[(){}]/, " & ", text)
+            gsub(/\./, " .", text)
             n = split(text, words, /[ \t]+/)
             for (i = 1; i <= n; i++) if (words[i] != "") step(words[i])
         }' <"$1"

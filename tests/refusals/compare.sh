@@ -300,9 +300,9 @@ for file in table gen; do
     same tests/reference/src/$file.rs
 done
 
-# The definition that is proved: the numbers of tableChecks, in its order.
+# The definition that is proved: the numbers of table_checks, in its order.
 reads crates/tables/specs/Checks.antt
-awk '/^tableChecks .*=/ { inside = 1 }
+awk '/^table_checks .*=/ { inside = 1 }
 inside && /^ *$/ { inside = 0 }
 inside && match($0, /number = [0-9]+/) { print substr($0, RSTART + 9, RLENGTH - 9) }' crates/tables/specs/Checks.antt >"$work/found"
 expected table none no no

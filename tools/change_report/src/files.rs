@@ -113,11 +113,14 @@ fn same_in_name(differing: Vec<Numstat>) -> Vec<(String, String)> {
         .collect()
 }
 
-/// A file's name; of a function's proof, `Proof.antt`, with the function's.
+/// The files of which a function's proof is made, in a folder of its name.
+const OF_A_FUNCTION: [&str; 3] = ["Proof.antt", "Invariants.antt", "Answers.antt"];
+
+/// A file's name; of a function's proof, with the function's.
 fn own_name(path: &str) -> Vec<&str> {
     let mut parts = path.rsplit('/');
     let file = parts.next().unwrap_or(path);
-    let function = parts.next().filter(|_| file == "Proof.antt");
+    let function = parts.next().filter(|_| OF_A_FUNCTION.contains(&file));
     [Some(file), function].into_iter().flatten().collect()
 }
 
@@ -230,6 +233,9 @@ mod tests {
         let found = same_in_name(vec![
             numstat("a/proofs/f/Proof.antt", "b/proofs/m/f/Proof.antt"),
             numstat("a/proofs/g/Proof.antt", "b/proofs/h/Proof.antt"),
+            numstat("a/proofs/f/Answers.antt", "b/proofs/f/Answers.antt"),
+            numstat("a/proofs/g/Answers.antt", "b/proofs/h/Answers.antt"),
+            numstat("a/proofs/g/Invariants.antt", "b/proofs/h/Invariants.antt"),
             numstat("a/proofs/Laws.antt", "b/proofs/Laws.antt"),
             numstat("a/proofs/Same.antt", "a/proofs/Same.antt"),
         ]);
@@ -238,6 +244,7 @@ mod tests {
             new,
             [
                 "crates/b/proofs/m/f/Proof.antt",
+                "crates/b/proofs/f/Answers.antt",
                 "crates/b/proofs/Laws.antt"
             ]
         );

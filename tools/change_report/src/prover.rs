@@ -1,6 +1,7 @@
 //! Proving a commit from nothing, by the command `rt`, with a time for each
 //! crate.
 
+use std::collections::BTreeSet;
 use std::fs;
 use std::io::{self, BufRead, BufReader, Write};
 use std::os::unix::process::CommandExt;
@@ -10,6 +11,7 @@ use std::time::{Duration, Instant};
 
 use crate::command::missing;
 use crate::room::Room;
+use crate::snapshot::of_list;
 
 /// A proof of a commit.
 #[derive(Clone, Debug, Default)]
@@ -75,15 +77,20 @@ pub fn kit() -> Result<String, String> {
         .to_string())
 }
 
-/// Proves all crates in a folder, or those named and what they stand on. All
-/// that rt keeps lies in `target/`, which is removed first; the prover's files
-/// for the time that it runs go to an empty folder. One crate is proved at a
-/// time: it took what passed from the end of the one before it to its own.
+/// Proves all crates in a folder, or those named and what they stand on: of the
+/// others nothing is left there. What rt keeps lies in `crates/*/out`, which is
+/// removed first, and `rt all verdict` takes nothing from anywhere else; the
+/// prover's files for the time that it runs go to an empty folder. One crate is
+/// proved at a time: it took what passed from the end of the one before it to its
+/// own.
 pub fn prove(folder: &Path, crates: Option<&[String]>, room: &mut Room) -> Result<Run, String> {
-    remove_target(folder).map_err(|error| format!("target/ can't be removed: {error}"))?;
+    if let Some(crates) = crates {
+        keep_only(folder, crates).map_err(|error| format!("the other crates stay: {error}"))?;
+    }
+    remove_kept(folder).map_err(|error| format!("crates/*/out can't be removed: {error}"))?;
     let temporary = room.temporary();
     let temporary = temporary.map_err(|error| format!("no temporary folder: {error}"))?;
-    let rt = waiting(folder, crates).env("TMPDIR", temporary).spawn();
+    let rt = waiting(folder).env("TMPDIR", temporary).spawn();
     let mut rt = rt.map_err(|error| missing("sh", &error))?;
     room.begins(rt.id());
     let run = listen(&mut rt).map_err(|error| format!("rt: {error}"))?;
@@ -91,25 +98,62 @@ pub fn prove(folder: &Path, crates: Option<&[String]>, room: &mut Room) -> Resul
     Ok(run)
 }
 
-fn remove_target(folder: &Path) -> io::Result<()> {
-    let target = folder.join("target");
-    match target.exists() {
-        true => fs::remove_dir_all(&target),
-        false => Ok(()),
+/// Removes what rt kept of earlier runs.
+fn remove_kept(folder: &Path) -> io::Result<()> {
+    for krate in fs::read_dir(folder.join("crates"))? {
+        let kept = krate?.path().join("out");
+        if kept.exists() {
+            fs::remove_dir_all(kept)?;
+        }
     }
+    Ok(())
+}
+
+/// Leaves those crates and what they stand on, and no others: in `crates.txt`
+/// and in `crates/`, where rt refuses what the list does not name.
+fn keep_only(folder: &Path, crates: &[String]) -> io::Result<()> {
+    let list = folder.join("crates.txt");
+    let text = fs::read_to_string(&list)?;
+    let wanted = with_those_below(&text, crates);
+    let lines: Vec<&str> = text
+        .lines()
+        .filter(|line| of_list(line).is_some_and(|(name, _)| wanted.contains(name)))
+        .collect();
+    fs::write(&list, lines.join("\n") + "\n")?;
+    for krate in fs::read_dir(folder.join("crates"))? {
+        let krate = krate?;
+        if !wanted.contains(krate.file_name().to_string_lossy().as_ref()) {
+            fs::remove_dir_all(krate.path())?;
+        }
+    }
+    Ok(())
+}
+
+/// Those crates of a `crates.txt`, and what they stand on.
+fn with_those_below<'a>(list: &'a str, crates: &'a [String]) -> BTreeSet<&'a str> {
+    let mut found: BTreeSet<&str> = BTreeSet::new();
+    let mut next: Vec<&str> = crates.iter().map(String::as_str).collect();
+    while let Some(krate) = next.pop() {
+        let line = list
+            .lines()
+            .filter_map(of_list)
+            .find(|line| line.0 == krate);
+        if let Some((name, below)) = line {
+            if found.insert(name) {
+                next.extend(below);
+            }
+        }
+    }
+    found
 }
 
 /// A process that becomes rt when it is told to: none runs that the guard of the
 /// room does not know of.
-fn waiting(folder: &Path, crates: Option<&[String]>) -> Command {
+fn waiting(folder: &Path) -> Command {
     let mut command = Command::new("sh");
-    command.args(["-c", r#"read -r go && exec rt "$@" </dev/null"#, "sh"]);
-    match crates {
-        None => command.arg("prove"),
-        Some(crates) => command.arg("check").args(crates),
-    };
     command
-        .env("RT_JOBS", "1")
+        .args(["-c", r#"read -r go && exec rt "$@" </dev/null"#, "sh"])
+        .args(["all", "verdict", "--jobs", "1"])
         .current_dir(folder)
         .stdin(Stdio::piped())
         .stdout(Stdio::piped())
@@ -169,63 +213,99 @@ fn times_in(stat: &str) -> Option<Duration> {
     (times.len() == 4).then(|| Duration::from_millis(10 * times.iter().sum::<u64>()))
 }
 
-/// What a line of rt says of a crate.
+/// What was heard of a run. rt tells of each crate when it is through with it: a
+/// line `== NAME`, and what was said of it. Then comes `== summary`, with what
+/// became of each.
+#[derive(Default)]
+struct Listener {
+    told: Vec<Told>,
+    /// Whether the summary has begun.
+    summary: bool,
+    failure: Failure,
+    failed: bool,
+    /// The lines before the first crate, and when the last crate was told of.
+    lines: Vec<String>,
+    last: Passed,
+}
+
+/// A crate that rt has told of.
+struct Told {
+    krate: String,
+    took: Took,
+    lines: Vec<String>,
+    proved: bool,
+}
+
+/// What the summary says of a crate.
 #[derive(Debug, PartialEq, Eq)]
 enum Verdict<'a> {
     Proved(&'a str),
-    /// It was trusted from an earlier run.
-    Trusted(&'a str),
     NotProved(&'a str),
     /// A crate that it stands on is not proved.
     NotTried,
 }
 
 fn verdict(line: &str) -> Option<Verdict<'_>> {
-    let (krate, said) = line.strip_prefix("rt: ")?.split_once(' ')?;
-    if said.starts_with("NOT PROVED: its dependency ") {
-        return Some(Verdict::NotTried);
+    let (krate, said) = line.split_once(": ")?;
+    match said {
+        "ok" => Some(Verdict::Proved(krate)),
+        _ if said.starts_with("failed (") => Some(Verdict::NotProved(krate)),
+        _ if said.starts_with("not run, since ") => Some(Verdict::NotTried),
+        _ => None,
     }
-    if said.starts_with("NOT PROVED") {
-        return Some(Verdict::NotProved(krate));
-    }
-    let why = said.strip_prefix("proved (")?.strip_suffix(')')?;
-    let seconds = why
-        .strip_suffix(" s")
-        .and_then(|seconds| seconds.parse::<u64>().ok());
-    Some(match seconds {
-        Some(_) => Verdict::Proved(krate),
-        None => Verdict::Trusted(krate),
-    })
 }
 
-/// What was heard of a run.
-#[derive(Default)]
-struct Listener {
-    run: Run,
-    failure: Failure,
-    /// The lines since the last verdict, and when that came.
-    lines: Vec<String>,
-    last: Passed,
+/// Whether a line says that something of an earlier run was trusted.
+fn trusts(line: &str) -> bool {
+    line.starts_with("logic=proved ") && line.contains(" incremental=trusted")
 }
 
 impl Listener {
     fn hear(&mut self, line: &str, passed: Passed) {
-        self.lines.push(line.to_string());
-        let Some(verdict) = verdict(line) else {
-            return;
-        };
-        let lines = std::mem::take(&mut self.lines);
-        let took = passed.since(std::mem::replace(&mut self.last, passed));
-        match verdict {
-            Verdict::Proved(krate) => {
+        match line.strip_prefix("== ") {
+            Some("summary") => self.summary = true,
+            Some(krate) if !self.summary => {
+                let took = passed.since(std::mem::replace(&mut self.last, passed));
                 eprintln!("  {krate} {}.{} s", took.clock / 10, took.clock % 10);
-                self.run.crates.push((krate.to_string(), took));
+                self.told.push(Told {
+                    krate: krate.to_string(),
+                    took,
+                    lines: Vec::new(),
+                    proved: false,
+                });
             }
-            Verdict::Trusted(krate) | Verdict::NotProved(krate) => {
-                self.failure.crates.push(krate.to_string());
-                self.failure.said.extend(lines);
+            _ if self.summary => self.judge(line),
+            _ => {
+                let told = self.told.last_mut();
+                let lines = told.map_or(&mut self.lines, |told| &mut told.lines);
+                lines.push(line.to_string());
             }
-            Verdict::NotTried => {}
+        }
+    }
+
+    fn judge(&mut self, line: &str) {
+        match verdict(line) {
+            Some(Verdict::Proved(krate)) => {
+                let mut of = self.told.iter_mut().filter(|told| told.krate == krate);
+                let trusted = of.any(|told| {
+                    told.proved = !told.lines.iter().any(|line| trusts(line));
+                    !told.proved
+                });
+                if trusted {
+                    self.fails(krate);
+                }
+            }
+            Some(Verdict::NotProved(krate)) => self.fails(krate),
+            Some(Verdict::NotTried) => self.failed = true,
+            None => {}
+        }
+    }
+
+    fn fails(&mut self, krate: &str) {
+        self.failed = true;
+        self.failure.crates.push(krate.to_string());
+        for told in self.told.iter_mut().filter(|told| told.krate == krate) {
+            self.failure.said.append(&mut told.lines);
         }
     }
 
@@ -233,10 +313,11 @@ impl Listener {
         if !success && self.failure.crates.is_empty() {
             self.failure.said.append(&mut self.lines);
         }
-        if !success || !self.failure.crates.is_empty() {
-            self.run.failure = Some(self.failure);
+        let proved = self.told.into_iter().filter(|told| told.proved);
+        Run {
+            crates: proved.map(|told| (told.krate, told.took)).collect(),
+            failure: (self.failed || !success).then_some(self.failure),
         }
-        self.run
     }
 }
 
@@ -261,12 +342,16 @@ mod tests {
     fn hears_what_is_proved() {
         let run = heard(
             &[
+                "rt: chose 1 at a time",
+                "== first",
                 "fn first::echo: proved",
-                "rt: first proved (2 s)",
-                "rt: second proved (0 s)",
-                "rt: second was not run",
-                "rt: second ran as nobody, and wrote what its file 'stdout' has (0 s)",
-                "rt: ok, 2 crates proved, no program run",
+                "logic=proved functions=1 logic-built=trusted statements=trusted",
+                "== second",
+                "logic=proved functions=0 logic-built=trusted statements=trusted",
+                "== summary",
+                "first: ok",
+                "second: ok",
+                "2 of 2 crates ok",
             ],
             true,
         );
@@ -275,11 +360,11 @@ mod tests {
             run.crates,
             [
                 ("first".to_string(), took(15, 20)),
-                ("second".to_string(), took(7, 10))
+                ("second".to_string(), took(22, 30))
             ]
         );
-        assert_eq!((run.of("second"), run.of("third")), (Some(7), None));
-        assert_eq!((run.total(), run.clock()), (Some(22), Some(30)));
+        assert_eq!((run.of("second"), run.of("third")), (Some(22), None));
+        assert_eq!((run.total(), run.clock()), (Some(37), Some(50)));
         assert_eq!(run.failure, None);
     }
 
@@ -287,50 +372,82 @@ mod tests {
     fn hears_what_is_not_proved() {
         let run = heard(
             &[
-                "rt: first proved (2 s)",
+                "== first",
+                "logic=proved functions=1",
+                "== second",
                 "src/lib.rt:3:1: error",
-                "rt: second NOT PROVED (exit 1, 2 s)",
-                "rt: third NOT PROVED: its dependency second is not proved",
-                "rt: fourth NOT PROVED: it has neither src/lib.rt nor src/main.rt",
-                "rt: FAILED: second third fourth",
+                "logic=not-proved",
+                "== third",
+                "== fourth",
+                "rattle: killed",
+                "== summary",
+                "first: ok",
+                "second: failed (1)",
+                "third: not run, since second failed",
+                "fourth: failed (2)",
+                "(1: not proved or not passed, 2: rattle failed, 3: antt could not tell)",
+                "1 of 4 crates ok",
             ],
             false,
         );
         let failure = run.failure.expect("it failed");
         assert_eq!(failure.crates, ["second", "fourth"]);
-        assert_eq!(failure.said[0], "src/lib.rt:3:1: error");
-        assert_eq!(failure.said.len(), 3);
+        let said = [
+            "src/lib.rt:3:1: error",
+            "logic=not-proved",
+            "rattle: killed",
+        ];
+        assert_eq!(failure.said, said);
         assert_eq!(run.crates.len(), 1);
     }
 
     #[test]
     fn a_failure_needs_no_crate() {
-        let lost = "rt: in no crate that crates.txt lists, so nothing proves it: a.rt";
-        let run = heard(
-            &["rt: first proved (2 s)", lost, "rt: FAILED: lost-files"],
-            false,
-        );
+        let lost = "rt: no check reads a.rt";
+        let run = heard(&[lost], false);
         let failure = run.failure.expect("it failed");
         assert_eq!(failure.crates, [""; 0]);
-        assert_eq!(failure.said, [lost, "rt: FAILED: lost-files"]);
-        let run = heard(&["rt: a proved, and its run FAILED (0 s)"], false);
+        assert_eq!(failure.said, [lost]);
+        let run = heard(&["== first", "== summary", "first: ok"], false);
         assert_eq!(run.failure.expect("it failed").crates, [""; 0]);
     }
 
     #[test]
     fn nothing_is_trusted() {
         let run = heard(
-            &["rt: first proved (unchanged since it was last proved)"],
+            &[
+                "== first",
+                "logic=proved functions=1 statements=trusted incremental=trusted",
+                "== summary",
+                "first: ok",
+            ],
             true,
         );
         assert_eq!(run.failure.expect("it failed").crates, ["first"]);
+        assert_eq!(run.crates, []);
     }
 
     #[test]
     fn a_failed_run_has_no_total() {
-        let run = heard(&["rt: first proved (2 s)", "rt: second NOT PROVED"], false);
+        let run = heard(
+            &["== a", "== b", "== summary", "a: ok", "b: failed (1)"],
+            false,
+        );
         assert_eq!((run.total(), run.clock()), (None, None));
         assert_eq!(heard(&[], true).total(), None);
+    }
+
+    #[test]
+    fn finds_what_a_crate_stands_on() {
+        let list = "a:\nb: a std\nc: b # of b\nd staticlib: c\ne: a\n";
+        let found = |names: &[&str]| {
+            let names: Vec<String> = names.iter().map(|name| name.to_string()).collect();
+            let found = with_those_below(list, &names);
+            found.into_iter().collect::<Vec<_>>().join(" ")
+        };
+        assert_eq!(found(&["d"]), "a b c d");
+        assert_eq!(found(&["e", "b"]), "a b e");
+        assert_eq!(found(&["lost"]), "");
     }
 
     #[test]

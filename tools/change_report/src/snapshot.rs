@@ -188,13 +188,20 @@ fn contract(function: Function) -> Item {
     }
 }
 
-/// The crates of a `crates.txt`: a line is `NAME: DEP DEP`, and `#` starts a
-/// comment.
+/// The crates of a `crates.txt`.
 fn listed_crates(list: &str) -> Vec<String> {
     list.lines()
-        .filter_map(|line| line.split('#').next()?.split_once(':'))
-        .map(|(name, _)| name.trim().to_string())
+        .filter_map(|line| Some(of_list(line)?.0.to_string()))
         .collect()
+}
+
+/// The crate of a line of `crates.txt`, and what it stands on: a line is `NAME:
+/// DEP DEP`, with `staticlib` behind the name of a static library, and `#` starts
+/// a comment.
+pub fn of_list(line: &str) -> Option<(&str, Vec<&str>)> {
+    let (name, below) = line.split('#').next()?.split_once(':')?;
+    let name = name.split_whitespace().next()?;
+    Some((name, below.split_whitespace().collect()))
 }
 
 #[cfg(test)]
@@ -218,7 +225,7 @@ pub mod tests {
         let found = snapshot(&[
             (
                 "crates.txt",
-                "# lowest first\nlow:\n\nhigh: low io # and more\n",
+                "# lowest first\nlow:\n\nhigh: low io # and more\nhigh_c staticlib: high\n",
             ),
             ("crates/high/specs/A.antt", "a : ℕ\na = 1\n"),
             ("crates/low/specs/B.antt", "b : ℕ\nb = 1\n"),
@@ -226,7 +233,7 @@ pub mod tests {
             ("crates/low/specs/notes.txt", "d : ℕ\n"),
             ("crates/low/stdin", "e\n"),
         ]);
-        assert_eq!(found.crates, ["low", "high"]);
+        assert_eq!(found.crates, ["low", "high", "high_c"]);
         let names: Vec<_> = found.definitions().into_iter().map(|d| d.name).collect();
         assert_eq!(names, ["b", "a", "c"]);
         assert_eq!(found.lines("specs"), 6);

@@ -13,7 +13,8 @@ pub struct Function {
     pub name: String,
     /// Its attributes, how it is exported, its parameters and its result.
     pub signature: String,
-    /// Its clauses by keyword (`requires`, `ensures`, `ghost`), in order.
+    /// Its clauses by keyword (`requires`, `ensures`, `ghost`), in order. One with a
+    /// star speaks of memory, and is of its keyword too.
     pub clauses: Vec<(String, String)>,
     pub body: String,
 }
@@ -67,6 +68,11 @@ impl<'a> Reader<'a> {
                 "const" | "static" | "type" => self.declaration(start, path, false),
                 "use" => self.take_through(";"),
                 ";" => self.at += 1,
+                // What is said of the file, `#![..]`, is said of no item.
+                "#!" => {
+                    self.at += 1;
+                    self.skip();
+                }
                 // What stands before the keyword of an item.
                 _ => {
                     self.skip();
@@ -94,7 +100,8 @@ impl<'a> Reader<'a> {
         }
         let signature = self.text(start);
         while self.at_clause() {
-            let keyword = self.words[self.at].text.clone();
+            let word = &self.words[self.at].text;
+            let keyword = word.trim_end_matches('*').to_string();
             let start = self.at;
             self.take_through("}");
             clauses.push((keyword, self.text(start)));
@@ -110,7 +117,8 @@ impl<'a> Reader<'a> {
     }
 
     fn at_clause(&self) -> bool {
-        matches!(self.peek(), Some("requires" | "ensures" | "ghost"))
+        let word = self.peek().map(|word| word.trim_end_matches('*'));
+        matches!(word, Some("requires" | "ensures" | "ghost"))
     }
 
     /// An item that ends in `;`, or where it may be so, in a block.
@@ -178,10 +186,13 @@ mod tests {
     use super::*;
 
     const FILE: &str = r#"// The file.
+#![tactic(auto)]
+
 pub mod other;
 
-use run_table::numbers::{u16_at, put_u16};
-ghost use mathlib.Core.Path.{_≡_};
+ghost use Rattle.std.specs.Prelude.{◌≡◌, length};
+
+use run_table::numbers::{put_u16, u16_at};
 
 const ORDER: [u32; 2] = [
     1,
@@ -193,15 +204,15 @@ pub struct Writer<'a> {
 }
 
 // The table after a send.
-#[no_mangle]
+#[unsafe(no_mangle)]
 pub extern "C" fn send(
     table: &[u8],
     line: [u16; 32],
 ) -> u32
-    requires { ⌜ 4 ≤ length (now table) ⌝ }
-    requires { ⌜ 0 < record { a = 1 } .a ⌝ }
-    ensures outcome { λ r. ⌜ r ≡ f
-        (now (table .entry)) ⌝ }
+    requires long { 4 ≤ length table.now }
+    requires one { 0 < (record { a = 1 }).a }
+    ensures outcome { result ≡ f
+        table.now }
 {
     if table[0] == b'{' {
         return 1;
@@ -214,8 +225,9 @@ fn plain(x: u8) -> u8 {
 }
 
 fn writer_at<'a>(buffer: &'a mut [u8]) -> Writer<'a>
-    ghost { ℕ }
-    ensures { λ α r. ⌜ r ≡ α ⌝ }
+    ghost top: { ℕ }
+    requires* { held buffer top }
+    ensures { result ≡ top }
 {
     Writer { buffer: buffer }
 }
@@ -252,7 +264,7 @@ fn last() {}
             ]
         );
         let counts: Vec<_> = found.iter().map(|f| f.clauses.len()).collect();
-        assert_eq!(counts, [3, 0, 2, 0, 0, 0]);
+        assert_eq!(counts, [3, 0, 3, 0, 0, 0]);
         assert_eq!(found[1].signature, "fn plain ( x: u8 ) -> u8");
         assert_eq!(found[1].body, "{ x }");
         assert_eq!(found[5].body, "{ }");
@@ -263,14 +275,18 @@ fn last() {}
         let send = &source(FILE).functions[0];
         assert_eq!(
             send.signature,
-            "# [ no_mangle ] pub extern \"C\" fn send ( table: & [ u8 ] , line: [ u16 ; 32 ] ) -> u32"
+            "# [ unsafe ( no_mangle ) ] pub extern \"C\" fn send ( table: & [ u8 ] , line: [ u16 ; 32 ] ) -> u32"
         );
         let keywords: Vec<_> = send.clauses.iter().map(|c| c.0.as_str()).collect();
         assert_eq!(keywords, ["requires", "requires", "ensures"]);
         assert_eq!(
             send.clauses[2].1,
-            "ensures outcome { λ r. ⌜ r ≡ f ( now ( table .entry ) ) ⌝ }"
+            "ensures outcome { result ≡ f table.now }"
         );
+        let writer = &source(FILE).functions[2];
+        let keywords: Vec<_> = writer.clauses.iter().map(|c| c.0.as_str()).collect();
+        assert_eq!(keywords, ["ghost", "requires", "ensures"]);
+        assert_eq!(writer.clauses[1].1, "requires* { held buffer top }");
         assert_eq!(send.body, "{ if table [ 0 ] == b'{' { return 1 ; } 0 }");
     }
 
@@ -290,7 +306,7 @@ fn last() {}
                 "(table: &[u8], line: [u16; 32])",
             )
             .replace("// The table after a send.", "// What a send gives.")
-            .replace("r ≡ f\n        (now", "r ≡ f (now")
+            .replace("result ≡ f\n        table", "result ≡ f table")
             .replace("        return 1;", "        return 1; // refused");
         assert_ne!(FILE, other);
         assert_eq!(source(FILE).functions, source(&other).functions);

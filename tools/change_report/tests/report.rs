@@ -72,10 +72,10 @@ fn proves_base_and_head_in_turn() {
     assert_eq!(
         world.asked(),
         [
-            "Sums 1 prove",
-            "Sums from one 1 prove",
-            "Sums 1 prove",
-            "Sums from one 1 prove"
+            "Sums: all verdict --jobs 1 of low old",
+            "Sums from one: all verdict --jobs 1 of low new",
+            "Sums: all verdict --jobs 1 of low old",
+            "Sums from one: all verdict --jobs 1 of low new"
         ]
     );
     let rows: Vec<&str> = found
@@ -119,16 +119,20 @@ fn proves_what_is_asked_for() {
     assert_eq!(found.status, 0, "{found:?}");
     assert_eq!(
         world.asked(),
-        ["Sums 1 check low", "Sums from one 1 check low new"]
+        [
+            "Sums: all verdict --jobs 1 of low",
+            "Sums from one: all verdict --jobs 1 of low new"
+        ]
     );
     assert!(
         found.report.contains("crates below them: `low`, `new`."),
         "{}",
         found.report
     );
-    let found = world.run(&["--runs", "1", "--crates", "new", "HEAD~1"]);
+    let found = world.run(&["--runs", "2", "--crates", "new", "HEAD~1"]);
     assert_eq!(found.status, 0, "{found:?}");
-    assert_eq!(world.asked()[2..], ["Sums from one 1 check new"]);
+    let again = "Sums from one: all verdict --jobs 1 of low new";
+    assert_eq!(world.asked()[2..], [again, again]);
     assert!(found.report.contains("| `new` | – | "), "{}", found.report);
     world.assert_clean();
 }
@@ -144,7 +148,7 @@ fn says_what_is_not_proved() {
     assert!(found.report.contains(line), "{}", found.report);
     assert!(found.report.contains("## Definitions"), "{}", found.report);
     assert!(
-        found.messages.contains("an error\nrt: new NOT PROVED"),
+        found.messages.contains("an error\nlogic=not-proved\n"),
         "{}",
         found.messages
     );

@@ -6,18 +6,10 @@ mod common;
 use std::fs::{self, File, Permissions};
 use std::io::Read;
 use std::os::unix::fs::{symlink, MetadataExt, PermissionsExt};
-use std::path::{Path, PathBuf};
+use std::path::Path;
 use std::process::{Command, Output, Stdio};
 
-use common::{as_somebody, bytes, done, example_a, fails, keeper, note};
-
-/// A folder of a test, empty.
-fn folder(name: &str) -> PathBuf {
-    let path = PathBuf::from(env!("CARGO_TARGET_TMPDIR")).join(name);
-    let _ = fs::remove_dir_all(&path);
-    fs::create_dir(&path).expect("created");
-    path
-}
+use common::{as_somebody, bytes, done, example_a, fails, keeper, note, Folder};
 
 /// The names in a folder.
 fn names(folder: &Path) -> Vec<String> {
@@ -70,7 +62,7 @@ fn larger() -> Vec<u8> {
 
 #[test]
 fn a_size_limit_leaves_the_old_file() {
-    let folder = folder("limit");
+    let folder = Folder::new("limit");
     let table = folder.join("run.table");
     // Not a byte can be written; then the first blocks, and no more.
     for (old, blocks) in [(example_a(), 0), (larger(), 1)] {
@@ -109,7 +101,7 @@ fn a_size_limit_leaves_the_old_file() {
 
 #[test]
 fn a_full_disk_leaves_the_old_file() {
-    let folder = folder("full");
+    let folder = Folder::new("full");
     fs::write(folder.join("before.table"), larger()).expect("written");
     fs::create_dir(folder.join("disk")).expect("created");
     // A file system of one page, seen by this shell and its children alone.
@@ -141,7 +133,7 @@ exec unshare -m sh -c '
 
 #[test]
 fn permissions() {
-    let folder = folder("permissions");
+    let folder = Folder::new("permissions");
     let table = folder.join("run.table");
     for bits in [0o600, 0o640, 0o644, 0o666, 0o755, 0o4755] {
         fs::write(&table, example_a()).expect("written");
@@ -173,7 +165,7 @@ fn permissions() {
 
 #[test]
 fn links() {
-    let folder = folder("links");
+    let folder = Folder::new("links");
     fs::create_dir(folder.join("below")).expect("created");
     let real = folder.join("below/run.table");
     let old = example_a();
@@ -214,7 +206,7 @@ fn links() {
 
 #[test]
 fn what_stands_in_dev() {
-    let folder = folder("dev");
+    let folder = Folder::new("dev");
     fs::set_permissions(&folder, Permissions::from_mode(0o777)).expect("set");
     fs::write(folder.join("a.table"), example_a()).expect("written");
     // Files that a shell has opened: what stands there stays.
@@ -239,7 +231,7 @@ echo before >log
 
 #[test]
 fn what_is_no_plain_file() {
-    let folder = folder("other");
+    let folder = Folder::new("other");
     let a = example_a();
     let listing = done(&["list"], &a);
     assert_eq!(done(&["list", "-o", "-"], &a), listing);
@@ -275,7 +267,7 @@ fn ask(arguments: &[&str], folder: &Path) -> Option<(Option<i32>, String)> {
 
 #[test]
 fn what_may_not_be_written() {
-    let folder = folder("denied");
+    let folder = Folder::new("denied");
     let table = folder.join("run.table");
     fs::write(&table, example_a()).expect("written");
     fs::set_permissions(&table, Permissions::from_mode(0o666)).expect("set");
@@ -320,7 +312,7 @@ fn what_may_not_be_written() {
 
 #[test]
 fn an_owner_stays() {
-    let folder = folder("owner");
+    let folder = Folder::new("owner");
     let table = folder.join("run.table");
     fs::write(&table, example_a()).expect("written");
     if std::os::unix::fs::chown(&table, Some(1234), Some(4321)).is_err() {
@@ -334,7 +326,7 @@ fn an_owner_stays() {
 
 #[test]
 fn a_refusal_writes_nothing() {
-    let folder = folder("refused");
+    let folder = Folder::new("refused");
     let table = folder.join("run.table");
     fs::write(&table, example_a()).expect("written");
     let ran = keeper(&["send", "0", "9", text(&table), "-o", text(&table)], b"");

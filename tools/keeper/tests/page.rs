@@ -6,11 +6,14 @@
 //! KEEPER_PAGE=write cargo test --release --test page
 //! ```
 
+mod common;
+
 use std::fs;
 use std::os::unix::fs::symlink;
 use std::path::{Path, PathBuf};
 use std::process::Command;
 
+use common::Folder;
 use keeper_command::page;
 use keeper_command::usage::{OWN_OPTIONS, SUBCOMMANDS};
 
@@ -125,9 +128,7 @@ fn sessions(text: &str) -> Vec<(&str, String)> {
 /// Runs them one after another in a folder of their own that has the corpus, as a
 /// shell does where the command is on the path.
 fn happens(sessions: &[(&str, String)], name: &str) {
-    let folder = PathBuf::from(env!("CARGO_TARGET_TMPDIR")).join(name);
-    let _ = fs::remove_dir_all(&folder);
-    fs::create_dir_all(&folder).expect("a folder");
+    let folder = Folder::new(name);
     let tests = fs::canonicalize(file("tests")).expect("tests/");
     symlink(tests, folder.join("tests")).expect("a link");
     let own = Path::new(env!("CARGO_BIN_EXE_keeper")).parent();

@@ -5,23 +5,40 @@ use std::os::unix::fs::{symlink, PermissionsExt};
 use std::path::{Path, PathBuf};
 use std::process::{Command, Output, Stdio};
 
-/// The prover of the tests. It says of each crate of `crates.txt`, or of those
-/// named, that it is proved, unless the crate has a file `fails`; and it waits
-/// where one has a file `waits`. It wants no `target/`, leaves a temporary
-/// folder, and writes down what it was asked, and of which commit.
+/// The prover of the tests. It says of each crate of `crates.txt` that it is
+/// proved, unless the crate has a file `fails`; and it waits where one has a file
+/// `waits`. It wants no crate that is not listed and none with an `out/`, leaves
+/// one in each and a temporary folder, and writes down what it was asked, of
+/// which commit and of which crates.
 const RT: &str = r#"#!/bin/sh
 [ "$1" != version ] || { echo 'a kit for tests'; exit 0; }
-[ ! -e target ] || { echo 'rt: target/ is there'; exit 2; }
-mkdir target
-mktemp -d >/dev/null
-echo "$(cat commit) $RT_JOBS $*" >>"$ASKED"
-[ $# -gt 1 ] || set -- "$1" $(sed 's/:.*//' crates.txt)
-shift
-for name; do
-    [ ! -e "crates/$name/waits" ] || sleep 60
-    [ ! -e "crates/$name/fails" ] || { echo 'an error'; echo "rt: $name NOT PROVED (exit 1, 0 s)"; exit 1; }
-    echo "rt: $name proved (0 s)"
+names=$(sed -n 's/^\([a-z_]*\).*:.*/\1/p' crates.txt)
+for folder in crates/*; do
+    case " $(echo $names) " in
+    *" ${folder##*/} "*) ;;
+    *) echo "rt: no check reads $folder"; exit 2 ;;
+    esac
+    [ ! -e "$folder/out" ] || { echo "rt: $folder/out is there"; exit 2; }
+    mkdir "$folder/out"
 done
+mktemp -d >/dev/null
+echo "$(cat commit): $* of" $names >>"$ASKED"
+summary='== summary'
+for name in $names; do
+    [ ! -e "crates/$name/waits" ] || sleep 60
+    echo "== $name"
+    if [ -e "crates/$name/fails" ]; then
+        echo 'an error'
+        echo 'logic=not-proved'
+        summary="$summary\n$name: failed (1)"
+        failed=yes
+    else
+        echo 'logic=proved functions=1 logic-built=trusted'
+        summary="$summary\n$name: ok"
+    fi
+done
+printf "$summary\nso many crates ok\n"
+[ -z "$failed" ]
 "#;
 
 /// A repository in a folder of its own, and what stands around it.
@@ -38,9 +55,11 @@ pub struct Ran {
 }
 
 impl World {
-    /// An empty repository, an empty folder for temporary files, and programs.
+    /// An empty repository, an empty folder for temporary files, and programs. They
+    /// stand outside of this repository, where rt refuses a second one below it.
     pub fn new(name: &str) -> World {
-        let folder = PathBuf::from(env!("CARGO_TARGET_TMPDIR")).join(name);
+        let own = format!("change-report-tests-{}-{name}", std::process::id());
+        let folder = std::env::temp_dir().join(own);
         if folder.exists() {
             fs::remove_dir_all(&folder).expect("an earlier run's folder goes");
         }
@@ -132,7 +151,7 @@ impl World {
         ran(self.command(arguments).output())
     }
 
-    /// What the prover was asked: the commit, how many crates at a time, words.
+    /// What the prover was asked: the commit, words, and the crates that it found.
     pub fn asked(&self) -> Vec<String> {
         let asked = fs::read_to_string(self.path("asked")).unwrap_or_default();
         asked.lines().map(str::to_string).collect()
@@ -146,6 +165,12 @@ impl World {
         assert!(left.is_empty(), "{left:?}");
         let worktrees = self.git(&["worktree", "list", "--porcelain"]);
         assert_eq!(worktrees.matches("worktree ").count(), 1, "{worktrees}");
+    }
+}
+
+impl Drop for World {
+    fn drop(&mut self) {
+        _ = fs::remove_dir_all(&self.folder);
     }
 }
 
