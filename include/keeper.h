@@ -46,10 +46,10 @@ extern "C" {
 #endif
 
 /* The version of this header and of its archive; the three numbers are for the preprocessor too. */
-#define KEEPER_VERSION "0.8.0"
+#define KEEPER_VERSION "0.7.2"
 #define KEEPER_VERSION_MAJOR 0
-#define KEEPER_VERSION_MINOR 8
-#define KEEPER_VERSION_PATCH 0
+#define KEEPER_VERSION_MINOR 7
+#define KEEPER_VERSION_PATCH 2
 
 /* What a call returns, in checking order. Later versions may return further numbers, whose checks stand
    anywhere in that order. */

@@ -39,10 +39,10 @@ extern "C" {
 #endif
 
 /* The version of this header and of its archive; the three numbers are for the preprocessor too. */
-#define RUN_TABLE_VERSION "0.8.0"
+#define RUN_TABLE_VERSION "0.7.2"
 #define RUN_TABLE_VERSION_MAJOR 0
-#define RUN_TABLE_VERSION_MINOR 8
-#define RUN_TABLE_VERSION_PATCH 0
+#define RUN_TABLE_VERSION_MINOR 7
+#define RUN_TABLE_VERSION_PATCH 2
 
 /* The limits, and the bytes of a table with n processes and m messages. */
 #define RUN_TABLE_MOST_PROCESSES 32

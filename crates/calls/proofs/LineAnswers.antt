@@ -17,12 +17,12 @@ use lib.ListN.{length, get_or, drop}
 use lib.Seq.{ext_get_or}
 use Rattle.consistency.proofs.CeilingLaws.{ceiling_checked, ceiling_quiet, set_ceiling, under_below, under-length}
 use Rattle.consistency.proofs.LoweringLaws.{line_latest}
-use Rattle.consistency.specs.Ceilings.{Ceiling, ceiling_of, line_of, recovery_line}
+use Rattle.consistency.specs.Ceilings.{Ceiling, ceiling_of}
 use Rattle.consistency.specs.Lines.{Latest, as_line}
 use Rattle.consistency.specs.Lowering.{line_under}
 use Rattle.calls.proofs.AnswerLaws.{Judged, Promise, answer_past, put_in_front}
 use Rattle.calls.specs.Calls.{HoldsLatest, line_answer, line_of_set_answer, line_under_answer, marks_after}
-use Rattle.process_set.specs.Sets.{all_processes, high_bit, member}
+use Rattle.process_set.specs.Sets.{high_bit, member}
 use Rattle.call_checks.proofs.RefusalLaws.{QuietCall, quiet_by}
 use Rattle.call_checks.specs.CallChecks.{line_of_set_checks, line_under_checks}
 use Rattle.tables.proofs.AcceptLaws.{facts}

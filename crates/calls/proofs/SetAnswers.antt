@@ -4,11 +4,10 @@
 --     sets_scratch_kept, sets_scratch_filled    the scratch afterwards, under a refusal and on success
 -- Assumes nothing.
 use mathlib.Core.List.{List, ◌++◌, append_assoc}
-use mathlib.Core.Path.{◌≡◌, refl, sym, ap, ◌∙◌, subst}
+use mathlib.Core.Path.{◌≡◌, refl, sym, ap, ◌∙◌}
 use Prim.Native.Nat.{ℕ, zero, suc, ◌*◌, ◌≤◌, ◌<◌}
 use native.Mathlib.Nat.{mul-le-mul_left, mul-suc}
 use native.Mathlib.Omega.{arith}
-use borrow.Author.Tests.{le-ltb}
 use lib.ListN.{length, get_or, take, drop}
 use lib.Seq.{drop-append-le, drop-append_seam, take_at}
 use Rattle.consistency.proofs.CeilingLaws.{set_ceiling, set-length}
@@ -16,7 +15,7 @@ use Rattle.consistency.specs.Ceilings.{ceiling_of, holder_lines, line_of}
 use Rattle.calls.proofs.AnswerLaws.{Judged, Promise, answer_quiet, put_in_front}
 use Rattle.calls.proofs.LineAnswers.{line_holds}
 use Rattle.calls.specs.Answers.{answered}
-use Rattle.calls.specs.Calls.{HoldsLatest, HoldsLineOf, HoldsLineOfEach, line_answer, line_of_set_answer, lines_of_sets, lines_unless, scratch_of_sets}
+use Rattle.calls.specs.Calls.{HoldsLatest, HoldsLineOfEach, line_answer, line_of_set_answer, lines_of_sets, lines_unless, scratch_of_sets}
 use Rattle.call_checks.proofs.RefusalLaws.{QuietCall, quiet_each}
 use Rattle.call_checks.specs.CallChecks.{lines_of_sets_checks}
 use Rattle.process_set.specs.Sets.{member}

@@ -12,7 +12,7 @@ use listing_text::{LISTING_ROOM, keeper_listing};
 use std::io;
 use std::io::{Read, Write};
 use tables::format::LARGEST_TABLE;
-use whole_input::read_into;
+use whole_input::read_front;
 
 // Puts the listing of an input, of which the first bytes of a buffer were read, all that it has room for
 // or the whole input: its length. A longer input than the largest table is refused by its front, so room
@@ -29,18 +29,22 @@ fn list_input(buffer: &[u8], len: usize, text: &mut [u8]) -> usize
     size
 }
 
-// Reads an input and prints its listing.
+// Reads an input and prints its listing. Where a read fails, what was read before it is listed, and then its error
+// is answered.
 fn list<R: Read, W: Write>(input: &mut R, output: &mut W) -> io::Result<()>
     ensures { OnOk result (IfSome (R.remaining input.old)
         (λ bytes. Appends (W.contents output.old) (W.contents output.new) (listing_of bytes))) }
 {
     let mut table = [0u8; LARGEST_TABLE + 1];
-    let len = read_into(input, &mut table)?;
+    let mut len = 0;
+    let read = read_front(input, &mut table, &mut len);
     let mut text = [0u8; LISTING_ROOM];
     let size = list_input(&table, len, &mut text);
-    output.write_all(&text[..size])
+    output.write_all(&text[..size])?;
+    read
 }
 
-fn main(rt: HostRuntime) -> io::Result<()> {
-    list(&mut rt.stdin(), &mut rt.stdout())
+// The exit status is 0, whatever could be read or written.
+fn main(rt: HostRuntime) {
+    let _ = list(&mut rt.stdin(), &mut rt.stdout());
 }

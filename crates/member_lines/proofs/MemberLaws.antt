@@ -14,8 +14,8 @@ use native.Mathlib.Numerals.{add-one}
 use native.Mathlib.Omega.{arith}
 use lib.ListN.{length, get_or, set, take, drop, length-drop}
 use lib.Seq.{get_or-drop, get_or-take, length-take-le}
-use Rattle.consistency.specs.Ceilings.{Holders, smallest}
-use Rattle.consistency.specs.Lines.{Line, as_line}
+use Rattle.consistency.specs.Ceilings.{smallest}
+use Rattle.consistency.specs.Lines.{as_line}
 use Rattle.holder_lines.specs.Scratch.{HoldsLines, lines_in}
 use Rattle.process_set.specs.Sets.{member}
 use Rattle.tables.proofs.ArrayLaws.{filled_all, filled_more, filled_none}

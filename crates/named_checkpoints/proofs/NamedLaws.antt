@@ -10,7 +10,7 @@
 -- Assumes nothing.
 use mathlib.Core.Bool.{Bool, true, false, not}
 use mathlib.Core.List.{List}
-use mathlib.Core.Path.{◌≡◌, refl, sym, ap, ◌∙◌}
+use mathlib.Core.Path.{◌≡◌, sym, ap, ◌∙◌}
 use Prim.Native.Nat.{ℕ, ◌+◌, ◌≤◌, ◌<◌, zero-le}
 use native.Mathlib.Nat.{le_antisymm}
 use native.Mathlib.Numerals.{add-one}
@@ -25,7 +25,7 @@ use Rattle.named_checkpoints.specs.Lists.{Parallel}
 use Rattle.tables.proofs.ArrayLaws.{array_at, array_front, array_set}
 use Rattle.tables.proofs.ListLaws.{any_below_ext, none_below}
 use Rattle.tables.proofs.ReadLaws.{processes_few}
-use Rattle.tables.proofs.SearchedLaws.{Searched, searched_all, searched_here, searched_more, searched_none}
+use Rattle.tables.proofs.SearchedLaws.{Searched, searched_all, searched_here, searched_more}
 use Rattle.tables.specs.Arrays.{array_of}
 use Rattle.tables.specs.Checks.{table_refusal}
 use Rattle.tables.specs.Format.{decode}

@@ -1,7 +1,6 @@
 -- `line_of_holder` meets its contract: where a rollback does not propagate, the ceiling is the line.
 -- Assumes nothing.
 use borrow.Author.Rules.{rules}
-use borrow.Author.Tests.{not-true}
 use mathlib.Core.Path.{◌≡◌, sym, ap, ◌∙◌}
 use Prim.Native.Nat.{◌^◌}
 use Rattle.consistency.specs.Ceilings.{ceiling_of}

@@ -1,7 +1,5 @@
 -- `keeper_keep_sheet` meets its contract, at each return.
 use native.Mathlib.Omega.{arith}
-use mathlib.Core.List.{List}
-use Prim.Native.Nat.{ℕ}
 use lib.ListN.{length}
 use Rattle.holder_lines.proofs.ScratchLaws.{lines-stand}
 use Rattle.holder_lines.specs.Scratch.{LinesOf}

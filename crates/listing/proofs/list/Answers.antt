@@ -15,4 +15,6 @@ listed (Some bytes) old new buffer len text front lists put = subst (Appends old
 
 pub returns : goal.returns
 returns g c =
-    on_ok_weaker c.write_all.result (λ put. listed _ _ _ _ _ _ c.in_ok-len.ensures.front c.list_input-size.ensures.lists_input put) c.write_all.ensures.bytes
+    on_ok_weaker c.read_front-read.result
+    (λ front. listed _ _ _ _ _ _ front c.list_input-size.ensures.lists_input c.in_ok-write_all.ensures.bytes)
+    c.read_front-read.ensures.front

@@ -1,14 +1,10 @@
 -- `last_roots` meets its contract. The invariant: roots and marks are a stage of the procedure that began at the ceilings (`Running`). The measure is the
 -- sum of the roots, since a round with a marked root brings one down.
 use mathlib.Core.Path.{sym, ◌∙◌}
-use lib.ListN.{take}
 use Rattle.marked_line.proofs.MarkRowLaws.{kept_both}
 use Rattle.marked_line.proofs.StageLaws.{given_few, given_roots, running_ends, running_falls, running_more, running_since}
-use Rattle.marked_line.specs.Marking.{Kept, Running}
+use Rattle.marked_line.specs.Marking.{Kept}
 use Rattle.tables.specs.Format.{decode}
-use Rattle.tables.specs.Lists.{sum}
-use Rattle.tables.specs.Table.{process_count}
-use Rattle.std.proofs.Common.{arith}
 use Rattle.marked_line.proofs.last_roots.Goals as goal
 
 pub number_array-roots-requires : goal.number_array-roots-requires

@@ -2,7 +2,6 @@
 -- stops there at the latest. The measure is y.
 -- Assumes nothing.
 use native.Mathlib.Omega.{arith}
-use borrow.Author.Tests.{not-false, not-true}
 use mathlib.Core.Path.{sym, ◌∙◌}
 use native.Mathlib.Nat.{le_refl}
 use Rattle.marked_line.proofs.RootLaws.{Descending, descends, descends_from, lands}

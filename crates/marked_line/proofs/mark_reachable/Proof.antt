@@ -1,6 +1,5 @@
 -- `mark_reachable` meets its contract. The invariant: what is marked is reachable (`Growing`); a pass that marks nothing ends it. The measure: unset bits.
 -- Assumes nothing.
-use borrow.Author.Tests.{not-false, not-true}
 use Rattle.marked_line.proofs.MarkPassLaws.{Growing, grown_none, passes_end, passes_more}
 use Rattle.marks.specs.Bits.{first_bit, unset}
 use Rattle.tables.specs.Format.{decode}

@@ -1,9 +1,8 @@
 -- `pass` meets its contract. The invariant: all that is marked is reachable, and where nothing was marked no message from k on leads to an unmarked state
 -- (`MarkPassing`). The measure is the number of messages not looked at.
-use borrow.Author.Tests.{not-false, not-true}
 use native.Mathlib.Omega.{arith}
 use mathlib.Core.Path.{sym, ◌∙◌}
-use Rattle.marked_line.proofs.MarkPassLaws.{AtReceipt, AtSend, MarkPassing, end_in, pass_begins, pass_ends, pass_marks, receipt_in, receiver_few}
+use Rattle.marked_line.proofs.MarkPassLaws.{AtReceipt, AtSend, end_in, pass_begins, pass_ends, pass_marks, receipt_in, receiver_few}
 use Rattle.marked_line.proofs.MarkPassLaws.{row_ready, send-there, skips_marked, skips_undelivered, skips_unreached}
 use Rattle.marked_line.proofs.MarkRowLaws.{first-there}
 use Rattle.tables.proofs.ReadLaws.{messages_read}

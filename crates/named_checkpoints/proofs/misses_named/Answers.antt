@@ -3,13 +3,8 @@ use native.Mathlib.Omega.{arith}
 use borrow.Author.Tests.{eq-eqb, ne_eqb}
 use mathlib.Core.Bool.{not}
 use mathlib.Core.Path.{ap}
-use Prim.Native.Nat.{◌-◌}
-use lib.Dec.{eqb}
-use lib.ListN.{get_or, length}
-use Rattle.named_checkpoints.specs.Lists.{Parallel}
-use Rattle.tables.specs.Table.{most_processes}
 use Rattle.zigzag.specs.Together.{misses}
-use Rattle.tables.proofs.SearchedLaws.{Searched, searched_all, searched_here, searched_more, searched_none}
+use Rattle.tables.proofs.SearchedLaws.{searched_all, searched_here, searched_more, searched_none}
 use Rattle.named_checkpoints.proofs.misses_named.Goals as goal
 
 pub loop-k-init : goal.loop-k-init

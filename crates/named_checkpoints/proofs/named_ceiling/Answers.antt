@@ -1,8 +1,8 @@
 -- `named_ceiling` meets its contract. The invariant: the counts, with the first k named numbers put (`NamedPut`). The measure: the names that are left.
 use native.Mathlib.Omega.{arith}
-use Prim.Native.Nat.{◌-◌, ◌<◌}
-use lib.ListN.{get_or, length}
-use Rattle.named_checkpoints.proofs.NamedLaws.{NamedPut, place_inside, put_all, put_more, put_none}
+use Prim.Native.Nat.{◌<◌}
+use lib.ListN.{get_or}
+use Rattle.named_checkpoints.proofs.NamedLaws.{place_inside, put_all, put_more, put_none}
 use Rattle.tables.specs.Table.{most_processes}
 use Rattle.named_checkpoints.proofs.named_ceiling.Goals as goal
 

@@ -1,10 +1,7 @@
 -- `not_below_counts` meets its contract. The invariant: the first k numbers are below their counts (`NamedBelow`). The measure: the names that are left.
-use native.Mathlib.Omega.{arith}
-use Prim.Native.Nat.{◌-◌, ◌<◌}
-use lib.ListN.{get_or, length}
-use Rattle.named_checkpoints.proofs.NamedLaws.{NamedBelow, below_all, below_here, not_below_here, place_inside}
-use Rattle.tables.proofs.SearchedLaws.{searched_none}
-use Rattle.tables.specs.Table.{most_processes}
+use Prim.Native.Nat.{◌-◌}
+use lib.ListN.{length}
+use Rattle.named_checkpoints.proofs.NamedLaws.{NamedBelow}
 use Rattle.named_checkpoints.proofs.not_below_counts.Given as goal
 
 abbrev pub invariant-loop-k : goal.invariant-loop-k

@@ -7,7 +7,7 @@ use mathlib.Core.Path.{◌≡◌, sym}
 use Prim.Native.Nat.{◌-◌}
 use lib.ListN.{length, take}
 use lib.Seq.{length-take-le}
-use Rattle.set_lines.proofs.EachLaws.{PutsLines, ToPut, line_long, lines-there, puts_all, puts_more, puts_none, puts_room}
+use Rattle.set_lines.proofs.EachLaws.{PutsLines, line_long, lines-there, puts_all, puts_more, puts_none, puts_room}
 use Rattle.set_lines.proofs.put_each.Statement.{statement}
 use Rattle.set_lines.proofs.put_each.Tie as tie
 

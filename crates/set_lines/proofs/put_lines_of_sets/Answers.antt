@@ -1,6 +1,5 @@
 -- `put_lines_of_sets` meets its contract.
 use Rattle.holder_lines.proofs.ScratchLaws.{lines-stand}
-use Rattle.std.proofs.Common.{arith}
 use Rattle.set_lines.proofs.put_lines_of_sets.Goals as goal
 
 pub put_each-requires : goal.put_each-requires

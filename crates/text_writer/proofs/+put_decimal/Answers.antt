@@ -1,6 +1,6 @@
 -- The digits of a number are those of its tenth, and the last.
-use Rattle.std.proofs.Common.{[], ◌<◌, ◌∙◌, arith}
-use Rattle.text_writer.proofs.TextLaws.{laid_length, more_digits, none_left, one_digit, part_laid, part_room}
+use Rattle.std.proofs.Common.{[], arith}
+use Rattle.text_writer.proofs.TextLaws.{more_digits, none_left, one_digit, part_laid, part_room}
 use Rattle.text_writer.proofs.+put_decimal.Goals as goal
 
 -- one digit

@@ -1,11 +1,8 @@
 -- `rows::put_checkpoints` meets its contract. The invariant: the rows of the first e checkpoints are laid (`Laying`). The measure: the rows that are left.
 use Prim.Native.Nat.{◌-◌}
-use Rattle.listing_text.proofs.RowLaws.{checkpoint_read}
-use Rattle.text_writer.proofs.TextLaws.{Laying, laying_all, laying_length, laying_more, laying_none, laying_room}
+use Rattle.text_writer.proofs.TextLaws.{Laying}
 use Rattle.listings.specs.Listing.{checkpoint_row}
 use Rattle.listing_text.specs.Rows.{checkpoint_at, checkpoint_rows}
-use mathlib.Core.Path.{refl}
-use native.Mathlib.Omega.{arith}
 use Rattle.listing_text.proofs.rows.put_checkpoints.Given as goal
 
 abbrev pub invariant-loop-e : goal.invariant-loop-e

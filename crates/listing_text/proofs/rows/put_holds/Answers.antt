@@ -1,10 +1,8 @@
 -- `rows::put_holds` meets its contract. The invariant: the rows of the first k lines are laid (`Laying`). The measure: the rows that are left.
-use Prim.Native.Nat.{◌-◌}
 use Rattle.listing_text.proofs.RowLaws.{line_in, line_part}
-use Rattle.text_writer.proofs.TextLaws.{Laying, laying_all, laying_length, laying_more, laying_none, laying_room}
+use Rattle.text_writer.proofs.TextLaws.{laying_all, laying_length, laying_more, laying_none, laying_room}
 use Rattle.listings.specs.Listing.{hold_row}
-use Rattle.listing_text.specs.Rows.{hold_rows, line_at}
-use Rattle.holder_lines.specs.Scratch.{HoldsLines}
+use Rattle.listing_text.specs.Rows.{hold_rows}
 use mathlib.Core.Path.{ap, refl}
 use native.Mathlib.Omega.{arith}
 use Rattle.listing_text.proofs.rows.put_holds.Goals as goal

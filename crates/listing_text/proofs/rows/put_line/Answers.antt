@@ -2,7 +2,6 @@
 use Rattle.text_writer.proofs.TextLaws.{none_left, part_laid, part_room, row_parts}
 use Rattle.listings.specs.Listing.{line_row}
 use mathlib.Core.List.{[]}
-use Rattle.std.proofs.Common.{arith}
 use Rattle.listing_text.proofs.rows.put_line.Goals as goal
 
 pub put_word-after_word-requires : goal.put_word-after_word-requires

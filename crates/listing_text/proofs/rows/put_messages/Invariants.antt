@@ -1,11 +1,9 @@
 -- `rows::put_messages` meets its contract. The invariant: the rows of the first e positions are laid (`Laying`). The measure: the rows that are left.
 use Prim.Native.Nat.{◌+◌, ◌-◌, ◌*◌}
-use Rattle.text_writer.proofs.TextLaws.{Laying, laying_all, laying_length, laying_more, laying_none, laying_room}
+use Rattle.text_writer.proofs.TextLaws.{Laying}
 use Rattle.listings.specs.Listing.{message_row}
 use Rattle.listing_text.specs.Rows.{message_rows}
 use Rattle.tables.specs.Numbers.{u16_at}
-use mathlib.Core.Path.{ap, refl}
-use native.Mathlib.Omega.{arith}
 use Rattle.listing_text.proofs.rows.put_messages.Given as goal
 
 abbrev pub invariant-loop-e : goal.invariant-loop-e

@@ -3,7 +3,6 @@
 -- Assumes nothing.
 use borrow.Author.Rules.{rules}
 use native.Mathlib.Omega.{arith}
-use borrow.Author.Tests.{not-true, not-false}
 use Prim.Native.Nat.{◌-◌}
 use Rattle.sheet_entries.proofs.SearchLaws.{MessagesBeside, keeps_at, may_ask, receiver_small}
 use Rattle.sheet_entries.specs.Kept.{positions_of}

@@ -1,8 +1,8 @@
--- `read_into` meets its contract: each read adds to the front what the input loses.
+-- `read_front` meets its contract: each read adds to the front what the input loses.
 use Rattle.std.proofs.Common.{rules, length, ◌-◌, sym, subst}
 use Rattle.std.specs.Io.KnownBytes.{Consumes}
 use Rattle.whole_input.proofs.InputLaws.{front_put, lost_more}
-use Rattle.whole_input.proofs.read_into.Goals as goal
+use Rattle.whole_input.proofs.read_front.Goals as goal
 
 pub loop-len-preserved : goal.loop-len-preserved
 loop-len-preserved g c =

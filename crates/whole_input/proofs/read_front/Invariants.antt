@@ -1,7 +1,7 @@
 -- The front of the buffer is what the input has lost so far. The measure is the room that is left.
 use Rattle.std.proofs.Common.{length, take, ◌-◌, ◌≡◌, ◌≤◌}
 use Rattle.std.specs.Io.KnownBytes.{Consumes}
-use Rattle.whole_input.proofs.read_into.Given as goal
+use Rattle.whole_input.proofs.read_front.Given as goal
 
 abbrev pub invariant-loop-len : goal.invariant-loop-len
 invariant-loop-len g l =
