@@ -25,13 +25,13 @@ use lib.ListN.{length, get_or, get_or-eq_default}
 use Rattle.consistency.proofs.LineLaws.{latest-min, latest_same, latest_unique}
 use Rattle.consistency.proofs.LoweringLaws.{line_is, line_latest, line_length}
 use Rattle.consistency.specs.Ceilings.{Ceiling, Holders, above_counts, ceiling_of, line_of, single, smallest}
-use Rattle.consistency.specs.Lines.{AtOrBelow, Consistent, Latest, Line, Orphan, as_line}
+use Rattle.consistency.specs.Lines.{AtOrBelow, Consistent, Latest, Line, as_line}
 use Rattle.consistency.specs.Lowering.{line_under}
 use Rattle.tables.proofs.FormatLaws.{count_beyond, message_in}
 use Rattle.tables.proofs.ListLaws.{any_below_none, get_or_tabulate, length-tabulate, none_below}
 use Rattle.tables.specs.Checks.{WellFormed}
 use Rattle.tables.specs.Lists.{tabulate}
-use Rattle.tables.specs.Table.{Message, Table, count_of, message_count, message_of, process_count}
+use Rattle.tables.specs.Table.{Table, count_of, message_of, process_count}
 
 -- without a checkpoint, a process stands at 0 either way
 pub all-zero : (b : Bool) (c : ℕ) → c ≡ 0 → cond b (c - 1) c ≡ 0

@@ -8,23 +8,19 @@
 -- Assumes nothing.
 use mathlib.Core.Bool.{Bool, true, false, false≢true, true≢false}
 use mathlib.Core.List.{List, []}
-use mathlib.Core.Path.{◌≡◌, refl, sym, ◌∙◌, subst}
-use Prim.Native.Nat.{ℕ, ◌+◌, ◌-◌, ◌*◌, ◌≤◌, ◌<◌}
+use mathlib.Core.Path.{◌≡◌, refl, ◌∙◌, subst}
+use Prim.Native.Nat.{ℕ, ◌-◌, ◌≤◌, ◌<◌}
 use native.Mathlib.Decide.{ℕ_discrete}
 use native.Mathlib.Nat.{le_refl}
 use native.Mathlib.Omega.{arith}
-use lib.ListN.{length, get_or, set}
+use lib.ListN.{get_or, set}
 use Rattle.consistency.proofs.LoweringLaws.{line_consistent, put_back_falls}
 use Rattle.consistency.specs.Lines.{Orphan, as_line}
 use Rattle.consistency.specs.Lowering.{line_under}
 use Rattle.lowering.proofs.DownLaws.{MessageRead, down_more, down_none, down_put_back, message_is, messages-length}
 use Rattle.lowering.specs.Lowered.{BroughtDown, messages_of}
-use Rattle.tables.proofs.CodingLaws.{message_path}
 use Rattle.tables.proofs.FormatLaws.{message_in}
-use Rattle.tables.proofs.ListLaws.{get_or_tabulate, length-tabulate}
-use Rattle.tables.specs.Format.{checkpoint_at, message_at, process_at}
 use Rattle.tables.specs.Lists.{sum}
-use Rattle.tables.specs.Numbers.{u16_at}
 use Rattle.tables.specs.Parts.{Messages}
 use Rattle.tables.specs.Table.{Message, message_count, message_of, most_processes, no_message}
 

@@ -8,13 +8,13 @@ use crate::explain::Places;
 use crate::input::{self, Input, MOST_TEXT};
 use crate::output::put;
 use crate::text;
-use crate::usage::{self, Work, SUBCOMMANDS};
+use crate::usage::{self, Subcommand, Work, SUBCOMMANDS};
 
 /// Other words for the names of subcommands.
 const OTHER_WORDS: &[(&[&str], &str)] = &[(&["fall", "back"], "fall-back"), (&["text"], "decode")];
 
 /// Options that speak of files; a line of a script has none.
-const OF_FILES: &[&str] = &["-o", "--text-in", "--text", "--decode", "--sets"];
+const OF_FILES: &[&str] = &["-o", "--text-in", "--text", "--decode"];
 
 struct Step {
     /// From 1.
@@ -131,9 +131,9 @@ fn step(words: &[&str]) -> Result<Arguments, Failure> {
         Some((other, name)) => (*name, &words[other.len()..]),
         None => (words[0], &words[1..]),
     };
-    let row = usage::subcommand(name.as_ref()).filter(|row| is_step(row.work));
+    let row = usage::subcommand(name.as_ref()).filter(|row| is_step(row));
     let row = row.ok_or_else(|| {
-        let names = SUBCOMMANDS.iter().filter(|row| is_step(row.work));
+        let names = SUBCOMMANDS.iter().filter(|row| is_step(row));
         let names: Vec<&str> = names.map(|row| row.name).collect();
         let shown: String = words[0].escape_debug().take(20).collect();
         let names = names.join(", ");
@@ -157,6 +157,6 @@ fn step(words: &[&str]) -> Result<Arguments, Failure> {
 }
 
 /// Whether a line of a script can be of this subcommand.
-fn is_step(work: Work) -> bool {
-    !matches!(work, Work::Alone(_))
+fn is_step(row: &Subcommand) -> bool {
+    !matches!(row.work, Work::Alone(_)) && row.name != "what-if"
 }

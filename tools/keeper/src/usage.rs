@@ -615,7 +615,7 @@ protects: store them by an identity of your own, and carry it along a fall back.
         short: "the steps of a script, one after another",
         words: "\
 Reads a script, and makes its steps on the table of FILE. A line is a subcommand with its arguments and options, without \
-FILE: `send 0 1`, `receive 1 0`, `save 1`, `fall back`, `list`, `line`, `what-if 0 1,2`, `stand 0.1 1.2`, `sheet`, `check`, `why 1.2`, `draw`; \
+FILE: `send 0 1`, `receive 1 0`, `save 1`, `fall back`, `list`, `line`, `stand 0.1 1.2`, `sheet`, `check`, `why 1.2`, `draw`; \
 `text` is the text of the table. What follows `#` is skipped. A script that begins with `new` reads no FILE. SCRIPT is standard input where it is `-`.
 
   new 2

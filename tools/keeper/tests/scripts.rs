@@ -152,10 +152,6 @@ fn answers_as_the_subcommands_give_them() {
             "line --marking --json --under=3,2",
             &["line", "--json", "1"],
         ),
-        ("what-if", &["what-if", "0", "1"]),
-        ("what-if none 0,1", &["what-if", "none", "all"]),
-        ("what-if --cost pairs", &["what-if", "--cost", "0,1"]),
-        ("what-if --json 1", &["what-if", "--json", "1"]),
         ("stand", &["line", "--under", "3,3"]),
         ("stand 1.2", &["stand", "1.2"]),
         ("stand 1.1 0.1", &["stand", "0.1", "1.1"]),
@@ -259,22 +255,6 @@ fn a_line_that_fails() {
             "2: line under 3,2: `under` is not a number from 0 to 65535 (see `keeper line --help`)",
         ),
         (
-            "line\nwhat-if 0 1,2",
-            1,
-            "2: what-if 0 1,2: refused 12: the set 1,2 has process 2, and N is 2",
-        ),
-        (
-            "line\nwhat-if 0,",
-            2,
-            "2: what-if 0,: `0,`: a process is missing: a set is processes with commas between, such as 0,2, or `none`, \
-             `all`, `singles` or `pairs` (see `keeper what-if --help`)",
-        ),
-        (
-            "what-if --sets x",
-            2,
-            "1: what-if --sets x: a step takes no option `--sets`",
-        ),
-        (
             "line\nstand 0.2\nline",
             3,
             "2: stand 0.2: no: 0.2 is on no consistent line: a zigzag path leads from 0.2 to itself by message 3 \
@@ -301,12 +281,12 @@ fn a_line_that_fails() {
         (
             "line\nsned 0 1",
             2,
-            "2: sned 0 1: there is no step `sned`; there are new, decode, check, list, line, what-if, stand, sheet, why, send, save, receive, fall-back, draw",
+            "2: sned 0 1: there is no step `sned`; there are new, decode, check, list, line, stand, sheet, why, send, save, receive, fall-back, draw",
         ),
         (
             "fall",
             2,
-            "1: fall: there is no step `fall`; there are new, decode, check, list, line, what-if, stand, sheet, why, send, save, receive, fall-back, draw",
+            "1: fall: there is no step `fall`; there are new, decode, check, list, line, stand, sheet, why, send, save, receive, fall-back, draw",
         ),
         (
             "send 0",

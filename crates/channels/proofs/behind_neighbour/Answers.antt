@@ -1,7 +1,6 @@
 -- What `behind_neighbour` reads of the channel is where the neighbour stands: the channel is below 1,024 (`channel_small`), and what stands there is at
 -- most k (`last_low`).
-use Rattle.std.proofs.Common.{◌<◌, ◌≤◌, ◌∙◌, arith, length, refl}
-use lib.ListN.{get_or}
+use Rattle.std.proofs.Common.{◌<◌, ◌∙◌, arith, refl}
 use Rattle.channels.proofs.ChannelLaws.{channel_small, first-there, last_low, lasts_more, neighbour_there}
 use Rattle.channels.proofs.behind_neighbour.Goals as goal
 

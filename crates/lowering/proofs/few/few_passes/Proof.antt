@@ -2,7 +2,6 @@
 -- The measure is the number of passes left. The invariant of one pass, and its measure, are those of `passes::lower`.
 -- Assumes nothing.
 use borrow.Author.Rules.{rules}
-use borrow.Author.Tests.{not-true}
 use native.Mathlib.Omega.{arith}
 use mathlib.Core.Bool.{false, false≢true}
 use mathlib.Core.Path.{◌≡◌, refl, sym, ◌∙◌}

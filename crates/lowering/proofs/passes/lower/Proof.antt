@@ -3,7 +3,6 @@
 -- the same of its line at the start; and until it lowers, none of the messages from k on is an orphan. The measure is k.
 -- Assumes nothing.
 use borrow.Author.Rules.{rules}
-use borrow.Author.Tests.{not-false, not-true}
 use native.Mathlib.Omega.{arith}
 use Rattle.lowering.proofs.DownLaws.{down_none, receiver_small, sender_small}
 use Rattle.lowering.proofs.PassLaws.{NextInPass, LoweringPass, Under, pass_begins, pass_lowers, pass_settles, pass-under}

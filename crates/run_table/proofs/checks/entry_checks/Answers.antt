@@ -1,5 +1,5 @@
 -- What `entry_checks` returns is the refusal of the parts: by check 5, by nothing, or by the first check of messages that catches.
-use Rattle.std.proofs.Common.{◌≤◌, ◌∙◌, arith, sym}
+use Rattle.std.proofs.Common.{◌∙◌, arith, sym}
 use Rattle.run_table.proofs.EntryLaws.{refused_count, refused_message, refused_nothing}
 use Rattle.run_table.proofs.FaultLaws.{place_within}
 use Rattle.run_table.specs.EntryChecks.{checks_below, message_checks}
