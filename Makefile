@@ -298,8 +298,9 @@ soak: archives need-cargo discarding
 discarding: archives need-cargo
 	@cd examples/discarding && $(CARGO) build --release --target-dir ../../target/cargo
 
-# What changed from the commit BASE to HEAD, in Markdown. Both are proved RUNS times from nothing, a quarter of an
-# hour for two times; TIMES=no leaves that out, and CRATES="a b" proves these alone, with the crates below them.
+# What changed from the commit BASE to HEAD, in Markdown. Both are proved RUNS times from nothing, one crate at a time, some
+# forty minutes for two times; TIMES=no leaves that out, and CRATES="a b" proves these alone, with the crates below them. A
+# commit that was written for an older Rattle can't be proved with this one.
 # No --release: the command waits for git and rt, and this compiles in half the time.
 BASE =
 RUNS = 2
