@@ -156,7 +156,8 @@ fn step(words: &[&str]) -> Result<Arguments, Failure> {
     }
 }
 
-/// Whether a line of a script can be of this subcommand.
+/// Whether a line of a script can be of this subcommand: one that steps or asks, but for `what-if`, which has not landed
+/// as a step (docs/PORT.md).
 fn is_step(row: &Subcommand) -> bool {
     !matches!(row.work, Work::Alone(_)) && row.name != "what-if"
 }

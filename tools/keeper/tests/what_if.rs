@@ -580,15 +580,4 @@ fn texts_files_and_scripts() {
     fs::write(&named, &a).expect("written");
     assert_eq!(done(&["what-if", "all", "1", &named], b""), output);
     assert_eq!(done(&["what-if", "--", "all", "1"], &a), output);
-    // As a line of a script, after a step.
-    let path = corpus_folder().join("example_a.table");
-    let path = path.to_str().expect("UTF-8");
-    let script = b"what-if 0 none # before\nsave 0\nwhat-if --csv 0";
-    let expected = [
-        done(&["what-if", "0", "none"], &a),
-        done(&["what-if", "--csv", "0"], &done(&["save", "0"], &a)),
-    ];
-    assert_eq!(done(&["run", "-", path], script), expected.concat());
-    let message = "(standard input):1: what-if --sets x: a step takes no option `--sets`";
-    fails(&["run", "-", path], b"what-if --sets x", 2, message);
 }
