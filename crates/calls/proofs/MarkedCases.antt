@@ -60,17 +60,11 @@ all_cases = (refl, refl, refl, refl, refl, refl, refl)
 -- and of many sets, with their scratch
 pub all_set_cases : (all_sets_hold set_cases ≡ true) × (scratch_cases ≡ true)
 unfolding first_caught outside too_short bad_process_count too_many_messages bad_length bad_count unknown_process to_itself bad_send bad_receipt same_channel
-    waits out_of_turn broken_below broken_channel table_checks table_refusal processes_in messages_in counts_part sends_part receipts_part count_at process_at
-    checkpoint_at message_at decode entries_of encode number_at bytes_of bytes_of_all tabulate any any_below process_count message_count count_of message_of
-    ceiling_of line_of recovery_line single is_orphan lower pass passes sum line_under member high_bit stays put_back remaining after_rollback holder_line
-    keeps_checkpoint crosses keeps_message select rows kept_checkpoints kept_messages sheet unless answer line_answer recovery_line_answer line_of_set_checks
-    line_of_set_answer keep_sheet_checks keep_sheet_answer rollback_answer case_table like_a table_b table_c table_d answer_of same_bytes same_answer all_hold
-    marked_cases above_counts line_under_checks line_under_answer ceiling_cases nine_marks ten_marks marks_size checkpoint_total marked_line_checks
-    marked_line_answer marking_cases waits_for bad_position not_rising_after not_rising passes_over receipt_checks received_at after_receipt after_checkpoint
-    receipt_call_checks checkpoint_call_checks receipt_answer checkpoint_answer crossing one_message full receipt_cases channel_with full_receiver channel_cases
-    unknown_named not_below_counts put_named named_ceiling named_line misses stand_together_checks standing_bytes stand_together_answer figure_one one_interval
-    standing_cases send_checks after_send send_call_checks send_answer send_cases some_high_bit most_sets lines_of_sets_checks lines_of_sets
-    lines_of_sets_answer holder_lines lines_unless scratch_of_sets three_of_two thirty_two set_cases scratch_cases all_sets_hold
+    waits out_of_turn broken_below broken_channel table_checks processes_in messages_in counts_part sends_part receipts_part count_at process_at checkpoint_at
+    message_at decode number_at bytes_of bytes_of_all tabulate any any_below process_count message_count count_of message_of ceiling_of line_of single is_orphan
+    lower pass passes sum line_under member high_bit holder_line rows unless answer case_table like_a table_c same_bytes same_answer some_high_bit most_sets
+    lines_of_sets_checks lines_of_sets lines_of_sets_answer holder_lines lines_unless scratch_of_sets three_of_two thirty_two set_cases scratch_cases
+    all_sets_hold
 all_set_cases = (refl, refl)
 
 pub marked_cases_lem : all_hold marked_cases ≡ true

@@ -30,11 +30,8 @@ impl<'a> SheetWriter<'a> {
         requires { CanPut part table.now scratch.now self.at self.buffer.now }
         ensures { result ≡ written self.entry (numbers_of part (decode table.now)) }
     {
-        let at = self.at;
-        let next = put_part(&mut *self.buffer, at, part, table, scratch);
-        SheetWriter {
-            buffer: self.buffer,
-            at: next,
-        }
+        let mut writer = self;
+        writer.put_next(part, table, scratch);
+        writer
     }
 }

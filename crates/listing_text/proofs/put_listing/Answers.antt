@@ -6,90 +6,52 @@ use mathlib.Core.List.{[]}
 use mathlib.Core.Path.{refl}
 use native.Mathlib.Omega.{arith}
 use Rattle.listing_text.proofs.put_listing.Goals as goal
+use Rattle.listing_text.proofs.put_listing.Goals.{After-recovery_line-line}
+
+-- what was read is the table's
+reading : (c : After-recovery_line-line)
+    → Reading c.args.table.now c.process_count-n.result c.recovery_line-line.result c.args.scratch.now c.args.sheet.now c.u16_at-kept.result
+    c.u16_at-logged.result
+reading c = record {
+  accepted = c.requires.table_value;
+  answered = c.requires.answered;
+  n_is = c.process_count-n.ensures;
+  line_is = c.recovery_line-line.ensures;
+  k_is = c.u16_at-kept.ensures;
+  q_is = c.u16_at-logged.ensures;
+}
 
 pub u16_at-kept-requires : goal.u16_at-kept-requires
-unfolding share_row
 u16_at-kept-requires c =
     omega (arith, sheet_long _ _ _ c.requires.answered)
 
 pub u16_at-logged-requires : goal.u16_at-logged-requires
-unfolding share_row
 u16_at-logged-requires c =
     omega (arith, sheet_long _ _ _ c.requires.answered)
 
 pub slice_bounds-line-end : goal.slice_bounds-line-end
-unfolding share_row
 slice_bounds-line-end c =
-    let reading : Reading c.args.table.now c.process_count-n.result c.recovery_line-line.result c.args.scratch.now
-    c.args.sheet.now c.u16_at-kept.result c.u16_at-logged.result = record {
-      accepted = c.requires.table_value;
-      answered = c.requires.answered;
-      n_is = c.process_count-n.ensures;
-      line_is = c.recovery_line-line.ensures;
-      k_is = c.u16_at-kept.ensures;
-      q_is = c.u16_at-logged.ensures;
-    } in
-    line_room reading
+    line_room (reading (goal.at.slice_bounds-line-end c).After-recovery_line-line)
 
 pub slice_bounds-put_line-end : goal.slice_bounds-put_line-end
-unfolding share_row
 slice_bounds-put_line-end c =
-    let reading : Reading c.args.table.now c.process_count-n.result c.recovery_line-line.result c.args.scratch.now
-    c.args.sheet.now c.u16_at-kept.result c.u16_at-logged.result = record {
-      accepted = c.requires.table_value;
-      answered = c.requires.answered;
-      n_is = c.process_count-n.ensures;
-      line_is = c.recovery_line-line.ensures;
-      k_is = c.u16_at-kept.ensures;
-      q_is = c.u16_at-logged.ensures;
-    } in
-    line_taken reading
+    line_taken (reading (goal.at.slice_bounds-put_line-end c).After-recovery_line-line)
 
 pub put_line-after_line-requires : goal.put_line-after_line-requires
-unfolding share_row
 put_line-after_line-requires c =
-    let reading : Reading c.args.table.now c.process_count-n.result c.recovery_line-line.result c.args.scratch.now
-    c.args.sheet.now c.u16_at-kept.result c.u16_at-logged.result = record {
-      accepted = c.requires.table_value;
-      answered = c.requires.answered;
-      n_is = c.process_count-n.ensures;
-      line_is = c.recovery_line-line.ensures;
-      k_is = c.u16_at-kept.ensures;
-      q_is = c.u16_at-logged.ensures;
-    } in
-    part_room (listing_left reading {before = []} refl)
+    part_room (listing_left (reading (goal.at.put_line-after_line-requires c).After-recovery_line-line) {before = []} refl)
 
 pub put_holds-after_holds-requires : goal.put_holds-after_holds-requires
-unfolding share_row
 put_holds-after_holds-requires c =
-    let reading : Reading c.args.table.now c.process_count-n.result c.recovery_line-line.result c.args.scratch.now
-    c.args.sheet.now c.u16_at-kept.result c.u16_at-logged.result = record {
-      accepted = c.requires.table_value;
-      answered = c.requires.answered;
-      n_is = c.process_count-n.ensures;
-      line_is = c.recovery_line-line.ensures;
-      k_is = c.u16_at-kept.ensures;
-      q_is = c.u16_at-logged.ensures;
-    } in
-    let here = reading in
+    let here = reading (goal.at.put_holds-after_holds-requires c).After-recovery_line-line in
     record {
       holds_lines = holds_lines here;
       fits = part_room (part_laid (listing_left here refl) c.put_line-after_line.ensures);
     }
 
 pub put_checkpoints-after_checkpoints-requires : goal.put_checkpoints-after_checkpoints-requires
-unfolding share_row
 put_checkpoints-after_checkpoints-requires c =
-    let reading : Reading c.args.table.now c.process_count-n.result c.recovery_line-line.result c.args.scratch.now
-    c.args.sheet.now c.u16_at-kept.result c.u16_at-logged.result = record {
-      accepted = c.requires.table_value;
-      answered = c.requires.answered;
-      n_is = c.process_count-n.ensures;
-      line_is = c.recovery_line-line.ensures;
-      k_is = c.u16_at-kept.ensures;
-      q_is = c.u16_at-logged.ensures;
-    } in
-    let here = reading in
+    let here = reading (goal.at.put_checkpoints-after_checkpoints-requires c).After-recovery_line-line in
     let left = part_laid (listing_left here refl) c.put_line-after_line.ensures in
     record {
       k_in_bounds = omega (arith, sheet_needs here);
@@ -97,18 +59,8 @@ put_checkpoints-after_checkpoints-requires c =
     }
 
 pub put_messages-after_messages-requires : goal.put_messages-after_messages-requires
-unfolding share_row
 put_messages-after_messages-requires c =
-    let reading : Reading c.args.table.now c.process_count-n.result c.recovery_line-line.result c.args.scratch.now
-    c.args.sheet.now c.u16_at-kept.result c.u16_at-logged.result = record {
-      accepted = c.requires.table_value;
-      answered = c.requires.answered;
-      n_is = c.process_count-n.ensures;
-      line_is = c.recovery_line-line.ensures;
-      k_is = c.u16_at-kept.ensures;
-      q_is = c.u16_at-logged.ensures;
-    } in
-    let here = reading in
+    let here = reading (goal.at.put_messages-after_messages-requires c).After-recovery_line-line in
     let left = part_laid (part_laid (listing_left here refl) c.put_line-after_line.ensures) c.put_holds-after_holds.ensures in
     record {
       q_in_bounds = sheet_needs here;
@@ -116,50 +68,22 @@ put_messages-after_messages-requires c =
     }
 
 pub share_of-requires : goal.share_of-requires
-unfolding share_row
 share_of-requires c =
-    let reading : Reading c.args.table.now c.process_count-n.result c.recovery_line-line.result c.args.scratch.now
-    c.args.sheet.now c.u16_at-kept.result c.u16_at-logged.result = record {
-      accepted = c.requires.table_value;
-      answered = c.requires.answered;
-      n_is = c.process_count-n.ensures;
-      line_is = c.recovery_line-line.ensures;
-      k_is = c.u16_at-kept.ensures;
-      q_is = c.u16_at-logged.ensures;
-    } in
     record {
       table_value = c.requires.table_value;
-      kept_value = kept_is reading;
+      kept_value = kept_is (reading (goal.at.share_of-requires c).After-recovery_line-line);
     }
 
 pub put_row-requires : goal.put_row-requires
 unfolding share_row
 put_row-requires c =
-    let reading : Reading c.args.table.now c.process_count-n.result c.recovery_line-line.result c.args.scratch.now
-    c.args.sheet.now c.u16_at-kept.result c.u16_at-logged.result = record {
-      accepted = c.requires.table_value;
-      answered = c.requires.answered;
-      n_is = c.process_count-n.ensures;
-      line_is = c.recovery_line-line.ensures;
-      k_is = c.u16_at-kept.ensures;
-      q_is = c.u16_at-logged.ensures;
-    } in
-    let left = part_laid (listing_left reading c.share_of.ensures) c.put_line-after_line.ensures in
+    let left = part_laid (listing_left (reading (goal.at.put_row-requires c).After-recovery_line-line) c.share_of.ensures) c.put_line-after_line.ensures in
     let later = part_laid (part_laid left c.put_holds-after_holds.ensures) c.put_checkpoints-after_checkpoints.ensures in
     part_room (part_laid later c.put_messages-after_messages.ensures)
 
 pub returns : goal.returns
 unfolding share_row
 returns c =
-    let reading : Reading c.args.table.now c.process_count-n.result c.recovery_line-line.result c.args.scratch.now
-    c.args.sheet.now c.u16_at-kept.result c.u16_at-logged.result = record {
-      accepted = c.requires.table_value;
-      answered = c.requires.answered;
-      n_is = c.process_count-n.ensures;
-      line_is = c.recovery_line-line.ensures;
-      k_is = c.u16_at-kept.ensures;
-      q_is = c.u16_at-logged.ensures;
-    } in
-    let left = part_laid (listing_left reading c.share_of.ensures) c.put_line-after_line.ensures in
+    let left = part_laid (listing_left (reading (goal.at.returns c).After-recovery_line-line) c.share_of.ensures) c.put_line-after_line.ensures in
     let later = part_laid (part_laid left c.put_holds-after_holds.ensures) c.put_checkpoints-after_checkpoints.ensures in
     none_left (part_laid (part_laid later c.put_messages-after_messages.ensures) c.put_row.ensures)

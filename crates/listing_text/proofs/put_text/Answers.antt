@@ -19,7 +19,6 @@ returns-then-refusal-ne0 c =
     laid_same (refused_text _ _ c.requires.refusal_value c.if-refusal-ne0.true) c.put_row.ensures
 
 pub put_listing-requires : goal.put_listing-requires
-unfolding refused_row
 put_listing-requires c =
     let accepted : table_refusal c.args.table.now ≡ 0 = sym c.requires.refusal_value ∙ c.if-refusal-ne0.false in
     record {

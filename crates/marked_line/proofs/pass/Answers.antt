@@ -7,6 +7,36 @@ use Rattle.marked_line.proofs.MarkPassLaws.{row_ready, send-there, skips_marked,
 use Rattle.marked_line.proofs.MarkRowLaws.{first-there}
 use Rattle.tables.proofs.ReadLaws.{messages_read}
 use Rattle.marked_line.proofs.pass.Goals as goal
+use Rattle.marked_line.proofs.pass.Goals.{After-u16_at-receiver, After-u16_at-sent}
+
+-- what is known of the next message: where its receipt was read, and where its send was
+at_receipt : (c : After-u16_at-receiver)
+    → AtReceipt c.args.table.now c.args.first.now c.args.roots.now c.args.marks.now c.loop-k.marks c.loop-k.marked c.message_count-m.result
+    c.sends-sends.result.now c.receipts-receipts.result.now c.loop-k.k c.u16_at-receiver.result c.u16_at-received.result
+at_receipt c = record {
+  passing = c.loop-k.invariant;
+  more = c.loop-k-test.true;
+  receiver_read = c.u16_at-receiver.ensures;
+  received_read = c.u16_at-received.ensures;
+}
+
+at_send : (c : After-u16_at-sent)
+    → AtSend c.args.table.now c.args.first.now c.args.roots.now c.args.marks.now c.loop-k.marks c.loop-k.marked c.message_count-m.result
+    c.sends-sends.result.now c.receipts-receipts.result.now c.loop-k.k c.u16_at-receiver.result c.u16_at-received.result
+    c.state_bit-receipt.result c.u16_at-sender.result c.u16_at-sent.result
+at_send c = record {
+  receipt = record {
+    passing = c.loop-k.invariant;
+    more = c.loop-k-test.true;
+    receiver_read = c.u16_at-receiver.ensures;
+    received_read = c.u16_at-received.ensures;
+  };
+  bit_read = c.state_bit-receipt.ensures;
+  delivered = c.if-received-eq0.false;
+  unmarked = sym c.is_marked.ensures ∙ c.if-is_marked.false;
+  sender_read = c.u16_at-sender.ensures;
+  sent_read = c.u16_at-sent.ensures;
+}
 
 pub message_count-m-requires : goal.message_count-m-requires
 message_count-m-requires c =
@@ -31,152 +61,40 @@ loop-k-preserved-then-received-eq0 c =
 
 pub state_bit-receipt-requires : goal.state_bit-receipt-requires
 state_bit-receipt-requires c =
-    let at_receipt : (AtReceipt c.args.table.now c.args.first.now c.args.roots.now c.args.marks.now c.loop-k.marks c.loop-k.marked
-    c.message_count-m.result c.sends-sends.result.now c.receipts-receipts.result.now c.loop-k.k
-    c.u16_at-receiver.result c.u16_at-received.result) = record {
-      passing = c.loop-k.invariant;
-      more = c.loop-k-test.true;
-      receiver_read = c.u16_at-receiver.ensures;
-      received_read = c.u16_at-received.ensures;
-    } in
-    first-there c.loop-k.invariant.lent _ (omega (arith, receiver_few at_receipt))
+    first-there c.loop-k.invariant.lent _ (omega (arith, receiver_few (at_receipt (goal.at.state_bit-receipt-requires c).After-u16_at-receiver)))
 
 pub is_marked-requires : goal.is_marked-requires
 is_marked-requires c =
-    let at_receipt : (AtReceipt c.args.table.now c.args.first.now c.args.roots.now c.args.marks.now c.loop-k.marks c.loop-k.marked
-    c.message_count-m.result c.sends-sends.result.now c.receipts-receipts.result.now c.loop-k.k
-    c.u16_at-receiver.result c.u16_at-received.result) = record {
-      passing = c.loop-k.invariant;
-      more = c.loop-k-test.true;
-      receiver_read = c.u16_at-receiver.ensures;
-      received_read = c.u16_at-received.ensures;
-    } in
-    receipt_in at_receipt c.state_bit-receipt.ensures
+    receipt_in (at_receipt (goal.at.is_marked-requires c).After-u16_at-receiver) c.state_bit-receipt.ensures
 
 pub loop-k-preserved-then-is_marked : goal.loop-k-preserved-then-is_marked
 loop-k-preserved-then-is_marked c =
-    let at_receipt : (AtReceipt c.args.table.now c.args.first.now c.args.roots.now c.args.marks.now c.loop-k.marks c.loop-k.marked
-    c.message_count-m.result c.sends-sends.result.now c.receipts-receipts.result.now c.loop-k.k
-    c.u16_at-receiver.result c.u16_at-received.result) = record {
-      passing = c.loop-k.invariant;
-      more = c.loop-k-test.true;
-      receiver_read = c.u16_at-receiver.ensures;
-      received_read = c.u16_at-received.ensures;
-    } in
-    skips_marked at_receipt c.state_bit-receipt.ensures (sym c.is_marked.ensures ∙ c.if-is_marked.true)
+    skips_marked (at_receipt (goal.at.loop-k-preserved-then-is_marked c).After-u16_at-receiver) c.state_bit-receipt.ensures
+        (sym c.is_marked.ensures ∙ c.if-is_marked.true)
 
 pub is_root_or_marked-requires : goal.is_root_or_marked-requires
 is_root_or_marked-requires c =
-    let at_receipt : (AtReceipt c.args.table.now c.args.first.now c.args.roots.now c.args.marks.now c.loop-k.marks c.loop-k.marked
-    c.message_count-m.result c.sends-sends.result.now c.receipts-receipts.result.now c.loop-k.k
-    c.u16_at-receiver.result c.u16_at-received.result) = record {
-      passing = c.loop-k.invariant;
-      more = c.loop-k-test.true;
-      receiver_read = c.u16_at-receiver.ensures;
-      received_read = c.u16_at-received.ensures;
-    } in
-    let at_send : (AtSend c.args.table.now c.args.first.now c.args.roots.now c.args.marks.now c.loop-k.marks c.loop-k.marked
-    c.message_count-m.result c.sends-sends.result.now c.receipts-receipts.result.now c.loop-k.k
-    c.u16_at-receiver.result c.u16_at-received.result c.state_bit-receipt.result c.u16_at-sender.result c.u16_at-sent.result) = record {
-      receipt = at_receipt;
-      bit_read = c.state_bit-receipt.ensures;
-      delivered = c.if-received-eq0.false;
-      unmarked = sym c.is_marked.ensures ∙ c.if-is_marked.false;
-      sender_read = c.u16_at-sender.ensures;
-      sent_read = c.u16_at-sent.ensures;
-    } in
-    send-there at_send
+    send-there (at_send (goal.at.is_root_or_marked-requires c).After-u16_at-sent)
 
 pub loop-k-preserved-then-not-is_root_or_marked : goal.loop-k-preserved-then-not-is_root_or_marked
 loop-k-preserved-then-not-is_root_or_marked c =
-    let at_receipt : (AtReceipt c.args.table.now c.args.first.now c.args.roots.now c.args.marks.now c.loop-k.marks c.loop-k.marked
-    c.message_count-m.result c.sends-sends.result.now c.receipts-receipts.result.now c.loop-k.k
-    c.u16_at-receiver.result c.u16_at-received.result) = record {
-      passing = c.loop-k.invariant;
-      more = c.loop-k-test.true;
-      receiver_read = c.u16_at-receiver.ensures;
-      received_read = c.u16_at-received.ensures;
-    } in
-    let at_send : (AtSend c.args.table.now c.args.first.now c.args.roots.now c.args.marks.now c.loop-k.marks c.loop-k.marked
-    c.message_count-m.result c.sends-sends.result.now c.receipts-receipts.result.now c.loop-k.k
-    c.u16_at-receiver.result c.u16_at-received.result c.state_bit-receipt.result c.u16_at-sender.result c.u16_at-sent.result) = record {
-      receipt = at_receipt;
-      bit_read = c.state_bit-receipt.ensures;
-      delivered = c.if-received-eq0.false;
-      unmarked = sym c.is_marked.ensures ∙ c.if-is_marked.false;
-      sender_read = c.u16_at-sender.ensures;
-      sent_read = c.u16_at-sent.ensures;
-    } in
-    skips_unreached at_send (sym c.is_root_or_marked.ensures ∙ c.if-not-is_root_or_marked.true)
+    skips_unreached (at_send (goal.at.loop-k-preserved-then-not-is_root_or_marked c).After-u16_at-sent)
+        (sym c.is_root_or_marked.ensures ∙ c.if-not-is_root_or_marked.true)
 
 pub row_end-end-requires : goal.row_end-end-requires
 row_end-end-requires c =
-    let at_receipt : (AtReceipt c.args.table.now c.args.first.now c.args.roots.now c.args.marks.now c.loop-k.marks c.loop-k.marked
-    c.message_count-m.result c.sends-sends.result.now c.receipts-receipts.result.now c.loop-k.k
-    c.u16_at-receiver.result c.u16_at-received.result) = record {
-      passing = c.loop-k.invariant;
-      more = c.loop-k-test.true;
-      receiver_read = c.u16_at-receiver.ensures;
-      received_read = c.u16_at-received.ensures;
-    } in
-    let at_send : (AtSend c.args.table.now c.args.first.now c.args.roots.now c.args.marks.now c.loop-k.marks c.loop-k.marked
-    c.message_count-m.result c.sends-sends.result.now c.receipts-receipts.result.now c.loop-k.k
-    c.u16_at-receiver.result c.u16_at-received.result c.state_bit-receipt.result c.u16_at-sender.result c.u16_at-sent.result) = record {
-      receipt = at_receipt;
-      bit_read = c.state_bit-receipt.ensures;
-      delivered = c.if-received-eq0.false;
-      unmarked = sym c.is_marked.ensures ∙ c.if-is_marked.false;
-      sender_read = c.u16_at-sender.ensures;
-      sent_read = c.u16_at-sent.ensures;
-    } in
-    let at = at_send.receipt in
+    let at = (at_send (goal.at.row_end-end-requires c).After-u16_at-sent).receipt in
     (first-there at.passing.lent _ (omega (arith, receiver_few at))).0
 
 pub mark_from-requires : goal.mark_from-requires
 mark_from-requires c =
-    let at_receipt : (AtReceipt c.args.table.now c.args.first.now c.args.roots.now c.args.marks.now c.loop-k.marks c.loop-k.marked
-    c.message_count-m.result c.sends-sends.result.now c.receipts-receipts.result.now c.loop-k.k
-    c.u16_at-receiver.result c.u16_at-received.result) = record {
-      passing = c.loop-k.invariant;
-      more = c.loop-k-test.true;
-      receiver_read = c.u16_at-receiver.ensures;
-      received_read = c.u16_at-received.ensures;
-    } in
-    let at_send : (AtSend c.args.table.now c.args.first.now c.args.roots.now c.args.marks.now c.loop-k.marks c.loop-k.marked
-    c.message_count-m.result c.sends-sends.result.now c.receipts-receipts.result.now c.loop-k.k
-    c.u16_at-receiver.result c.u16_at-received.result c.state_bit-receipt.result c.u16_at-sender.result c.u16_at-sent.result) = record {
-      receipt = at_receipt;
-      bit_read = c.state_bit-receipt.ensures;
-      delivered = c.if-received-eq0.false;
-      unmarked = sym c.is_marked.ensures ∙ c.if-is_marked.false;
-      sender_read = c.u16_at-sender.ensures;
-      sent_read = c.u16_at-sent.ensures;
-    } in
-    let at = at_send in
+    let at = at_send (goal.at.mark_from-requires c).After-u16_at-sent in
     let from-there = sym c.is_root_or_marked.ensures ∙ c.if-not-is_root_or_marked.false in
     record { end_bound = end_in at from-there c.row_end-end.ensures; onwards = row_ready at from-there c.row_end-end.ensures }
 
 pub loop-k-preserved : goal.loop-k-preserved
 loop-k-preserved c =
-    let at_receipt : (AtReceipt c.args.table.now c.args.first.now c.args.roots.now c.args.marks.now c.loop-k.marks c.loop-k.marked
-    c.message_count-m.result c.sends-sends.result.now c.receipts-receipts.result.now c.loop-k.k
-    c.u16_at-receiver.result c.u16_at-received.result) = record {
-      passing = c.loop-k.invariant;
-      more = c.loop-k-test.true;
-      receiver_read = c.u16_at-receiver.ensures;
-      received_read = c.u16_at-received.ensures;
-    } in
-    let at_send : (AtSend c.args.table.now c.args.first.now c.args.roots.now c.args.marks.now c.loop-k.marks c.loop-k.marked
-    c.message_count-m.result c.sends-sends.result.now c.receipts-receipts.result.now c.loop-k.k
-    c.u16_at-receiver.result c.u16_at-received.result c.state_bit-receipt.result c.u16_at-sender.result c.u16_at-sent.result) = record {
-      receipt = at_receipt;
-      bit_read = c.state_bit-receipt.ensures;
-      delivered = c.if-received-eq0.false;
-      unmarked = sym c.is_marked.ensures ∙ c.if-is_marked.false;
-      sender_read = c.u16_at-sender.ensures;
-      sent_read = c.u16_at-sent.ensures;
-    } in
-    pass_marks at_send (sym c.is_root_or_marked.ensures
+    pass_marks (at_send (goal.at.loop-k-preserved c).After-u16_at-sent) (sym c.is_root_or_marked.ensures
     ∙ c.if-not-is_root_or_marked.false) c.row_end-end.ensures
     c.mark_from.ensures
 

@@ -1,9 +1,6 @@
 -- `named_ceiling` meets its contract. The invariant: the counts, with the first k named numbers put (`NamedPut`). The measure: the names that are left.
 use native.Mathlib.Omega.{arith}
-use Prim.Native.Nat.{◌<◌}
-use lib.ListN.{get_or}
 use Rattle.named_checkpoints.proofs.NamedLaws.{place_inside, put_all, put_more, put_none}
-use Rattle.tables.specs.Table.{most_processes}
 use Rattle.named_checkpoints.proofs.named_ceiling.Goals as goal
 
 pub loop-k-init : goal.loop-k-init
@@ -12,9 +9,7 @@ loop-k-init c =
 
 pub overflow_cast-p : goal.overflow_cast-p
 overflow_cast-p c =
-    let inside : get_or c.args.processes.now c.loop-k.k 0 < most_processes = place_inside _ c.loop-k.invariant.given.accepted c.loop-k.invariant.given.lists
-    c.loop-k-test.true in
-    omega (arith, inside)
+    omega (arith, place_inside _ c.loop-k.invariant.given.accepted c.loop-k.invariant.given.lists c.loop-k-test.true)
 
 pub bounds-states-k : goal.bounds-states-k
 bounds-states-k c =
@@ -22,15 +17,11 @@ bounds-states-k c =
 
 pub offset_bounds-ceiling-p : goal.offset_bounds-ceiling-p
 offset_bounds-ceiling-p c =
-    let inside : get_or c.args.processes.now c.loop-k.k 0 < most_processes = place_inside _ c.loop-k.invariant.given.accepted c.loop-k.invariant.given.lists
-    c.loop-k-test.true in
-    omega (arith, inside)
+    omega (arith, place_inside _ c.loop-k.invariant.given.accepted c.loop-k.invariant.given.lists c.loop-k-test.true)
 
 pub bounds-ceiling-p : goal.bounds-ceiling-p
 bounds-ceiling-p c =
-    let inside : get_or c.args.processes.now c.loop-k.k 0 < most_processes = place_inside _ c.loop-k.invariant.given.accepted c.loop-k.invariant.given.lists
-    c.loop-k-test.true in
-    inside
+    place_inside _ c.loop-k.invariant.given.accepted c.loop-k.invariant.given.lists c.loop-k-test.true
 
 pub loop-k-preserved : goal.loop-k-preserved
 loop-k-preserved c =

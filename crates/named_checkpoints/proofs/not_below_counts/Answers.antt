@@ -1,10 +1,7 @@
 -- `not_below_counts` meets its contract. The invariant: the first k numbers are below their counts (`NamedBelow`). The measure: the names that are left.
 use native.Mathlib.Omega.{arith}
-use Prim.Native.Nat.{◌<◌}
-use lib.ListN.{get_or}
 use Rattle.named_checkpoints.proofs.NamedLaws.{below_all, below_here, not_below_here, place_inside}
 use Rattle.tables.proofs.SearchedLaws.{searched_none}
-use Rattle.tables.specs.Table.{most_processes}
 use Rattle.named_checkpoints.proofs.not_below_counts.Goals as goal
 
 pub loop-k-init : goal.loop-k-init
@@ -12,27 +9,20 @@ loop-k-init c =
     record {
       given = record { accepted = c.requires.table_value; lists = c.requires.parallel };
       counts_are = c.count_array-counts.ensures;
-      searched =
-          searched_none;
+      searched = searched_none;
     }
 
 pub overflow_cast-p : goal.overflow_cast-p
 overflow_cast-p c =
-    let inside : get_or c.args.processes.now c.loop-k.k 0 < most_processes = place_inside _ c.loop-k.invariant.given.accepted c.loop-k.invariant.given.lists
-    c.loop-k-test.true in
-    omega (arith, inside)
+    omega (arith, place_inside _ c.loop-k.invariant.given.accepted c.loop-k.invariant.given.lists c.loop-k-test.true)
 
 pub offset_bounds-counts-p : goal.offset_bounds-counts-p
 offset_bounds-counts-p c =
-    let inside : get_or c.args.processes.now c.loop-k.k 0 < most_processes = place_inside _ c.loop-k.invariant.given.accepted c.loop-k.invariant.given.lists
-    c.loop-k-test.true in
-    omega (arith, inside)
+    omega (arith, place_inside _ c.loop-k.invariant.given.accepted c.loop-k.invariant.given.lists c.loop-k-test.true)
 
 pub bounds-counts-p : goal.bounds-counts-p
 bounds-counts-p c =
-    let inside : get_or c.args.processes.now c.loop-k.k 0 < most_processes = place_inside _ c.loop-k.invariant.given.accepted c.loop-k.invariant.given.lists
-    c.loop-k-test.true in
-    inside
+    place_inside _ c.loop-k.invariant.given.accepted c.loop-k.invariant.given.lists c.loop-k-test.true
 
 pub bounds-states-k : goal.bounds-states-k
 bounds-states-k c =

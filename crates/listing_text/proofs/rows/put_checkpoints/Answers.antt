@@ -24,7 +24,6 @@ loop-e-preserved c =
     c.loop-e-test.true c.put_long_row-next.ensures
 
 pub shape_of-text : goal.shape_of-text
-unfolding checkpoint_rows checkpoint_row
 shape_of-text c =
     laying_length c.loop-e.invariant
 

@@ -13,22 +13,18 @@ loop-k-init c =
     (c.requires.holds_lines, laying_none refl c.requires.fits)
 
 pub overflow_mul-start : goal.overflow_mul-start
-unfolding hold_rows hold_row
 overflow_mul-start c =
     omega (arith, line_in _ _ c.loop-k-test.true)
 
 pub overflow_add-end : goal.overflow_add-end
-unfolding hold_rows hold_row
 overflow_add-end c =
     omega (arith, line_in _ _ c.loop-k-test.true)
 
 pub offset_bounds-scratch-start : goal.offset_bounds-scratch-start
-unfolding hold_rows hold_row
 offset_bounds-scratch-start c =
     omega (arith, line_in _ _ c.loop-k-test.true)
 
 pub slice_bounds-put_long_row-end-in-loop-k : goal.slice_bounds-put_long_row-end-in-loop-k
-unfolding hold_rows hold_row
 slice_bounds-put_long_row-end-in-loop-k c =
     omega (arith, line_in _ _ c.loop-k-test.true)
 
@@ -43,7 +39,6 @@ loop-k-preserved c =
     (c.loop-k.invariant.0, laying_more c.loop-k.invariant.1 (ap (hold_row _) (line_part _ _ _)) c.loop-k-test.true c.put_long_row-next.ensures)
 
 pub shape_of-text : goal.shape_of-text
-unfolding hold_rows hold_row
 shape_of-text c =
     laying_length c.loop-k.invariant.1
 

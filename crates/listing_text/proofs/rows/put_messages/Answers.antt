@@ -21,7 +21,6 @@ loop-e-preserved c =
     laying_more c.loop-e.invariant (ap message_row c.u16_at-position.ensures) c.loop-e-test.true c.put_row-next.ensures
 
 pub shape_of-text : goal.shape_of-text
-unfolding message_rows message_row
 shape_of-text c =
     laying_length c.loop-e.invariant
 
