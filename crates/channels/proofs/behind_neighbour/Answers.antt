@@ -25,7 +25,7 @@ bounds-last-channel-2 c = omega (arith, small (goal.at.bounds-last-channel-2 c).
 pub returns-then-before-eq0-clause-value : goal.returns-then-before-eq0-clause-value
 returns-then-before-eq0-clause-value c =
     first-there c.requires.lasts c.channel_at-channel.ensures (small (goal.at.returns-then-before-eq0-clause-value c).After-channel_at-channel) refl _
-        c.if-before-eq0.true
+    c.if-before-eq0.true
 
 pub returns-then-before-eq0-clause-lasts_2 : goal.returns-then-before-eq0-clause-lasts_2
 returns-then-before-eq0-clause-lasts_2 c =
@@ -34,18 +34,28 @@ returns-then-before-eq0-clause-lasts_2 c =
 -- there is one before it
 pub out_of_turn-requires-clause-q_in_bounds : goal.out_of_turn-requires-clause-q_in_bounds
 out_of_turn-requires-clause-q_in_bounds c =
-    omega (arith, last_low c.requires.lasts c.channel_at-channel.ensures (small (goal.at.out_of_turn-requires-clause-q_in_bounds c).After-channel_at-channel)
-        refl, c.if-before-eq0.false, c.requires.message_there.in_sends)
+    omega (
+      arith,
+      last_low c.requires.lasts c.channel_at-channel.ensures (small (goal.at.out_of_turn-requires-clause-q_in_bounds c).After-channel_at-channel)
+          refl,
+      c.if-before-eq0.false,
+      c.requires.message_there.in_sends,
+    )
 
 pub out_of_turn-requires-clause-q_in_bounds_2 : goal.out_of_turn-requires-clause-q_in_bounds_2
 out_of_turn-requires-clause-q_in_bounds_2 c =
-    omega (arith, last_low c.requires.lasts c.channel_at-channel.ensures (small (goal.at.out_of_turn-requires-clause-q_in_bounds_2 c).After-channel_at-channel)
-        refl, c.if-before-eq0.false, c.requires.message_there.in_receipts)
+    omega (
+      arith,
+      last_low c.requires.lasts c.channel_at-channel.ensures (small (goal.at.out_of_turn-requires-clause-q_in_bounds_2 c).After-channel_at-channel)
+          refl,
+      c.if-before-eq0.false,
+      c.requires.message_there.in_receipts,
+    )
 
 pub returns-clause-value : goal.returns-clause-value
 returns-clause-value c =
     c.out_of_turn.ensures ∙ neighbour_there c.requires.lasts c.channel_at-channel.ensures (small (goal.at.returns-clause-value c).After-channel_at-channel)
-        refl _ c.if-before-eq0.false
+    refl _ c.if-before-eq0.false
 
 pub returns-clause-lasts_2 : goal.returns-clause-lasts_2
 returns-clause-lasts_2 c =

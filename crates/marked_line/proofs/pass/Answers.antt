@@ -70,7 +70,7 @@ is_marked-requires c =
 pub loop-k-preserved-then-is_marked : goal.loop-k-preserved-then-is_marked
 loop-k-preserved-then-is_marked c =
     skips_marked (at_receipt (goal.at.loop-k-preserved-then-is_marked c).After-u16_at-receiver) c.state_bit-receipt.ensures
-        (sym c.is_marked.ensures ∙ c.if-is_marked.true)
+    (sym c.is_marked.ensures ∙ c.if-is_marked.true)
 
 pub is_root_or_marked-requires : goal.is_root_or_marked-requires
 is_root_or_marked-requires c =
@@ -79,7 +79,7 @@ is_root_or_marked-requires c =
 pub loop-k-preserved-then-not-is_root_or_marked : goal.loop-k-preserved-then-not-is_root_or_marked
 loop-k-preserved-then-not-is_root_or_marked c =
     skips_unreached (at_send (goal.at.loop-k-preserved-then-not-is_root_or_marked c).After-u16_at-sent)
-        (sym c.is_root_or_marked.ensures ∙ c.if-not-is_root_or_marked.true)
+    (sym c.is_root_or_marked.ensures ∙ c.if-not-is_root_or_marked.true)
 
 pub row_end-end-requires : goal.row_end-end-requires
 row_end-end-requires c =
