@@ -334,7 +334,7 @@ survival_holds t = record {
   checkpoints_in = still_there_count t;
   messages = λ future k l.
       (λ h front rest e. line_sent t front rest k h.0 l (subst (λ (x : Future). FollowedTo t x k h.0) e h.1), sent_there t future k l);
-  messages_in_lem = followed_in t;
+  messages_within = followed_in t;
   messages_order = followed_order t;
   rolled_checkpoint = λ i c. (λ still. (rollback_keeps t i c).0 still.0, λ low. ((rollback_keeps t i c).1 low, tt));
   rolled_message = λ k l. (λ there. line_sent t [] [] k there.0 l there.1, rolled_sent t k);

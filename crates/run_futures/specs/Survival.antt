@@ -38,7 +38,7 @@ pub record Survival (t : Table) : Type 0 where
       → c < count_of (end_of t future) i
   pub messages : (future : Future) (k : ℕ) → k < message_count t
       → ((k' : ℕ) × FollowedTo t future k k') ↔ EachLine t future (SentBefore (message_of t k))
-  pub messages_in_lem : (future : Future) (k k' : ℕ) → k < message_count t → FollowedTo t future k k'
+  pub messages_within : (future : Future) (k k' : ℕ) → k < message_count t → FollowedTo t future k k'
       → (k' < message_count (end_of t future)) × SameMessage (message_of t k) (message_of (end_of t future) k')
   pub messages_order : (future : Future) (a b a' b' : ℕ) → a < b → b < message_count t
       → FollowedTo t future a a' → FollowedTo t future b b' → a' < b'

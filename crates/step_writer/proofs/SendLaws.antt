@@ -92,9 +92,9 @@ module _ {table : List ℕ} {n m : ℕ} {counts : List ℕ} (r : Read table n m 
 pub record Writes (n m : ℕ) (counts sends receipts : List ℕ) (a z : ℕ) (before headed sent after : List ℕ) : Type 0 where
   pub room : table_length n m ≤ length before
   pub head : headed ≡ put_at before 0 (u16s (length counts ∷ m ∷ counts))
-  pub sends_at_lem : a ≡ sends_at n
+  pub sends_begin : a ≡ sends_at n
   pub sends_put : sent ≡ put_at headed a sends
-  pub receipts_at_lem : z ≡ receipts_at n m
+  pub receipts_begin : z ≡ receipts_at n m
   pub receipts_put : after ≡ put_at sent z receipts
 
 pub table_written : {n m : ℕ} {counts sends receipts : List ℕ} {a z : ℕ} {before headed sent after : List ℕ}
@@ -104,8 +104,8 @@ pub table_written : {n m : ℕ} {counts sends receipts : List ℕ} {a z : ℕ} {
 unfolding process_count
 table_written {n} {m} {counts} {before = before} {headed = headed} {sent = sent} w t n_is m_is counts_are sends_are receipts_are =
     let head = w.head ∙ ap (λ (x : ℕ). put_at before 0 (u16s (x ∷ m ∷ counts))) (ap length counts_are ∙ sym n_is) in
-    table_put t n m counts _ _ n_is m_is counts_are refl refl _ _ _ _ w.room head (w.sends_put ∙ ap₂ (put_at headed) w.sends_at_lem sends_are)
-    (w.receipts_put ∙ ap₂ (put_at sent) w.receipts_at_lem receipts_are)
+    table_put t n m counts _ _ n_is m_is counts_are refl refl _ _ _ _ w.room head (w.sends_put ∙ ap₂ (put_at headed) w.sends_begin sends_are)
+    (w.receipts_put ∙ ap₂ (put_at sent) w.receipts_begin receipts_are)
 
 -- ---- an array of m entries put at a place of a buffer, and an entry behind it
 pub record Longer (before : List ℕ) (at m : ℕ) (f : ℕ → ℕ) (a b : ℕ) (between after : List ℕ) : Type 0 where

@@ -94,8 +94,8 @@ put_received_spec =
     received_put messages (entry here).requires.0 (known here) refl _ (record {
       room = room here;
       head = (head placed).put_head.ensures;
-      sends_at_lem = placed.sends_at.ensures;
+      sends_begin = placed.sends_at.ensures;
       sends_put = put.copy_numbers.ensures;
-      receipts_at_lem = last.before.before.receipts_at.ensures;
+      receipts_begin = last.before.before.receipts_at.ensures;
       receipts_put = last.put_receipts.ensures;
     })))

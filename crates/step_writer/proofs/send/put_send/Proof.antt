@@ -82,8 +82,8 @@ put_send_spec =
     send_put messages (known here) _ _ refl (record {
       room = room here;
       head = (head placed).put_head.ensures;
-      sends_at_lem = placed.sends_at.ensures;
+      sends_begin = placed.sends_at.ensures;
       sends_put = put.put_longer.ensures;
-      receipts_at_lem = last.before.before.receipts_at.ensures;
+      receipts_begin = last.before.before.receipts_at.ensures;
       receipts_put = last.put_longer-2.ensures;
     })))
