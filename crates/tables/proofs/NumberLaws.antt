@@ -3,7 +3,7 @@
 --     number_at-take, number_at-drop             a number in a part of the bytes
 --     length_bytes, length-all, all_append, all-rows    the bytes of numbers
 --     bytes_split                              those of a number, in two parts
---     length-put_at, put_at_none, put_at_one, put_at-number, put_at_more  bytes put into a buffer
+--     length-put_at, put_at_none, put_at_one, part_put, put_at_more  bytes put into a buffer
 --     number_at-all                             the numbers that bytes were made of, read again
 --     later-number                             a number behind other bytes
 --     length-u16s, u16s-append, u16_at-u16s     of 16 bits
@@ -15,8 +15,9 @@ use native.Mathlib.Nat.{add-zero, le_of_suc-le-suc, mul-suc, mul-zero, not-suc-l
 use native.Mathlib.Omega.{arith}
 use lib.ListN.{length, get_or, take, drop, set, length-append, length-drop, length-take, take-append-drop, get_or-eq_default}
 use lib.Seq.{drop-append-add, drop-append_seam, drop-drop, get_or-take, get_or-drop, length-take-le, sets-eq, take_at}
+use borrow.Rule.Slice.PartMut.{put_mid}
 use Rattle.tables.specs.Lists.{rows}
-use Rattle.tables.specs.Numbers.{bytes_of, bytes_of_all, number_at, put_at, u16_at, u16_bytes, u16s}
+use Rattle.tables.specs.Numbers.{bytes_of, bytes_of_all, number_at, put_at, u16_at, u16s}
 
 -- ---- a number that is read
 pub number_at_beyond : (w : ℕ) (bytes : List ℕ) (at : ℕ) → length bytes ≤ at → number_at w bytes at ≡ 0
@@ -100,14 +101,10 @@ module _ (buffer : List ℕ) (at : ℕ) where
   unfolding put_at
   put_at_one v fits = sets-eq (v ∷ []) buffer at (omega arith) ∙ append_assoc (take at buffer) (v ∷ []) (drop (at + 1) buffer)
 
-  -- a number of 16 bits, as two stores
-  pub put_at-number : (n : ℕ) → at + 1 < length buffer → set (set buffer at (n % 256)) (at + 1) (n / 256 % 256) ≡ put_at buffer at (u16_bytes n)
-  unfolding put_at bytes_of
-  put_at-number n fits =
-      let place : at + 1 ≡ suc at = omega arith in
-      ap (λ (i : ℕ). set (set buffer at (n % 256)) i (n / 256 % 256)) place
-      ∙ sets-eq (n % 256 ∷ n / 256 % 256 ∷ []) buffer at (omega arith)
-      ∙ append_assoc (take at buffer) (n % 256 ∷ n / 256 % 256 ∷ []) (drop (at + 2) buffer)
+  -- written over as many entries of a part
+  pub part_put : (n : ℕ) (bytes : List ℕ) → n ≡ length bytes → put_mid at n buffer bytes ≡ put_at buffer at bytes
+  unfolding put_at
+  part_put n bytes same = rw (drop-drop, same)
 
   -- what is put after what was put
   pub put_at_more : (xs ys : List ℕ) → at + length xs + length ys ≤ length buffer
