@@ -39,12 +39,5 @@ pub fn has_high_bit(set: u32, n: usize) -> bool
 pub fn some_high_bit(sets: &[u32], n: usize) -> bool
     ensures { result ≡ some_high_bit sets.now n }
 {
-    let mut k = 0;
-    while k < sets.len() {
-        if has_high_bit(sets[k], n) {
-            return true;
-        }
-        k += 1;
-    }
-    false
+    sets.iter().any(|set| has_high_bit(*set, n))
 }
