@@ -1,8 +1,8 @@
 -- What the code's tests say of two messages, and what it knows of each channel.
 --     sent_earlier, both-wait .. both_received    the tests of a pair, one after another
 --     channel_small, one_number                   the channel of a message, as one number below 1,024
---     lasts_none, lasts_more, last_low            where the last message of each channel stands
---     first-there, neighbour_there                a message beside the one that stands there
+--     lasts_none, lasts_more                      where the last message of each channel stands
+--     first-there, neighbour_low, neighbour_there a message beside the one that stands there
 -- Assumes nothing.
 use mathlib.Core.Bool.{Bool, true, false, cond, not, ◌&&◌, ◌||◌}
 use mathlib.Core.List.{List}
@@ -85,22 +85,23 @@ module _ {channel : ℕ → ℕ} {k : ℕ} {last : List ℕ} (w : Lasts channel 
           rw (ne_eqb (channel k) c' (λ e. other (sym (is-channel ∙ e)))) (get_or-set_other last c c' (suc k) 0 other ∙ w.places c' inside)
 
   -- what was read of the channel of message k
-  module _ {v : ℕ} (read : v ≡ get_or last c 0) where
-    last_is : v ≡ last_in channel k (channel k)
-    last_is = read ∙ w.places c small ∙ ap (last_in channel k) is-channel
+  last_is : get_or last c 0 ≡ last_in channel k (channel k)
+  last_is = w.places c small ∙ ap (last_in channel k) is-channel
 
-    pub last_low : v ≤ k
-    last_low = omega (arith, last_is, last_within channel (channel k) k)
+  -- message k is the first of its channel
+  pub first-there : (message : ℕ → Message) → (1 ≤ get_or last c 0 → ⊥) → false ≡ behind_neighbour channel message k
+  unfolding behind_neighbour behind
+  first-there message none =
+      let nothing : 0 ≡ get_or last c 0 = omega (arith, none) in
+      ap (behind message k) (nothing ∙ last_is)
 
-    module _ (message : ℕ → Message) where
-      -- message k is the first of its channel
-      pub first-there : v ≡ 0 → false ≡ behind_neighbour channel message k
-      unfolding behind_neighbour behind
-      first-there z = ap (behind message k) (sym z ∙ last_is)
+  -- message q is the one before it
+  module _ {q : ℕ} (stands : (1 ≤ get_or last c 0) × (q ≡ get_or last c 0 - 1)) where
+    pub neighbour_low : q < k
+    neighbour_low = omega (arith, stands, last_is, last_within channel (channel k) k)
 
-      -- there is one before it
-      pub neighbour_there : (v ≡ 0 → ⊥) → out_of_turn (message (v - 1)) (message k) ≡ behind_neighbour channel message k
-      unfolding behind_neighbour behind
-      neighbour_there some =
-          let stands : suc (v - 1) ≡ v = omega (arith, some) in
-          ap (behind message k) (stands ∙ last_is)
+    pub neighbour_there : (message : ℕ → Message) → out_of_turn (message q) (message k) ≡ behind_neighbour channel message k
+    unfolding behind_neighbour behind
+    neighbour_there message =
+        let next : suc q ≡ get_or last c 0 = omega (arith, stands) in
+        ap (behind message k) (next ∙ last_is)

@@ -47,7 +47,7 @@ fn out_of_turn(sends: &[u8], receipts: &[u8], q: usize, k: usize) -> bool
 
 // Whether message k is out of turn behind the one before it in its channel. What is known of a channel is
 // where its last message stands, one more than the position, or 0 where it has none yet; from now on
-// that is message k.
+// that is message k. `Option<u16>` takes four bytes: 2 KB more of stack and of zeroing for each table.
 pub fn behind_neighbour(last: &mut [u16], sends: &[u8], receipts: &[u8], k: usize) -> bool
     requires k_lt_most_messages { k < most_messages }
     requires message_there { MessageThere most_processes k sends.now receipts.now }
@@ -57,10 +57,10 @@ pub fn behind_neighbour(last: &mut [u16], sends: &[u8], receipts: &[u8], k: usiz
     ensures lasts_2 { Lasts (channel_at sends.now receipts.now) (k + 1) last.new }
 {
     let channel = channel_at(sends, receipts, k);
-    let before = last[channel] as usize;
+    let before = last[channel].checked_sub(1);
     last[channel] = (k + 1) as u16;
-    if before == 0 {
-        return false;
+    match before {
+        Some(q) => out_of_turn(sends, receipts, q as usize, k),
+        None => false,
     }
-    out_of_turn(sends, receipts, before - 1, k)
 }

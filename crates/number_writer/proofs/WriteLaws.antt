@@ -4,20 +4,18 @@
 --     Written                         pieces of one width, put from a place on by a loop: the invariant
 --     written_none, written_more, written_room, written_all    how it begins, goes on and ends
 --     numbers_more, numbers_all       the pieces are numbers of one width
---     stored_more, stored_all         each as one entry
---     halves_put                      a number of 32 bits, put as two of 16
 -- Assumes nothing.
 use mathlib.Core.List.{List, [], ◌∷◌, ◌++◌, append-nil}
 use mathlib.Core.Path.{◌≡◌, refl, sym, ap, ap₂, ◌∙◌, subst}
-use Prim.Native.Nat.{ℕ, zero, suc, ◌+◌, ◌*◌, ◌/◌, ◌%◌, ◌≤◌, ◌<◌, zero-le}
+use Prim.Native.Nat.{ℕ, zero, suc, ◌+◌, ◌*◌, ◌≤◌, ◌<◌, zero-le}
 use native.Mathlib.Nat.{le_antisymm, mul-le-mul_left, mul-suc, zero-add}
 use native.Mathlib.Numerals.{add-one}
 use native.Mathlib.Omega.{arith}
-use lib.ListN.{length, set, length-append}
+use lib.ListN.{length, length-append}
 use Rattle.tables.proofs.ListLaws.{length-tabulate, rows-length, rows_more, tabulate_more}
-use Rattle.tables.proofs.NumberLaws.{all_append, bytes_split, length_bytes, length-put_at, length-u16s, put_at_more, put_at_none, put_at_one}
+use Rattle.tables.proofs.NumberLaws.{all_append, length_bytes, length-put_at, length-u16s, put_at_more, put_at_none}
 use Rattle.tables.specs.Lists.{rows, tabulate}
-use Rattle.tables.specs.Numbers.{bytes_of, bytes_of_all, put_at, u16_bytes, u16s, u32_bytes}
+use Rattle.tables.specs.Numbers.{bytes_of, bytes_of_all, put_at, u16s}
 
 -- Bytes stand at the front of a buffer, up to a place, and the rest of it is as it was.
 pub record Front (before after bytes : List ℕ) (at : ℕ) : Type 0 where
@@ -91,29 +89,3 @@ module _ (w : ℕ) (f : ℕ → ℕ) where
     pub numbers_all : n ≤ k → after ≡ put_at before at (bytes_of_all w (tabulate n f))
     numbers_all l =
         written_all w (λ k. bytes_of w (f k)) n at before (λ k. length_bytes w (f k)) after k h l ∙ ap (put_at before at) (numbers_put n)
-
-module _ (f : ℕ → ℕ) where
-  numbers_stored : (n : ℕ) → rows (λ k. f k ∷ []) n ≡ tabulate n f
-  unfolding rows tabulate
-  numbers_stored zero = refl
-  numbers_stored (suc n) =
-      ap (λ (l : List ℕ). l ++ (f n ∷ [])) (numbers_stored n) ∙ sym (tabulate_more n f) ∙ ap (λ (j : ℕ). tabulate j f) (add-one n)
-
-  -- as they are
-  module _ {n at : ℕ} {before after : List ℕ} {k : ℕ} (h : Written 1 (λ k. f k ∷ []) n at before after k) where
-    pub stored_more : k < n → Written 1 (λ k. f k ∷ []) n at before (set after (at + k) (f k)) (k + 1)
-    stored_more l =
-        written_more 1 (λ k. f k ∷ []) n at before (λ k. refl) after k h l (at + k) _ (omega arith)
-        (put_at_one after (at + k) (f k) (omega (arith, h.room, h.same_length)))
-
-    pub stored_all : n ≤ k → after ≡ put_at before at (tabulate n f)
-    stored_all l = written_all 1 (λ k. f k ∷ []) n at before (λ k. refl) after k h l ∙ ap (put_at before at) (numbers_stored n)
-
--- ---- a number of 32 bits, as two of 16
-pub halves_put : (before : List ℕ) (at n : ℕ) {after later : List ℕ} → at + 4 ≤ length before → after ≡ put_at before at (u16_bytes (n % 65536))
-    → later ≡ put_at after (at + 2) (u16_bytes (n / 65536)) → later ≡ put_at before at (u32_bytes n)
-halves_put before at n fits low high =
-    let two = length_bytes 2 (n % 65536) in
-    high ∙ ap₂ (λ (b : List ℕ) (i : ℕ). put_at b i (u16_bytes (n / 65536))) low (omega (arith, two))
-    ∙ put_at_more before at (u16_bytes (n % 65536)) (u16_bytes (n / 65536)) (omega (arith, two, length_bytes 2 (n / 65536)))
-    ∙ ap (put_at before at) (sym (bytes_split 2 n))

@@ -5,15 +5,14 @@ ghost use Rattle.std.specs.Prelude.{◌≡◌, ◌+◌, ◌*◌, ◌≤◌, leng
 ghost use Rattle.tables.specs.Lists.{tabulate};
 ghost use Rattle.tables.specs.Numbers.{put_at, u16_at, u16s, u32_bytes};
 
-use tables::numbers::{put_u16, u16_at};
+use tables::numbers::put_u16;
 
 // Puts a number of 32 bits at a place that has room for its four bytes.
 pub fn put_u32(buffer: &mut [u8], at: usize, value: u32)
     requires { at + 4 ≤ length buffer.old }
     ensures { buffer.new ≡ put_at buffer.old at (u32_bytes value) }
 {
-    put_u16(buffer, at, (value % 65536) as u16);
-    put_u16(buffer, at + 2, (value / 65536) as u16);
+    buffer[at..at + 4].copy_from_slice(&value.to_le_bytes());
 }
 
 // Puts the numbers of a slice into bytes, from a place on that has room for them.
@@ -21,10 +20,8 @@ pub fn put_numbers(buffer: &mut [u8], at: usize, numbers: &[u16])
     requires { at + 2 * length numbers.now ≤ length buffer.old }
     ensures { buffer.new ≡ put_at buffer.old at (u16s numbers.now) }
 {
-    let mut k = 0;
-    while k < numbers.len() {
-        put_u16(buffer, at + 2 * k, numbers[k]);
-        k += 1;
+    for (k, number) in numbers.iter().enumerate() {
+        put_u16(buffer, at + 2 * k, *number);
     }
 }
 
@@ -35,11 +32,7 @@ pub fn copy_numbers(buffer: &mut [u8], at: usize, part: &[u8], n: usize)
     ensures { buffer.new
         ≡ put_at buffer.old at (u16s (tabulate n (λ k. u16_at part.now (2 * k)))) }
 {
-    let mut k = 0;
-    while k < n {
-        put_u16(buffer, at + 2 * k, u16_at(part, 2 * k));
-        k += 1;
-    }
+    buffer[at..at + 2 * n].copy_from_slice(&part[..2 * n]);
 }
 
 // Copies the numbers of a slice to a place of another that has room for them.
@@ -47,9 +40,5 @@ pub fn store_numbers(buffer: &mut [u16], at: usize, numbers: &[u16])
     requires { at + length numbers.now ≤ length buffer.old }
     ensures { buffer.new ≡ put_at buffer.old at numbers.now }
 {
-    let mut k = 0;
-    while k < numbers.len() {
-        buffer[at + k] = numbers[k];
-        k += 1;
-    }
+    buffer[at..at + numbers.len()].copy_from_slice(numbers);
 }

@@ -26,6 +26,7 @@ pub fn is_member(set: u32, p: usize) -> bool
 }
 
 // Whether the set has a process numbered n or above. It has one just where the number is not below the value of bit n.
+#[tactic(auto, using(crate::proofs::SetLaws::no_high_bit_from_32))]
 pub fn has_high_bit(set: u32, n: usize) -> bool
     ensures { result ≡ high_bit set n }
 {
@@ -39,12 +40,5 @@ pub fn has_high_bit(set: u32, n: usize) -> bool
 pub fn some_high_bit(sets: &[u32], n: usize) -> bool
     ensures { result ≡ some_high_bit sets.now n }
 {
-    let mut k = 0;
-    while k < sets.len() {
-        if has_high_bit(sets[k], n) {
-            return true;
-        }
-        k += 1;
-    }
-    false
+    sets.iter().any(|set| has_high_bit(*set, n))
 }

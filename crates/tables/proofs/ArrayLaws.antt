@@ -2,17 +2,18 @@
 --     array_length, array_at          its length, and its entries
 --     array_front                     its first numbers are the list
 --     array_set                       one entry set
+--     array_copied                    the list copied over the front of zeros
 --     filled_none, filled_more, filled_all, filled_list    a list that a loop fills from the front
 --     Filling                         an array of zeros that a loop fills for n processes: the invariant
 --     filling_none, filling_more, filling_all, filling_array    how it begins, goes on and ends
 -- Assumes nothing.
-use mathlib.Core.List.{List}
-use mathlib.Core.Path.{◌≡◌, refl, sym, ap₂, ◌∙◌, subst, subst⁻¹}
-use Prim.Native.Nat.{ℕ, ◌+◌, ◌≤◌, ◌<◌, zero-le}
+use mathlib.Core.List.{List, [], ◌∷◌, ◌++◌}
+use mathlib.Core.Path.{◌≡◌, refl, sym, ap, ap₂, ◌∙◌, subst, subst⁻¹}
+use Prim.Native.Nat.{ℕ, zero, suc, ◌+◌, ◌≤◌, ◌<◌, zero-le}
 use native.Mathlib.Decide.{dec_lt, ℕ_discrete}
-use native.Mathlib.Nat.{le_antisymm, not-suc-le-zero}
+use native.Mathlib.Nat.{le_antisymm, le_of_suc-le-suc, not-suc-le-zero}
 use native.Mathlib.Omega.{arith}
-use lib.ListN.{length, get_or, set, take, replicate, length-set, get_or-replicate, get_or-eq_default}
+use lib.ListN.{length, get_or, set, take, drop, replicate, length-set, get_or-replicate, get_or-eq_default}
 use lib.Seq.{ext_get_or, get_or-set_same, get_or-set_other, get_or-take, length-take-le}
 use Rattle.tables.proofs.ListLaws.{get_or_tabulate, length-tabulate, set-tabulate}
 use Rattle.tables.specs.Arrays.{Filled, array_of}
@@ -42,6 +43,18 @@ pub array_set : (l : List ℕ) (i v : ℕ) → i < length l → length l ≤ 32 
 unfolding array_of
 array_set l i v b small =
     set-tabulate 32 _ _ i v (omega arith) (sym (get_or-set_same l i v 0 b)) (λ p other. sym (get_or-set_other l i p v 0 other))
+
+-- a list copied over the front of zeros
+copied_over : (l : List ℕ) (n : ℕ) → length l ≤ n → l ++ drop (length l) (replicate n 0) ≡ tabulate n (λ p. get_or l p 0)
+unfolding tabulate
+copied_over [] zero small = refl
+copied_over [] (suc n) small = ap (λ (r : List ℕ). 0 ∷ r) (copied_over [] n zero-le)
+copied_over (x ∷ l) zero small = absurd (not-suc-le-zero small)
+copied_over (x ∷ l) (suc n) small = ap (λ (r : List ℕ). x ∷ r) (copied_over l n (le_of_suc-le-suc small))
+
+pub array_copied : (l : List ℕ) → length l ≤ 32 → l ++ drop (length l) (replicate 32 0) ≡ array_of l
+unfolding array_of
+array_copied l small = copied_over l 32 small
 
 -- ---- a list that a loop fills from the front
 pub filled_none : {f : ℕ → ℕ} {before : List ℕ} → Filled f 0 before before

@@ -2,6 +2,7 @@
 --     message_path, table-path             messages and tables are equal by their parts
 --     decode-encode      a table whose numbers fit 16 bits (Fits16), written and read again
 --     encode-decode      bytes (AreBytes) whose length is right, read and written again
+--     front_read, all_read                 numbers of bytes, one after another, give the bytes again
 --     entries_append, entries_tabulate, even_number, odd_number     the numbers of one array
 --     sends_numbers, receipts_numbers    the numbers of the parts are those of the decoded table
 -- Assumes nothing.
@@ -10,8 +11,8 @@ use mathlib.Core.Path.{◌≡◌, refl, sym, ap, ap₂, ◌∙◌, subst, subst�
 use Prim.Native.Nat.{ℕ, zero, suc, ◌+◌, ◌*◌, ◌/◌, ◌%◌, ◌≤◌, ◌<◌}
 use native.Mathlib.Nat.{add_comm, le_of_suc-le-suc, mul-suc, mul-zero, not-suc-le-zero}
 use native.Mathlib.Omega.{arith}
-use lib.ListN.{length, get_or, take, drop, length-append, length-drop, take-append-drop, get_or-append}
-use lib.Seq.{ext_get_or, get_or-append-add, get_or-drop}
+use lib.ListN.{length, get_or, take, drop, length-append, length-drop, get_or-append}
+use lib.Seq.{ext_get_or, get_or-append-add, get_or-drop, take-add, take-length}
 use Rattle.tables.proofs.FormatLaws.{ReadSizes, count_place, count_some, decode-messages, decode-processes, length_entries}
 use Rattle.tables.proofs.FormatLaws.{receipt_place, received-there, receiver_there, send_place, sender_there, sent_there}
 use Rattle.tables.proofs.ListLaws.{tabulate-append, tabulate_ext}
@@ -174,19 +175,23 @@ bytes_read (suc w) (x ∷ rest) l b =
     let high : (x + 256 * number_at w rest 0) / 256 ≡ number_at w rest 0 = omega (arith, b 0) in
     rw (later, low, high) (ap (λ (l : List ℕ). x ∷ l) (bytes_read w rest (le_of_suc-le-suc l) (λ i. b (suc i))))
 
--- the numbers of the bytes, one after another, give the bytes again
-pub all_read : (w n : ℕ) (bytes : List ℕ) → length bytes ≡ w * n → AreBytes bytes
-    → bytes_of_all w (tabulate n (λ j. number_at w bytes (w * j))) ≡ bytes
+-- the numbers at the front of the bytes, one after another, give these bytes again; all of them give all bytes
+pub front_read : (w n : ℕ) (bytes : List ℕ) → w * n ≤ length bytes → AreBytes bytes
+    → bytes_of_all w (tabulate n (λ j. number_at w bytes (w * j))) ≡ take (w * n) bytes
 unfolding bytes_of_all tabulate AreBytes
-all_read w zero [] e b = refl
-all_read w zero (x ∷ rest) e b = absurd (omega (arith, e, mul-zero w))
-all_read w (suc n) bytes e b =
-    let room : w + w * n ≡ length bytes = omega (arith, e, mul-suc w n) in
+front_read w zero bytes l b = rw mul-zero
+front_read w (suc n) bytes l b =
+    let room : w + w * n ≤ length bytes = omega (arith, l, mul-suc w n) in
     let first = ap (λ (at : ℕ). bytes_of w (number_at w bytes at)) (mul-zero w) ∙ bytes_read w bytes (omega arith) b in
     let same : tabulate n (λ j. number_at w bytes (w * suc j)) ≡ tabulate n (λ j. number_at w (drop w bytes) (w * j)) =
     tabulate_ext n _ _ (λ j l. ap (number_at w bytes) (mul-suc w j ∙ add_comm (w * j) w) ∙ sym (number_at-drop w w bytes (w * j))) in
-    let rest = all_read w n (drop w bytes) (omega (arith, length-drop w bytes)) (λ i. rw (get_or-drop w bytes i 0) (b (w + i))) in
-    ap₂ (λ (x y : List ℕ). x ++ y) first (ap (bytes_of_all w) same ∙ rest) ∙ take-append-drop w bytes
+    let rest = front_read w n (drop w bytes) (omega (arith, length-drop w bytes)) (λ i. rw (get_or-drop w bytes i 0) (b (w + i))) in
+    ap₂ (λ (x y : List ℕ). x ++ y) first (ap (bytes_of_all w) same ∙ rest)
+    ∙ sym (ap (λ (i : ℕ). take i bytes) (mul-suc w n ∙ add_comm (w * n) w) ∙ take-add w (w * n) bytes)
+
+pub all_read : (w n : ℕ) (bytes : List ℕ) → length bytes ≡ w * n → AreBytes bytes
+    → bytes_of_all w (tabulate n (λ j. number_at w bytes (w * j))) ≡ bytes
+all_read w n bytes e b = front_read w n bytes (omega (arith, e)) b ∙ ap (λ (i : ℕ). take i bytes) (sym e) ∙ take-length bytes
 
 -- where the numbers of each part stand
 count_byte : (p : ℕ) → counts_at + 2 * p ≡ 2 * suc (suc p)

@@ -10,6 +10,7 @@
 --     any_below_more, any_below_found, any_below_none, none_below    `any_below`, as a loop finds it
 --     found_below                              an index that passes, where some index does
 --     any-tabulate, any_below_ext, any_below_or  one test in the other's terms
+--     any_answer                               what an iterator's `any` finds in a list
 --     rows_more, rows_ext                      one list more; equal lists
 --     rows_grow, rows_room                     fewer lists are no longer; room for one more
 --     rows-sum, rows_most                      lists of so many entries at most
@@ -29,6 +30,7 @@ use native.Mathlib.Numerals.{add-one}
 use native.Mathlib.Omega.{arith}
 use lib.ListN.{length, get_or, set, drop, length-append, get_or-append}
 use lib.Seq.{drop-append-le, drop-append_seam, get_or-append-add}
+use Rattle.std.specs.List.{IsAnyAnswer}
 use Rattle.tables.specs.Lists.{any, any_below, rows, select, sum, tabulate}
 
 pub and_left : (a b : Bool) → (a && b) ≡ true → a ≡ true
@@ -188,6 +190,11 @@ module _ {A : Type 0} (test : A → Bool) (n : ℕ) (f : ℕ → A) where
 
   pub any-tabulate : any test (tabulate n f) ≡ any_below n (λ k. test (f k))
   any-tabulate = by_cases (any_below n (λ k. test (f k))) refl
+
+-- what an iterator's `any` finds in a list
+pub any_answer : (test : ℕ → Bool) (l : List ℕ) (r : Bool) → IsAnyAnswer (λ x b. test x ≡ b) l r → r ≡ any_below (length l) (λ k. test (get_or l k 0))
+any_answer test l true (k, b, h) = sym (any_below_found _ (length l) k b (h 0))
+any_answer test l false none = sym (any_below_none _ (length l) (λ k b. none k 0 zero-le b))
 
 -- ---- sums
 pub sum_more : (n : ℕ) (f : ℕ → ℕ) → sum (tabulate (suc n) f) ≡ sum (tabulate n f) + f n

@@ -2,8 +2,8 @@
 --     number_at_beyond, u16_at_last              a number at the end of the bytes
 --     number_at-take, number_at-drop             a number in a part of the bytes
 --     length_bytes, length-all, all_append, all-rows    the bytes of numbers
---     bytes_split                              those of a number, in two parts
---     length-put_at, put_at_none, put_at_one, put_at-number, put_at_more  bytes put into a buffer
+--     four_bytes                                 those of 32 bits, as std has them
+--     length-put_at, put_at_none, put_at_one, part_put, put_at_more  bytes put into a buffer
 --     number_at-all                             the numbers that bytes were made of, read again
 --     later-number                             a number behind other bytes
 --     length-u16s, u16s-append, u16_at-u16s     of 16 bits
@@ -15,8 +15,10 @@ use native.Mathlib.Nat.{add-zero, le_of_suc-le-suc, mul-suc, mul-zero, not-suc-l
 use native.Mathlib.Omega.{arith}
 use lib.ListN.{length, get_or, take, drop, set, length-append, length-drop, length-take, take-append-drop, get_or-eq_default}
 use lib.Seq.{drop-append-add, drop-append_seam, drop-drop, get_or-take, get_or-drop, length-take-le, sets-eq, take_at}
+use borrow.Rule.Slice.PartMut.{put_mid}
+use Rattle.std.specs.Int.{to_le_bytes, w32}
 use Rattle.tables.specs.Lists.{rows}
-use Rattle.tables.specs.Numbers.{bytes_of, bytes_of_all, number_at, put_at, u16_at, u16_bytes, u16s}
+use Rattle.tables.specs.Numbers.{bytes_of, bytes_of_all, number_at, put_at, u16_at, u16s, u32_bytes}
 
 -- ---- a number that is read
 pub number_at_beyond : (w : ℕ) (bytes : List ℕ) (at : ℕ) → length bytes ≤ at → number_at w bytes at ≡ 0
@@ -74,16 +76,13 @@ all-rows w f (suc n) = all_append w (rows f n) (f n) ∙ ap (λ (l : List ℕ). 
 pub u16s-append : (xs ys : List ℕ) → u16s (xs ++ ys) ≡ u16s xs ++ u16s ys
 u16s-append = all_append 2
 
--- the low 16 bits, and then the rest
-pub bytes_split : (w n : ℕ) → bytes_of (suc (suc w)) n ≡ bytes_of 2 (n % 65536) ++ bytes_of w (n / 65536)
+-- the four bytes of a number of 32 bits, as std has them
+pub four_bytes : (n : ℕ) → to_le_bytes w32 n ≡ u32_bytes n
 unfolding bytes_of
-bytes_split w n =
-    let rest : n / 256 / 256 ≡ n / 65536 = omega arith in
-    let whole : n % 65536 ≡ n % 256 + 256 * (n / 256 % 256) = omega (arith, rest) in
-    let low : n % 65536 % 256 ≡ n % 256 = omega (arith, whole) in
-    let high : n % 65536 / 256 ≡ n / 256 % 256 = omega (arith, whole) in
-    let same : n / 256 % 256 % 256 ≡ n / 256 % 256 = omega arith in
-    rw (low, high, same, rest)
+four_bytes n =
+    let third : n / 65536 ≡ n / 256 / 256 = omega arith in
+    let fourth : n / 16777216 ≡ n / 256 / 256 / 256 = omega arith in
+    rw (third, fourth)
 
 -- ---- bytes put into a buffer
 module _ (buffer : List ℕ) (at : ℕ) where
@@ -100,14 +99,10 @@ module _ (buffer : List ℕ) (at : ℕ) where
   unfolding put_at
   put_at_one v fits = sets-eq (v ∷ []) buffer at (omega arith) ∙ append_assoc (take at buffer) (v ∷ []) (drop (at + 1) buffer)
 
-  -- a number of 16 bits, as two stores
-  pub put_at-number : (n : ℕ) → at + 1 < length buffer → set (set buffer at (n % 256)) (at + 1) (n / 256 % 256) ≡ put_at buffer at (u16_bytes n)
-  unfolding put_at bytes_of
-  put_at-number n fits =
-      let place : at + 1 ≡ suc at = omega arith in
-      ap (λ (i : ℕ). set (set buffer at (n % 256)) i (n / 256 % 256)) place
-      ∙ sets-eq (n % 256 ∷ n / 256 % 256 ∷ []) buffer at (omega arith)
-      ∙ append_assoc (take at buffer) (n % 256 ∷ n / 256 % 256 ∷ []) (drop (at + 2) buffer)
+  -- copied over a part of as many entries
+  pub part_put : {n : ℕ} {copy bytes : List ℕ} → copy ≡ bytes → n ≡ length bytes → put_mid at n buffer copy ≡ put_at buffer at bytes
+  unfolding put_at
+  part_put is same = rw (is, drop-drop, same)
 
   -- what is put after what was put
   pub put_at_more : (xs ys : List ℕ) → at + length xs + length ys ≤ length buffer

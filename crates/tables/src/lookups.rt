@@ -8,7 +8,7 @@ use crate::format::{COUNTS_AT, receipts_at, sends_at};
 use crate::numbers::u16_or_zero;
 
 // The numbers of a message.
-#[derive(Drop)]
+#[derive(Clone, Copy, PartialEq, Eq, Debug)]
 pub enum Field {
     Sender,
     Sent,

@@ -6,7 +6,7 @@ ghost use Rattle.tables.specs.Numbers.{put_at, u16_at, u16_bytes};
 pub fn u16_of(low: u8, high: u8) -> u16
     ensures { result ≡ low + 256 * high }
 {
-    (low as u16) + 256 * (high as u16)
+    u16::from_le_bytes([low, high])
 }
 
 // The number at byte `at` of a slice that holds both its bytes.
@@ -36,6 +36,5 @@ pub fn put_u16(buffer: &mut [u8], at: usize, value: u16)
     requires { at + 1 < length buffer.old }
     ensures { buffer.new ≡ put_at buffer.old at (u16_bytes value) }
 {
-    buffer[at] = (value % 256) as u8;
-    buffer[at + 1] = (value / 256 % 256) as u8;
+    buffer[at..at + 2].copy_from_slice(&value.to_le_bytes());
 }

@@ -41,11 +41,9 @@ pub fn count_array(table: &[u8]) -> [u16; 32]
 {
     let n = process_count(table);
     let part = counts(table);
-    let mut counts = [0u16; 32];
-    let mut p = 0;
-    while p < n {
+    let mut counts = [0; 32];
+    for p in 0..n {
         counts[p] = u16_at(part, 2 * p);
-        p += 1;
     }
     counts
 }
@@ -55,12 +53,8 @@ pub fn number_array(numbers: &[u16]) -> [u16; 32]
     requires { length numbers.now ≤ most_processes }
     ensures { result ≡ array_of numbers.now }
 {
-    let mut array = [0u16; 32];
-    let mut p = 0;
-    while p < numbers.len() {
-        array[p] = numbers[p];
-        p += 1;
-    }
+    let mut array = [0; 32];
+    array[..numbers.len()].copy_from_slice(numbers);
     array
 }
 
