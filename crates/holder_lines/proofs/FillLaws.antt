@@ -44,22 +44,20 @@ pub record ToLine (bytes : List ℕ) (n : ℕ) (propagates : List Bool) : Type 0
   pub few : n ≤ most_processes
   pub marks : propagates ≡ tabulate 32 (propagates_from (decode bytes))
 
--- The first k lines stand at the front, and the next one follows at its place.
-pub record Lining (bytes before : List ℕ) (n : ℕ) (propagates : List Bool) (after : List ℕ) (at k : ℕ) : Type 0 where
+-- The first k lines stand at the front.
+pub record Lining (bytes before : List ℕ) (n : ℕ) (propagates : List Bool) (after : List ℕ) (k : ℕ) : Type 0 where
   pub given : ToLine bytes n propagates
-  pub behind : at ≡ n * k
   pub written : Written n (holder_line (decode bytes)) n 0 before after k
 
 module _ {bytes before : List ℕ} {n : ℕ} {propagates : List Bool} where
   pub lining_none : table_refusal bytes ≡ 0 → process_count (decode bytes) * process_count (decode bytes) ≤ length before
-      → n ≡ process_count (decode bytes) → propagates ≡ tabulate 32 (propagates_from (decode bytes)) → Lining bytes before n propagates before 0 0
+      → n ≡ process_count (decode bytes) → propagates ≡ tabulate 32 (propagates_from (decode bytes)) → Lining bytes before n propagates before 0
   lining_none accepted room n_is marks = record {
     given = record { accepted = accepted; n_is = n_is; few = omega (arith, n_is, processes_few bytes accepted); marks = marks };
-    behind = omega arith;
     written = written_none n _ n 0 before (rw n_is (omega arith));
   }
 
-  module _ {after : List ℕ} {at k : ℕ} (h : Lining bytes before n propagates after at k) where
+  module _ {after : List ℕ} {k : ℕ} (h : Lining bytes before n propagates after k) where
     each : (j : ℕ) → length (holder_line (decode bytes) j) ≡ n
     each j = holder_length (decode bytes) j ∙ sym h.given.n_is
 
@@ -71,19 +69,18 @@ module _ {bytes before : List ℕ} {n : ℕ} {propagates : List Bool} where
       pub lining_mark : get_or propagates k false ≡ propagates_from (decode bytes) k
       lining_mark = ap (λ (marks : List Bool). get_or marks k false) h.given.marks ∙ get_or_tabulate 32 _ k _ (omega (arith, h.given.few))
 
-      pub lining_room : at + n ≤ length after
-      lining_room = omega (arith, h.behind, written_room n _ n 0 before each after k h.written l)
+      pub lining_room : n * k + n ≤ length after
+      lining_room = omega (arith, written_room n _ n 0 before each after k h.written l)
 
       -- the line of holder k, of which the first n numbers are stored
       module _ {line : List ℕ} (found : line ≡ array_of (line_of (decode bytes) (member (2 ^ k)))) where
         pub lining_fits : n ≤ length line
         lining_fits = omega (arith, h.given.few, ap length found, array_length (line_of (decode bytes) (member (2 ^ k))))
 
-        pub lining_more : {later : List ℕ} → later ≡ put_at after at (take n line) → Lining bytes before n propagates later (at + n) (k + 1)
+        pub lining_more : {later : List ℕ} → later ≡ put_at after (n * k) (take n line) → Lining bytes before n propagates later (k + 1)
         lining_more put = record {
           given = h.given;
-          behind = omega (arith, h.behind, mul-suc n k, ap (λ (j : ℕ). n * j) (add-one k));
-          written = written_more n _ n 0 before each after k h.written l at _ (omega (arith, h.behind)) (put ∙ ap (put_at after at) front);
+          written = written_more n _ n 0 before each after k h.written l (n * k) _ (omega arith) (put ∙ ap (put_at after (n * k)) front);
         }
           where
             front : take n line ≡ holder_line (decode bytes) k
