@@ -9,8 +9,8 @@
 use mathlib.Core.Bool.{Bool, true, false, ◌&&◌, and-false, false≢true}
 use mathlib.Core.List.{List}
 use mathlib.Core.Path.{◌≡◌, refl, sym, ap, ◌∙◌}
-use Prim.Native.Nat.{ℕ, ◌+◌, ◌-◌, ◌*◌, ◌^◌, ◌≤◌, ◌<◌, zero-le}
-use native.Mathlib.Nat.{le_antisymm, le_refl}
+use Prim.Native.Nat.{ℕ, ◌+◌, ◌-◌, ◌*◌, ◌^◌, ◌≤◌, ◌<◌}
+use native.Mathlib.Nat.{le_refl}
 use native.Mathlib.Numerals.{add-one}
 use native.Mathlib.Omega.{arith}
 use borrow.Author.Tests.{eqb-true, eq-eqb, ne_eqb, le-leb, lt-leb, lt-ltb}
@@ -28,7 +28,7 @@ use Rattle.tables.proofs.FormatLaws.{message_in}
 use Rattle.tables.proofs.ListLaws.{any_below_ext, any_below_found, set-tabulate, tabulate_ext}
 use Rattle.tables.proofs.ReadLaws.{ReadMessages, count_is, counts_known, message_good, message_is, messages_known}
 use Rattle.tables.specs.Checks.{WellFormed, table_refusal}
-use Rattle.tables.specs.Format.{checkpoint_at, count_at, counts_part, decode, message_at, process_at, receipts_part, sends_part}
+use Rattle.tables.specs.Format.{count_at, counts_part, decode, message_at, receipts_part, sends_part}
 use Rattle.tables.specs.Lists.{any_below, tabulate}
 use Rattle.tables.specs.Numbers.{u16_at}
 use Rattle.tables.specs.Table.{Message, Table, count_of, message_count, message_of, most_processes}
