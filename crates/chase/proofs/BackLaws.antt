@@ -1,7 +1,8 @@
 -- Processes that go back over their messages, as the loops of `chase` go.
 --     Chases                      the invariant of the chase, relative to its start
 --     chase_begins                how it begins
---     Sent                        where a message of a process stands
+--     Before                      the message at which a process stands: one of its own, in front of a bound
+--     left, left_falls            how many messages it has left; fewer where it goes to the next one
 --     GoesBack                    the invariant of one process that goes back, relative to the line then
 --     back_begins, back_ends      how it begins and ends
 --     back_skips                  it passes over a message
@@ -12,21 +13,24 @@
 use mathlib.Core.Bool.{Bool, true, false, true≢false}
 use mathlib.Core.List.{List, [], ◌∷◌}
 use mathlib.Core.Path.{◌≡◌, refl, ◌∙◌}
-use Prim.Native.Nat.{ℕ, zero, suc, ◌+◌, ◌-◌, ◌*◌, ◌≤◌, ◌<◌}
-use native.Mathlib.Nat.{le_refl, le_trans}
+use Prim.Native.Nat.{ℕ, zero, suc, ◌+◌, ◌-◌, ◌≤◌, ◌<◌}
+use native.Mathlib.Nat.{le_refl, le_trans, lt_of_lt_of_le}
 use native.Mathlib.Omega.{arith}
 use lib.ListN.{length, get_or, set, length-set}
+use Rattle.std.proofs.Common.{Option, Some, None}
+use Rattle.std.proofs.lemmas.Option.{IfSome_then}
+use Rattle.std.specs.Prelude.{IfSome, MatchOption}
 use Rattle.lowering.proofs.EveryLaws.{every_set, every_tabulate}
 use Rattle.sweep.specs.Cursors.{Placed}
 use Rattle.consistency.proofs.LoweringLaws.{put_back_falls}
 use Rattle.consistency.specs.Lines.{Orphan, as_line}
-use Rattle.lowering.proofs.DownLaws.{MessageRead, down_more, down_none, down_put_back, message_is, receiver_small}
-use Rattle.lowering.specs.Lowered.{BroughtDown, messages_of}
+use Rattle.lowering.proofs.DownLaws.{MessageRead, down_more, down_none, down_put_back, message_is}
+use Rattle.lowering.specs.Lowered.{BroughtDown, all_messages}
 use Rattle.tables.proofs.ListLaws.{length-tabulate}
+use Rattle.tables.specs.Format.{message_at}
 use Rattle.tables.specs.Lists.{sum, tabulate}
-use Rattle.tables.specs.Numbers.{u16_at}
-use Rattle.tables.specs.Parts.{Messages}
 use Rattle.tables.specs.Table.{Message, most_processes}
+use Rattle.tables.specs.declared.messages.MessageParts.{MessageParts}
 
 -- ---- the stack
 -- How many processes are not on the stack.
@@ -58,21 +62,18 @@ none_idle = refl
 -- ---- the chase
 -- The line was brought down from the start. Cursors are positions, and what stands on the stack are processes. The stack has room for all
 -- that are not on it.
-pub record Chases (m : ℕ) (sends receipts start cursors line stack : List ℕ) (stacked : List Bool) (height : ℕ) : Type 0 where
-  pub given : Messages most_processes m sends receipts
-  pub down : BroughtDown (messages_of m sends receipts) start line
-  pub placed : Placed m cursors
+pub record Chases (parts : MessageParts) (start cursors line stack : List ℕ) (stacked : List Bool) (height : ℕ) : Type 0 where
+  pub down : BroughtDown (all_messages parts) start line
+  pub placed : Placed parts.count cursors
   pub known : (h : ℕ) → get_or stack h 0 < most_processes
   pub flags : length stacked ≡ most_processes
   pub room : height + idle stacked ≤ most_processes
 
 -- at first every process is on the stack
-pub chase_begins : {n m : ℕ} {sends receipts cursors stack : List ℕ} (start : List ℕ) → Messages most_processes m sends receipts
-    → n ≤ most_processes
-    → Placed m cursors → stack ≡ tabulate 32 (λ p. p) → Chases m sends receipts start cursors start stack (tabulate 32 (λ _. true)) n
-chase_begins start given few placed all = record {
-  given = given;
-  down = down_none start;
+pub chase_begins : {parts : MessageParts} {n : ℕ} {start cursors line stack : List ℕ} → BroughtDown (all_messages parts) start line → n ≤ most_processes
+    → Placed parts.count cursors → stack ≡ tabulate 32 (λ p. p) → Chases parts start cursors line stack (tabulate 32 (λ _. true)) n
+chase_begins down few placed all = record {
+  down = down;
   placed = placed;
   known = rw all (every_tabulate (λ p. p < most_processes) 32 (λ p. p) (omega arith) (λ _ l. l));
   flags = length-tabulate 32 (λ _. true);
@@ -80,30 +81,50 @@ chase_begins start given few placed all = record {
 }
 
 -- ---- one process goes back
--- Message k - 1 is one of those below a bound, and process p sent it; or k is 0.
-abbrev pub Sent : List ℕ → ℕ → ℕ → ℕ → Type 0
-Sent sends p bound k = (k ≤ bound) × (0 < k → u16_at sends (4 * (k - 1)) ≡ p)
+-- Message k is one of those before a bound, and process p sent it.
+abbrev pub Before : MessageParts → ℕ → ℕ → ℕ → Type 0
+Before parts p bound k = (k < bound) × ((message_at parts.sends.now parts.receipts.now k).sender ≡ p)
 
--- Process p stands at its message k - 1. Each process that was put on the stack has cost the line.
-pub record GoesBack (m : ℕ) (sends receipts start : List ℕ) (height₀ : ℕ) (cursors : List ℕ) (p : ℕ) (line stack : List ℕ) (stacked : List Bool)
-    (height k : ℕ) : Type 0 where
-  pub chasing : Chases m sends receipts start cursors line stack stacked height
+-- Up to and with the message at which it stands; none, where it stands at none.
+abbrev pub left : Option ℕ → ℕ
+left None = 0
+left (Some k) = k + 1
+
+pub left_falls : (parts : MessageParts) (p k : ℕ) (next : Option ℕ) → IfSome next (Before parts p k) → left next < left (Some k)
+left_falls parts p k None e = omega arith
+left_falls parts p k (Some j) e = omega (arith, e.0)
+
+left_within : (parts : MessageParts) (p : ℕ) {bound : ℕ} (next : Option ℕ) → IfSome next (Before parts p bound) → left next ≤ bound
+left_within parts p None e = omega arith
+left_within parts p (Some j) e = omega (arith, e.0)
+
+pub behind_left : (next : Option ℕ) {r : ℕ} → MatchOption next (r ≡ 0) (λ k. r ≡ k + 1) → r ≡ left next
+behind_left None e = e
+behind_left (Some k) e = e
+
+before_more : (parts : MessageParts) (p : ℕ) {bound bound' : ℕ} (next : Option ℕ) → bound ≤ bound' → IfSome next (Before parts p bound)
+    → IfSome next (Before parts p bound')
+before_more parts p next more e = IfSome_then next e (λ k h. (lt_of_lt_of_le h.0 more, h.1))
+
+-- Process p stands at a message. Each process that was put on the stack has cost the line.
+pub record GoesBack (parts : MessageParts) (start : List ℕ) (height₀ : ℕ) (cursors : List ℕ) (p : ℕ) (line stack : List ℕ) (stacked : List Bool)
+    (height : ℕ) (next : Option ℕ) : Type 0 where
+  pub chasing : Chases parts start cursors line stack stacked height
   pub small : p < most_processes
-  pub sent : Sent sends p m k
+  pub sent : IfSome next (Before parts p parts.count)
   pub paid : sum line + height ≤ sum start + height₀
 
-module _ {m : ℕ} {sends receipts start cursors line stack : List ℕ} {stacked : List Bool} {height : ℕ}
-    (w : Chases m sends receipts start cursors line stack stacked height) where
+module _ {parts : MessageParts} {start cursors line stack : List ℕ} {stacked : List Bool} {height : ℕ}
+    (w : Chases parts start cursors line stack stacked height) where
   -- the process on top leaves the stack, and goes on from its cursor
-  pub back_begins : {k : ℕ} → 0 < height
+  pub back_begins : {next : Option ℕ} → 0 < height
       → (let p = get_or stack (height - 1) 0 in
-      Sent sends p (get_or cursors p 0) k
-      → GoesBack m sends receipts line (height - 1) cursors p line stack (set stacked p false) (height - 1) k)
-  back_begins more sent =
+      IfSome next (Before parts p (get_or cursors p 0))
+      → GoesBack parts line (height - 1) cursors p line stack (set stacked p false) (height - 1) next)
+  back_begins {next} more sent =
       let p = get_or stack (height - 1) 0 in
       record {
         chasing = record {
-          given = w.given;
           down = down_none line;
           placed = w.placed;
           known = w.known;
@@ -111,45 +132,44 @@ module _ {m : ℕ} {sends receipts start cursors line stack : List ℕ} {stacked
           room = omega (arith, more, idle_off stacked p, w.room);
         };
         small = w.known (height - 1);
-        sent = (le_trans sent.0 (w.placed p), sent.1);
+        sent = before_more parts p next (w.placed p) sent;
         paid = le_refl _;
       }
 
   -- its cursor is left where it stands
-  pub back_ends : {p k height₀ height' : ℕ} {line' stack' : List ℕ} {stacked' : List Bool}
-      → GoesBack m sends receipts line height₀ cursors p line' stack' stacked' height' k
-      → Chases m sends receipts start (set cursors p k) line' stack' stacked' height'
-  back_ends {p} {k} b = record {
-    given = w.given;
+  pub back_ends : {p height₀ height' r : ℕ} {next : Option ℕ} {line' stack' : List ℕ} {stacked' : List Bool}
+      → GoesBack parts line height₀ cursors p line' stack' stacked' height' next → r ≡ left next
+      → Chases parts start (set cursors p r) line' stack' stacked' height'
+  back_ends {p} {next = next} b e = rw e record {
     down = down_more w.down b.chasing.down;
-    placed = every_set (λ n. n ≤ m) cursors p k b.sent.0 w.placed;
+    placed = every_set (λ n. n ≤ parts.count) cursors p (left next) (left_within parts p next b.sent) w.placed;
     known = b.chasing.known;
     flags = b.chasing.flags;
     room = b.chasing.room;
   }
 
 -- ---- it goes to its next message
-module _ {m : ℕ} {sends receipts start cursors line stack : List ℕ} {stacked : List Bool} {height₀ p height k k' : ℕ}
-    (b : GoesBack m sends receipts start height₀ cursors p line stack stacked height k) (next : Sent sends p (k - 1) k') where
-  sent_next : Sent sends p m k'
-  sent_next = (omega (arith, next.0, b.sent.0), next.1)
+module _ {parts : MessageParts} {start cursors line stack : List ℕ} {stacked : List Bool} {height₀ p height k : ℕ}
+    (b : GoesBack parts start height₀ cursors p line stack stacked height (Some k)) (next : Option ℕ) (sent : IfSome next (Before parts p k)) where
+  sent_next : IfSome next (Before parts p parts.count)
+  sent_next = before_more parts p next (omega (arith, b.sent.0)) sent
 
-  pub back_skips : GoesBack m sends receipts start height₀ cursors p line stack stacked height k'
+  pub back_skips : GoesBack parts start height₀ cursors p line stack stacked height next
   back_skips = record { chasing = b.chasing; small = b.small; sent = sent_next; paid = b.paid }
 
 -- Its message is an orphan: it was sent at or above the line from which the process began, and was received at or below its line now.
-pub record AtOrphan (m : ℕ) (sends receipts start : List ℕ) (height₀ : ℕ) (cursors : List ℕ) (p : ℕ) (line stack : List ℕ) (stacked : List Bool)
-    (height k k' y i r : ℕ) : Type 0 where
-  pub going : GoesBack m sends receipts start height₀ cursors p line stack stacked height k
-  pub next : Sent sends p (k - 1) k'
-  pub message : MessageRead m sends receipts k p y i r
+pub record AtOrphan (parts : MessageParts) (start : List ℕ) (height₀ : ℕ) (cursors : List ℕ) (p : ℕ) (line stack : List ℕ) (stacked : List Bool)
+    (height k : ℕ) (next : Option ℕ) (y i r : ℕ) : Type 0 where
+  pub going : GoesBack parts start height₀ cursors p line stack stacked height (Some k)
+  pub next_sent : IfSome next (Before parts p k)
+  pub message : MessageRead parts k p y i r
   pub sent_after : get_or start p 0 ≤ y
   pub delivered : r ≡ 0 → ⊥
   pub received-before : r ≤ get_or line i 0
 
-module _ {m : ℕ} {sends receipts start cursors line stack : List ℕ} {stacked : List Bool} {height₀ p height k k' y i r : ℕ}
-    (x : AtOrphan m sends receipts start height₀ cursors p line stack stacked height k k' y i r) where
-  abbrev b : GoesBack m sends receipts start height₀ cursors p line stack stacked height k
+module _ {parts : MessageParts} {start cursors line stack : List ℕ} {stacked : List Bool} {height₀ p height k y i r : ℕ} {next : Option ℕ}
+    (x : AtOrphan parts start height₀ cursors p line stack stacked height k next y i r) where
+  abbrev b : GoesBack parts start height₀ cursors p line stack stacked height (Some k)
   b = x.going
 
   abbrev here : Message
@@ -165,44 +185,36 @@ module _ {m : ℕ} {sends receipts start cursors line stack : List ℕ} {stacked
   less : sum (set line i (r - 1)) < sum line
   less = put_back_falls here line orphan
 
-  down : BroughtDown (messages_of m sends receipts) start (set line i (r - 1))
-  down = down_more b.chasing.down (down_put_back line (k - 1) here (message_is x.message) orphan)
+  down : BroughtDown (all_messages parts) start (set line i (r - 1))
+  down = down_more b.chasing.down (down_put_back line k here (message_is x.message) orphan)
 
   -- its receiver is put back
-  pub back_lowers : GoesBack m sends receipts start height₀ cursors p (set line i (r - 1)) stack stacked height k'
+  pub back_lowers : GoesBack parts start height₀ cursors p (set line i (r - 1)) stack stacked height next
   back_lowers = record {
-    chasing = record {
-      given = b.chasing.given;
-      down = down;
-      placed = b.chasing.placed;
-      known = b.chasing.known;
-      flags = b.chasing.flags;
-      room = b.chasing.room;
-    };
+    chasing = record { down = down; placed = b.chasing.placed; known = b.chasing.known; flags = b.chasing.flags; room = b.chasing.room };
     small = b.small;
-    sent = sent_next b x.next;
+    sent = sent_next b next x.next_sent;
     paid = omega (arith, less, b.paid);
   }
 
   -- it was not on the stack, and is put there
-  module _ (off : get_or stacked i false ≡ false) where
+  module _ (small : i < most_processes) (off : get_or stacked i false ≡ false) where
     fewer : suc (idle (set stacked i true)) ≡ idle stacked
-    fewer = idle_on stacked i (omega (arith, receiver_small x.message, b.chasing.flags)) off
+    fewer = idle_on stacked i (omega (arith, small, b.chasing.flags)) off
 
     pub stack_room : height < most_processes
     stack_room = omega (arith, fewer, b.chasing.room)
 
-    pub back_stacks : GoesBack m sends receipts start height₀ cursors p (set line i (r - 1)) (set stack height i) (set stacked i true) (height + 1) k'
+    pub back_stacks : GoesBack parts start height₀ cursors p (set line i (r - 1)) (set stack height i) (set stacked i true) (height + 1) next
     back_stacks = record {
       chasing = record {
-        given = b.chasing.given;
         down = down;
         placed = b.chasing.placed;
-        known = every_set (λ q. q < most_processes) stack height i (receiver_small x.message) b.chasing.known;
+        known = every_set (λ q. q < most_processes) stack height i small b.chasing.known;
         flags = length-set stacked i true ∙ b.chasing.flags;
         room = omega (arith, fewer, b.chasing.room);
       };
       small = b.small;
-      sent = sent_next b x.next;
+      sent = sent_next b next x.next_sent;
       paid = omega (arith, less, b.paid);
     }

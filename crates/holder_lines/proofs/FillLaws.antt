@@ -3,14 +3,12 @@
 --     ToLine                       what the loop was given and read
 --     Lining                       its invariant
 --     lining_none, lining_all      how it begins and ends
---     lining_mark, lining_room, lining_fits, lining_more    a turn
+--     lining_mark, lining_more     a turn
 -- Assumes nothing.
 use mathlib.Core.Bool.{Bool, cond, false}
 use mathlib.Core.List.{List}
 use mathlib.Core.Path.{◌≡◌, sym, ap, ◌∙◌}
 use Prim.Native.Nat.{ℕ, ◌+◌, ◌-◌, ◌*◌, ◌^◌, ◌<◌, ◌≤◌}
-use native.Mathlib.Nat.{mul-suc}
-use native.Mathlib.Numerals.{add-one}
 use native.Mathlib.Omega.{arith}
 use lib.ListN.{length, get_or, take}
 use Rattle.consistency.proofs.HolderLaws.{holder_length}
@@ -18,10 +16,9 @@ use Rattle.consistency.specs.Ceilings.{ceiling_of, holder_line, holder_lines, li
 use Rattle.consistency.specs.Lowering.{line_under}
 use Rattle.holder_lines.specs.Propagation.{propagates_from}
 use Rattle.lines.proofs.LineReads.{set_front}
-use Rattle.number_writer.proofs.WriteLaws.{Written, written_all, written_more, written_none, written_room}
+use Rattle.number_writer.proofs.WriteLaws.{Written, written_all, written_more, written_none}
 use Rattle.process_set.proofs.SetLaws.{member_one}
 use Rattle.process_set.specs.Sets.{member}
-use Rattle.tables.proofs.ArrayLaws.{array_length}
 use Rattle.tables.proofs.ListLaws.{get_or_tabulate, tabulate_ext}
 use Rattle.tables.proofs.ReadLaws.{processes_few}
 use Rattle.tables.specs.Arrays.{array_of}
@@ -44,22 +41,20 @@ pub record ToLine (bytes : List ℕ) (n : ℕ) (propagates : List Bool) : Type 0
   pub few : n ≤ most_processes
   pub marks : propagates ≡ tabulate 32 (propagates_from (decode bytes))
 
--- The first k lines stand at the front, and the next one follows at its place.
-pub record Lining (bytes before : List ℕ) (n : ℕ) (propagates : List Bool) (after : List ℕ) (at k : ℕ) : Type 0 where
+-- The first k lines stand at the front.
+pub record Lining (bytes before : List ℕ) (n : ℕ) (propagates : List Bool) (after : List ℕ) (k : ℕ) : Type 0 where
   pub given : ToLine bytes n propagates
-  pub behind : at ≡ n * k
   pub written : Written n (holder_line (decode bytes)) n 0 before after k
 
 module _ {bytes before : List ℕ} {n : ℕ} {propagates : List Bool} where
   pub lining_none : table_refusal bytes ≡ 0 → process_count (decode bytes) * process_count (decode bytes) ≤ length before
-      → n ≡ process_count (decode bytes) → propagates ≡ tabulate 32 (propagates_from (decode bytes)) → Lining bytes before n propagates before 0 0
+      → n ≡ process_count (decode bytes) → propagates ≡ tabulate 32 (propagates_from (decode bytes)) → Lining bytes before n propagates before 0
   lining_none accepted room n_is marks = record {
     given = record { accepted = accepted; n_is = n_is; few = omega (arith, n_is, processes_few bytes accepted); marks = marks };
-    behind = omega arith;
     written = written_none n _ n 0 before (rw n_is (omega arith));
   }
 
-  module _ {after : List ℕ} {at k : ℕ} (h : Lining bytes before n propagates after at k) where
+  module _ {after : List ℕ} {k : ℕ} (h : Lining bytes before n propagates after k) where
     each : (j : ℕ) → length (holder_line (decode bytes) j) ≡ n
     each j = holder_length (decode bytes) j ∙ sym h.given.n_is
 
@@ -67,26 +62,17 @@ module _ {bytes before : List ℕ} {n : ℕ} {propagates : List Bool} where
     unfolding holder_lines
     lining_all l = rw h.given.n_is at (written_all n _ n 0 before each after k h.written l)
 
-    module _ (l : k < n) where
-      pub lining_mark : get_or propagates k false ≡ propagates_from (decode bytes) k
-      lining_mark = ap (λ (marks : List Bool). get_or marks k false) h.given.marks ∙ get_or_tabulate 32 _ k _ (omega (arith, h.given.few))
+    pub lining_mark : {j : ℕ} → j < n → get_or propagates j false ≡ propagates_from (decode bytes) j
+    lining_mark {j} l = ap (λ (marks : List Bool). get_or marks j false) h.given.marks ∙ get_or_tabulate 32 _ j _ (omega (arith, h.given.few))
 
-      pub lining_room : at + n ≤ length after
-      lining_room = omega (arith, h.behind, written_room n _ n 0 before each after k h.written l)
-
-      -- the line of holder k, of which the first n numbers are stored
-      module _ {line : List ℕ} (found : line ≡ array_of (line_of (decode bytes) (member (2 ^ k)))) where
-        pub lining_fits : n ≤ length line
-        lining_fits = omega (arith, h.given.few, ap length found, array_length (line_of (decode bytes) (member (2 ^ k))))
-
-        pub lining_more : {later : List ℕ} → later ≡ put_at after at (take n line) → Lining bytes before n propagates later (at + n) (k + 1)
-        lining_more put = record {
-          given = h.given;
-          behind = omega (arith, h.behind, mul-suc n k, ap (λ (j : ℕ). n * j) (add-one k));
-          written = written_more n _ n 0 before each after k h.written l at _ (omega (arith, h.behind)) (put ∙ ap (put_at after at) front);
-        }
-          where
-            front : take n line ≡ holder_line (decode bytes) k
-            front =
-                ap (λ (x : ℕ). take x line) h.given.n_is ∙ set_front bytes h.given.accepted (2 ^ k) line found
-                ∙ holder_line_lem (decode bytes) k
+    -- the first n numbers of the line of holder k are stored
+    pub lining_more : {line later : List ℕ} → k < n → line ≡ array_of (line_of (decode bytes) (member (2 ^ k)))
+        → later ≡ put_at after (n * k) (take n line) → Lining bytes before n propagates later (k + 1)
+    lining_more {line} l found put = record {
+      given = h.given;
+      written = written_more n _ n 0 before each after k h.written l (n * k) _ (omega arith) (put ∙ ap (put_at after (n * k)) front);
+    }
+      where
+        front : take n line ≡ holder_line (decode bytes) k
+        front =
+            ap (λ (x : ℕ). take x line) h.given.n_is ∙ set_front bytes h.given.accepted (2 ^ k) line found ∙ holder_line_lem (decode bytes) k

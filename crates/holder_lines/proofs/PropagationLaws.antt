@@ -1,9 +1,7 @@
 -- The processes from which a rollback propagates, as the loop of `propagation::propagating` finds them.
---     Seen                            the loop's invariant
---     seen_none, seen_all             how it begins and ends
---     sender_known, sender_small      the sender of the next message
+--     Seen, seen_none                 the loop's invariant; how it begins
 --     NextSend                        the loop at its next message, whose send was read, with the count of its sender
---     count_positive, skips_sent_before, skips_undelivered, seen_marks    what its tests say of that message
+--     skips_sent_before, skips_undelivered, seen_marks    what its tests say of that message
 --     parts_counted, propagates_read  the parts of an accepted table, and that they tell of the table
 --     line_is_ceiling                 the line of a set is its ceiling, where a rollback of none of its members propagates
 --     holder_ceiling                  the line of one process from which no rollback propagates is its ceiling
@@ -11,8 +9,8 @@
 use mathlib.Core.Bool.{Bool, true, false, ◌&&◌, and-false, false≢true}
 use mathlib.Core.List.{List}
 use mathlib.Core.Path.{◌≡◌, refl, sym, ap, ◌∙◌}
-use Prim.Native.Nat.{ℕ, ◌+◌, ◌-◌, ◌*◌, ◌^◌, ◌≤◌, ◌<◌, zero-le}
-use native.Mathlib.Nat.{le_antisymm, le_refl}
+use Prim.Native.Nat.{ℕ, ◌+◌, ◌-◌, ◌*◌, ◌^◌, ◌≤◌, ◌<◌}
+use native.Mathlib.Nat.{le_refl}
 use native.Mathlib.Numerals.{add-one}
 use native.Mathlib.Omega.{arith}
 use borrow.Author.Tests.{eqb-true, eq-eqb, ne_eqb, le-leb, lt-leb, lt-ltb}
@@ -30,93 +28,60 @@ use Rattle.tables.proofs.FormatLaws.{message_in}
 use Rattle.tables.proofs.ListLaws.{any_below_ext, any_below_found, set-tabulate, tabulate_ext}
 use Rattle.tables.proofs.ReadLaws.{ReadMessages, count_is, counts_known, message_good, message_is, messages_known}
 use Rattle.tables.specs.Checks.{WellFormed, table_refusal}
-use Rattle.tables.specs.Format.{checkpoint_at, count_at, counts_part, decode, message_at, process_at, receipts_part, sends_part}
+use Rattle.tables.specs.Format.{count_at, counts_part, decode, message_at, receipts_part, sends_part}
 use Rattle.tables.specs.Lists.{any_below, tabulate}
 use Rattle.tables.specs.Numbers.{u16_at}
 use Rattle.tables.specs.Table.{Message, Table, count_of, message_count, message_of, most_processes}
+use Rattle.tables.specs.declared.messages.MessageParts.{MessageParts}
 
 -- ---- a loop that marks the senders of messages that a rollback of them orphans
 -- It has gone over the first k messages, and marked each process from which a rollback propagates by them.
-pub record Seen (m : ℕ) (counts sends receipts : List ℕ) (found : List Bool) (k : ℕ) : Type 0 where
-  pub given : CountedMessages m counts sends receipts
-  pub within : k ≤ m
-  pub marks : found ≡ tabulate 32 (propagates_at k counts sends receipts)
+abbrev pub Seen : MessageParts → List ℕ → List Bool → ℕ → Type 0
+Seen parts counts found k = found ≡ tabulate 32 (propagates_at k counts parts.sends.now parts.receipts.now)
 
-module _ {m : ℕ} {counts sends receipts : List ℕ} where
-  pub seen_none : CountedMessages m counts sends receipts → Seen m counts sends receipts (replicate 32 false) 0
-  unfolding propagates_at propagates any_below tabulate
-  seen_none given = record { given = given; within = zero-le; marks = refl }
-
-  module _ {found : List Bool} {k : ℕ} (w : Seen m counts sends receipts found k) where
-    pub seen_all : m ≤ k → found ≡ tabulate 32 (propagates_at m counts sends receipts)
-    seen_all l = w.marks ∙ ap (λ (j : ℕ). tabulate 32 (propagates_at j counts sends receipts)) (le_antisymm w.within l)
-
-    module _ (l : k < m) {j : ℕ} (e : j ≡ u16_at sends (4 * k)) where
-      pub sender_known : j < w.given.processes
-      unfolding process_at
-      sender_known = omega (arith, w.given.messages.senders_known k l)
-
-      pub sender_small : j < most_processes
-      sender_small = omega (arith, sender_known, w.given.counted.few)
+pub seen_none : (parts : MessageParts) (counts : List ℕ) → Seen parts counts (replicate 32 false) 0
+unfolding propagates_at propagates any_below tabulate
+seen_none parts counts = refl
 
 -- The next message, number k: its send was read, and the count of its sender.
-pub record NextSend (m : ℕ) (counts sends receipts : List ℕ) (found : List Bool) (k j y count : ℕ) : Type 0 where
-  pub seen : Seen m counts sends receipts found k
-  pub more : k < m
-  pub sender : j ≡ u16_at sends (4 * k)
-  pub sent : y ≡ u16_at sends (4 * k + 2)
+pub record NextSend (parts : MessageParts) (counts : List ℕ) (found : List Bool) (k j y count : ℕ) : Type 0 where
+  pub seen : Seen parts counts found k
+  pub sender : j ≡ (message_at parts.sends.now parts.receipts.now k).sender
+  pub sent : y ≡ (message_at parts.sends.now parts.receipts.now k).sent
   pub count_read : count ≡ u16_at counts (2 * j)
 
-module _ {m : ℕ} {counts sends receipts : List ℕ} {found : List Bool} {k j y count : ℕ}
-    (x : NextSend m counts sends receipts found k j y count) where
+module _ {parts : MessageParts} {counts : List ℕ} {found : List Bool} {k j y count : ℕ} (x : NextSend parts counts found k j y count) where
   abbrev this : Message
-  this = message_at sends receipts k
+  this = message_at parts.sends.now parts.receipts.now k
 
-  is_sender : this.sender ≡ j
-  unfolding message_at process_at
-  is_sender = sym x.sender
-
-  pub count_positive : 0 < count
-  unfolding count_at
-  count_positive = omega (arith, x.count_read, x.seen.given.counted.positive j (sender_known x.seen x.more x.sender))
-
-  -- with the receipt number, as it was read or is in the part
-  orphaned_is : (r : ℕ) → r ≡ u16_at receipts (4 * k + 2) → orphaned (count_at counts) this ≡ (leb (count - 1) y && ltb 0 r)
-  unfolding orphaned message_at process_at checkpoint_at count_at
+  orphaned_is : (r : ℕ) → r ≡ this.received → orphaned (count_at counts) this ≡ (leb (count - 1) y && ltb 0 r)
+  unfolding orphaned count_at
   orphaned_is r e = rw (← e, ← x.sent, ← x.sender, ← x.count_read)
 
   -- one message more
   same : (p : ℕ) → (eqb this.sender p && orphaned (count_at counts) this) ≡ false
-      → propagates_at k counts sends receipts p ≡ propagates_at (k + 1) counts sends receipts p
+      → propagates_at k counts parts.sends.now parts.receipts.now p ≡ propagates_at (k + 1) counts parts.sends.now parts.receipts.now p
   unfolding propagates_at propagates any_below
   same p e = rw (add-one k, e)
 
-  skips : orphaned (count_at counts) this ≡ false → Seen m counts sends receipts found (k + 1)
-  skips e = record {
-    given = x.seen.given;
-    within = omega (arith, x.more);
-    marks = x.seen.marks ∙ tabulate_ext 32 _ _ (λ p _. same p (rw e (and-false (eqb this.sender p))));
-  }
+  skips : orphaned (count_at counts) this ≡ false → Seen parts counts found (k + 1)
+  skips e = x.seen ∙ tabulate_ext 32 _ _ (λ p _. same p (rw e (and-false (eqb this.sender p))))
 
   -- it was sent before the last checkpoint
-  pub skips_sent_before : y < count - 1 → Seen m counts sends receipts found (k + 1)
+  pub skips_sent_before : y < count - 1 → Seen parts counts found (k + 1)
   skips_sent_before b = skips (orphaned_is _ refl ∙ rw (lt-leb (count - 1) y b))
 
-  module _ {r : ℕ} (received : r ≡ u16_at receipts (4 * k + 2)) where
-    pub skips_undelivered : r ≡ 0 → Seen m counts sends receipts found (k + 1)
+  module _ {r : ℕ} (received : r ≡ this.received) where
+    pub skips_undelivered : r ≡ 0 → Seen parts counts found (k + 1)
     skips_undelivered e = skips (orphaned_is r received ∙ rw e (and-false (leb (count - 1) y)))
 
-    pub seen_marks : count - 1 ≤ y → (r ≡ 0 → ⊥) → Seen m counts sends receipts (set found j true) (k + 1)
+    pub seen_marks : j < most_processes → count - 1 ≤ y → (r ≡ 0 → ⊥) → Seen parts counts (set found j true) (k + 1)
     unfolding propagates_at propagates
-    seen_marks b d = record {
-      given = x.seen.given;
-      within = omega (arith, x.more);
-      marks =
-          ap (λ (f : List Bool). set f j true) x.seen.marks
-          ∙ set-tabulate 32 _ _ j true (sender_small x.seen x.more x.sender)
-          (sym (any_below_found _ (k + 1) k (omega arith) (rw (eq-eqb this.sender j is_sender, orphan))))
-          (λ p other. same p (rw (ne_eqb this.sender p (λ e. other (sym e ∙ is_sender)))));
-    }
+    seen_marks small b d =
+        ap (λ (f : List Bool). set f j true) x.seen
+        ∙ set-tabulate 32 _ _ j true small
+        (sym (any_below_found _ (k + 1) k (omega arith) (rw (eq-eqb this.sender j (sym x.sender), orphan))))
+        (λ p other. same p (rw (ne_eqb this.sender p (λ e. other (sym e ∙ sym x.sender)))))
       where
         orphan : orphaned (count_at counts) this ≡ true
         orphan = orphaned_is r received ∙ rw (le-leb (count - 1) y b, lt-ltb 0 r (omega arith))

@@ -19,6 +19,7 @@ ghost use Rattle.tables.specs.Table.{process_count};
 use lines::{ceiling_of_set, settled_line};
 use number_writer::store_numbers;
 use process_set::bit;
+use tables::messages::MessageParts;
 use tables::parts;
 
 // Whether a rollback of each process of an accepted table to its last checkpoint propagates.
@@ -26,18 +27,12 @@ pub fn propagating(table: &[u8]) -> [bool; 32]
     requires { table_refusal table.now ≡ 0 }
     ensures { result ≡ tabulate 32 (propagates_from (decode table.now)) }
 {
-    let m = parts::message_count(table);
-    propagation::propagating(
-        parts::counts(table),
-        parts::sends(table),
-        parts::receipts(table),
-        m,
-    )
+    propagation::propagating(parts::counts(table), MessageParts::of(table))
 }
 
 // The line of process k alone in an accepted table. Where a rollback of k does not propagate, it is the
 // ceiling, and nothing is looked at. Else a few passes are tried first where `few` says so, and it says
-// afterwards whether they settled the line.
+// afterwards whether they are worth another try.
 pub fn line_of_holder(table: &[u8], k: usize, propagates: bool, few: &mut bool) -> [u16; 32]
     requires table_value { table_refusal table.now ≡ 0 }
     requires k_bound { k < 32 }
@@ -63,12 +58,8 @@ pub fn fill_lines(table: &[u8], scratch: &mut [u16])
     let n = parts::process_count(table);
     let propagates = propagating(table);
     let mut few = true;
-    let mut at = 0;
-    let mut k = 0;
-    while k < n {
+    for k in 0..n {
         let line = line_of_holder(table, k, propagates[k], &mut few);
-        store_numbers(scratch, at, &line[..n]);
-        at += n;
-        k += 1;
+        store_numbers(scratch, n * k, &line[..n]);
     }
 }

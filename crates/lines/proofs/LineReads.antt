@@ -20,19 +20,20 @@ use Rattle.consistency.specs.Ceilings.{ceiling_of, line_of, recovery_line}
 use Rattle.consistency.specs.Lines.{as_line}
 use Rattle.consistency.specs.Lowering.{line_under}
 use Rattle.lines.specs.Arrays.{height_at}
-use Rattle.lowering.specs.Lowered.{messages_of}
+use Rattle.lowering.specs.Lowered.{all_messages, messages_of}
 use Rattle.process_set.proofs.SetLaws.{all-member}
 use Rattle.process_set.specs.Sets.{all_processes, member}
 use Rattle.tables.proofs.FormatLaws.{count_beyond, decode-messages}
 use Rattle.tables.proofs.ArrayLaws.{array_at, array_front, array_length}
 use Rattle.tables.proofs.ListLaws.{tabulate_ext}
-use Rattle.tables.proofs.ReadLaws.{ReadMessages, count_is, processes_few}
+use Rattle.tables.proofs.ReadLaws.{count_is, processes_few}
 use Rattle.tables.specs.Arrays.{array_of}
 use Rattle.tables.specs.Checks.{table_refusal}
-use Rattle.tables.specs.Format.{count_at, counts_part, decode}
+use Rattle.tables.specs.Format.{count_at, counts_part, decode, receipts_part, sends_part}
 use Rattle.tables.specs.Lists.{tabulate}
 use Rattle.tables.specs.Numbers.{u16_at}
-use Rattle.tables.specs.Table.{Message, count_of, process_count}
+use Rattle.tables.specs.Table.{Message, count_of, message_count, process_count}
+use Rattle.tables.specs.declared.messages.MessageParts.{MessageParts}
 
 pub array_line : (ms : List Message) (c : List ℕ) → length c ≤ 32 → line_under ms (array_of c) ≡ array_of (line_under ms c)
 array_line ms c small =
@@ -89,10 +90,11 @@ module _ (bytes : List ℕ) (accepted : table_refusal bytes ≡ 0) where
         let size = set-length (decode bytes) (member set) in
         array_front (line_of (decode bytes) (member set)) line N e (sym size) (omega (arith, size, processes_few bytes accepted))
 
-pub line_read : {bytes : List ℕ} {m : ℕ} {sends receipts : List ℕ} → ReadMessages bytes m sends receipts
-    → (ceiling : List ℕ) → line_under (messages_of m sends receipts) ceiling ≡ line_under (decode bytes).messages ceiling
+-- by the messages of the table, as parts
+pub line_read : (bytes : List ℕ) (parts : MessageParts) → parts.count ≡ message_count (decode bytes) → parts.sends.now ≡ sends_part bytes
+    → parts.receipts.now ≡ receipts_part bytes → (ceiling : List ℕ) → line_under (all_messages parts) ceiling ≡ line_under (decode bytes).messages ceiling
 unfolding messages_of decode
-line_read {bytes} read ceiling = rw (read.m_is, read.sends_are, read.receipts_are, decode-messages bytes)
+line_read bytes parts counted sends receipts ceiling = rw (counted, sends, receipts, decode-messages bytes)
 
 pub all_hold_lem : (bytes : List ℕ) → table_refusal bytes ≡ 0 → line_of (decode bytes) (member all_processes) ≡ recovery_line (decode bytes)
 unfolding recovery_line line_of ceiling_of

@@ -25,10 +25,8 @@ pub fn ceiling(counts: &[u8], n: usize, set: u32) -> [u16; 32]
     ensures { result ≡ tabulate 32 (height_at n set counts.now) }
 {
     let mut line = [0u16; 32];
-    let mut p = 0;
-    while p < n {
+    for p in 0..n {
         line[p] = height(u16_at(counts, 2 * p), is_member(set, p));
-        p += 1;
     }
     line
 }

@@ -17,24 +17,16 @@ ghost use Rattle.tables.specs.Table.{process_count};
 
 use number_writer::put_numbers;
 use settling::settle;
+use tables::messages::MessageParts;
 use tables::parts;
 
 // The line under a ceiling in an accepted table. A few passes are tried first where `few` says so; it
-// says afterwards whether they settled the line.
+// says afterwards whether they are worth another try: not once they did not settle a line.
 pub fn settled_line(table: &[u8], ceiling: [u16; 32], few: &mut bool) -> [u16; 32]
     requires { table_refusal table.now ≡ 0 }
     ensures { result ≡ line_under (decode table.now).messages ceiling }
 {
-    let n = parts::process_count(table);
-    let m = parts::message_count(table);
-    settle(
-        ceiling,
-        n,
-        parts::sends(table),
-        parts::receipts(table),
-        m,
-        few,
-    )
+    settle(ceiling, parts::process_count(table), MessageParts::of(table), few)
 }
 
 // The line under a ceiling in an accepted table.

@@ -1,27 +1,23 @@
--- Lines that are brought down, and a message that was read off two parts.
+-- Lines that are brought down, and a message that was read.
 --     down_none, down_more            a line as it is; one after another
 --     down_put_back                   a line whose orphan puts its receiver back
 --     MessageRead                     a message whose four numbers were read
 --     message_is                      it is the message at its position
---     sender_read                     the sender of a message
---     sender_small, receiver_small    its processes
 --     messages-length                 how many messages there are
 -- Assumes nothing.
 use mathlib.Core.List.{List}
 use mathlib.Core.Path.{refl, sym, ◌≡◌, ◌∙◌}
-use Prim.Native.Nat.{ℕ, ◌+◌, ◌-◌, ◌*◌, ◌≤◌, ◌<◌}
+use Prim.Native.Nat.{ℕ, ◌-◌, ◌<◌}
 use native.Mathlib.Nat.{le_refl, le_trans}
-use native.Mathlib.Omega.{arith}
 use lib.ListN.{length, get_or, set}
 use Rattle.consistency.proofs.LoweringLaws.{line_put_back, put_back_under}
 use Rattle.consistency.specs.Lines.{Orphan, as_line}
-use Rattle.lowering.specs.Lowered.{BroughtDown, messages_of}
+use Rattle.lowering.specs.Lowered.{BroughtDown, all_messages, messages_of}
 use Rattle.tables.proofs.CodingLaws.{message_path}
 use Rattle.tables.proofs.ListLaws.{get_or_tabulate, length-tabulate}
-use Rattle.tables.specs.Format.{checkpoint_at, message_at, process_at}
-use Rattle.tables.specs.Numbers.{u16_at}
-use Rattle.tables.specs.Parts.{Messages}
-use Rattle.tables.specs.Table.{Message, most_processes, no_message}
+use Rattle.tables.specs.Format.{message_at}
+use Rattle.tables.specs.Table.{Message, no_message}
+use Rattle.tables.specs.declared.messages.MessageParts.{MessageParts}
 
 module _ {ms : List Message} where
   pub down_none : (l : List ℕ) → BroughtDown ms l l
@@ -34,38 +30,20 @@ module _ {ms : List Message} where
       → BroughtDown ms l (set l m.receiver (m.received - 1))
   down_put_back l k m e o = record { below = put_back_under m l o; same_line = line_put_back ms l k m e o }
 
--- ---- a message that was read
-pub sender_read : {m : ℕ} {sends receipts : List ℕ} {k j : ℕ} → Messages most_processes m sends receipts → k < m → j ≡ u16_at sends (4 * k)
-    → j < most_processes
-unfolding process_at
-sender_read {k = k} given l e = omega (arith, e, given.senders_known k l)
+-- Message k: its sender and where it was sent, its receiver and where it was received.
+pub record MessageRead (parts : MessageParts) (k j y i r : ℕ) : Type 0 where
+  pub there : k < parts.count
+  pub sender : j ≡ (message_at parts.sends.now parts.receipts.now k).sender
+  pub sent : y ≡ (message_at parts.sends.now parts.receipts.now k).sent
+  pub receiver : i ≡ (message_at parts.sends.now parts.receipts.now k).receiver
+  pub received : r ≡ (message_at parts.sends.now parts.receipts.now k).received
 
--- Message k - 1: its sender and where it was sent, its receiver and where it was received.
-pub record MessageRead (m : ℕ) (sends receipts : List ℕ) (k j y i r : ℕ) : Type 0 where
-  pub given : Messages most_processes m sends receipts
-  pub within : k ≤ m
-  pub more : 0 < k
-  pub sender : j ≡ u16_at sends (4 * (k - 1))
-  pub sent : y ≡ u16_at sends (4 * (k - 1) + 2)
-  pub receiver : i ≡ u16_at receipts (4 * (k - 1))
-  pub received : r ≡ u16_at receipts (4 * (k - 1) + 2)
-
-module _ {m : ℕ} {sends receipts : List ℕ} {k j y i r : ℕ} (x : MessageRead m sends receipts k j y i r) where
-  there : k - 1 < m
-  there = omega (arith, x.more, x.within)
-
-  pub sender_small : j < most_processes
-  sender_small = sender_read x.given there x.sender
-
-  pub receiver_small : i < most_processes
-  unfolding process_at
-  receiver_small = omega (arith, x.receiver, x.given.receivers_known (k - 1) there)
-
-  pub message_is : get_or (messages_of m sends receipts) (k - 1) no_message ≡ record { sender = j; sent = y; receiver = i; received = r }
-  unfolding messages_of message_at process_at checkpoint_at
-  message_is =
-      get_or_tabulate m (message_at sends receipts) (k - 1) no_message there
-      ∙ message_path (message_at sends receipts (k - 1)) _ (sym x.sender) (sym x.sent) (sym x.receiver) (sym x.received)
+pub message_is : {parts : MessageParts} {k j y i r : ℕ} → MessageRead parts k j y i r
+    → get_or (all_messages parts) k no_message ≡ record { sender = j; sent = y; receiver = i; received = r }
+unfolding messages_of
+message_is {parts} {k} x =
+    get_or_tabulate parts.count (message_at parts.sends.now parts.receipts.now) k no_message x.there
+    ∙ message_path (message_at parts.sends.now parts.receipts.now k) _ (sym x.sender) (sym x.sent) (sym x.receiver) (sym x.received)
 
 pub messages-length : (m : ℕ) (sends receipts : List ℕ) → length (messages_of m sends receipts) ≡ m
 unfolding messages_of

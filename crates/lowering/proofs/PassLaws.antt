@@ -1,8 +1,7 @@
 -- Passes over the messages, from the last to the first, as the loops of `passes::lower` and of `few::few_passes` go.
---     Under                           the invariant of the passes, relative to the ceiling
 --     LoweringPass                    the invariant of one pass, relative to its line at the start
 --     pass_begins                     how it begins
---     pass-under, pass_settles        how it ends: another one goes on from its line; where it lowered nothing, that is settled
+--     pass_settles                    how it ends: where it lowered nothing, its line is settled
 --     NextInPass                      a pass at its next message, whose four numbers were read
 --     skips_undelivered, skips_sent_before, skips_received_after, pass_lowers    what its tests say of that message
 -- Assumes nothing.
@@ -11,85 +10,62 @@ use mathlib.Core.List.{List, []}
 use mathlib.Core.Path.{◌≡◌, refl, ◌∙◌, subst}
 use Prim.Native.Nat.{ℕ, ◌-◌, ◌≤◌, ◌<◌}
 use native.Mathlib.Decide.{ℕ_discrete}
-use native.Mathlib.Nat.{le_refl}
 use native.Mathlib.Omega.{arith}
 use lib.ListN.{get_or, set}
 use Rattle.consistency.proofs.LoweringLaws.{line_consistent, put_back_falls}
 use Rattle.consistency.specs.Lines.{Orphan, as_line}
 use Rattle.consistency.specs.Lowering.{line_under}
 use Rattle.lowering.proofs.DownLaws.{MessageRead, down_more, down_none, down_put_back, message_is, messages-length}
-use Rattle.lowering.specs.Lowered.{BroughtDown, messages_of}
+use Rattle.lowering.specs.Lowered.{BroughtDown, all_messages}
 use Rattle.tables.proofs.FormatLaws.{message_in}
 use Rattle.tables.specs.Lists.{sum}
-use Rattle.tables.specs.Parts.{Messages}
-use Rattle.tables.specs.Table.{Message, message_count, message_of, most_processes, no_message}
-
--- Passes have brought a line down from a ceiling.
-pub record Under (m : ℕ) (sends receipts ceiling line : List ℕ) : Type 0 where
-  pub given : Messages most_processes m sends receipts
-  pub down : BroughtDown (messages_of m sends receipts) ceiling line
+use Rattle.tables.specs.Table.{Message, message_count, message_of, no_message}
+use Rattle.tables.specs.declared.messages.MessageParts.{MessageParts}
 
 -- The pass stands before message k: it has gone over the messages from k on. Its line was brought down from the start.
 -- Until it lowers, its line is as at the start and no message that it went over is an orphan; once it has lowered, the sum
 -- is smaller.
-pub record LoweringPass (m : ℕ) (sends receipts start line : List ℕ) (lowered : Bool) (k : ℕ) : Type 0 where
-  pub given : Messages most_processes m sends receipts
-  pub within : k ≤ m
-  pub down : BroughtDown (messages_of m sends receipts) start line
+pub record LoweringPass (parts : MessageParts) (start line : List ℕ) (lowered : Bool) (k : ℕ) : Type 0 where
+  pub down : BroughtDown (all_messages parts) start line
   pub unchanged : lowered ≡ false → line ≡ start
-  pub no_orphans : lowered ≡ false → (j : ℕ) → k ≤ j → j < m → Orphan (get_or (messages_of m sends receipts) j no_message) (as_line line) → ⊥
+  pub no_orphans : lowered ≡ false → (j : ℕ) → k ≤ j → j < parts.count → Orphan (get_or (all_messages parts) j no_message) (as_line line) → ⊥
   pub falls : lowered ≡ true → sum line < sum start
 
-pub pass_begins : {m : ℕ} {sends receipts ceiling line : List ℕ} → Under m sends receipts ceiling line → LoweringPass m sends receipts line line false m
-pass_begins {m} u = record {
-  given = u.given;
-  within = le_refl m;
+pub pass_begins : {parts : MessageParts} {line : List ℕ} → LoweringPass parts line line false parts.count
+pass_begins = record {
   down = down_none _;
   unchanged = λ _. refl;
   no_orphans = λ _ j l l' _. omega arith;
   falls = λ e. absurd (false≢true e);
 }
 
-module _ {m : ℕ} {sends receipts start line : List ℕ} {lowered : Bool} {k : ℕ} (w : LoweringPass m sends receipts start line lowered k) where
-  abbrev ms : List Message
-  ms = messages_of m sends receipts
-
-  -- a pass that has lowered nothing has found no orphan, so its line is the one under itself
-  pass_ends : k ≤ 0 → lowered ≡ false → line ≡ line_under ms start
-  unfolding message_of message_count
-  pass_ends z f =
-      line_consistent ms line (λ j o.
-      let inside = message_in (record { counts = []; messages = ms }) j o.delivered in
-      w.no_orphans f j (omega arith) (omega (arith, inside, messages-length m sends receipts)) o)
-      ∙ w.down.same_line
-
--- ---- the passes, one after another
-module _ {m : ℕ} {sends receipts ceiling start line : List ℕ} {lowered : Bool} {k : ℕ} (u : Under m sends receipts ceiling start)
-    (w : LoweringPass m sends receipts start line lowered k) where
-  pub pass-under : Under m sends receipts ceiling line
-  pass-under = record { given = w.given; down = down_more u.down w.down }
-
-  pub pass_settles : k ≤ 0 → lowered ≡ false → line ≡ line_under (messages_of m sends receipts) ceiling
-  pass_settles z f = pass_ends w z f ∙ u.down.same_line
+-- a pass that has lowered nothing has found no orphan
+pub pass_settles : {parts : MessageParts} {ceiling start line : List ℕ} {lowered : Bool} {k : ℕ} → BroughtDown (all_messages parts) ceiling start
+    → LoweringPass parts start line lowered k → k ≤ 0 → lowered ≡ false → line ≡ line_under (all_messages parts) ceiling
+unfolding message_of message_count
+pass_settles {parts} {line = line} tried w z f =
+    let ms = all_messages parts in
+    line_consistent ms line (λ j o.
+    let inside = message_in (record { counts = []; messages = ms }) j o.delivered in
+    w.no_orphans f j (omega arith) (omega (arith, inside, messages-length parts.count parts.sends.now parts.receipts.now)) o)
+    ∙ w.down.same_line
+    ∙ tried.same_line
 
 -- ---- the next message of a pass
-pub record NextInPass (m : ℕ) (sends receipts start line : List ℕ) (lowered : Bool) (k j y i r : ℕ) : Type 0 where
-  pub passing : LoweringPass m sends receipts start line lowered k
-  pub message : MessageRead m sends receipts k j y i r
+pub record NextInPass (parts : MessageParts) (start line : List ℕ) (lowered : Bool) (k j y i r : ℕ) : Type 0 where
+  pub passing : LoweringPass parts start line lowered k
+  pub message : MessageRead parts (k - 1) j y i r
 
-module _ {m : ℕ} {sends receipts start line : List ℕ} {lowered : Bool} {k j y i r : ℕ}
-    (x : NextInPass m sends receipts start line lowered k j y i r) where
+module _ {parts : MessageParts} {start line : List ℕ} {lowered : Bool} {k j y i r : ℕ} (x : NextInPass parts start line lowered k j y i r) where
   abbrev here : Message
   here = record { sender = j; sent = y; receiver = i; received = r }
 
   -- it is no orphan, and the pass goes on
   abbrev Skipped : Type 0
-  Skipped = LoweringPass m sends receipts start line lowered (k - 1)
+  Skipped = LoweringPass parts start line lowered (k - 1)
 
   skips : (Orphan here (as_line line) → ⊥) → Skipped
   skips none = record {
-    given = x.passing.given;
-    within = omega (arith, x.message.within);
     down = x.passing.down;
     unchanged = x.passing.unchanged;
     no_orphans = λ e n l l'. by_place n l l' e (ℕ_discrete n (k - 1));
@@ -97,9 +73,9 @@ module _ {m : ℕ} {sends receipts start line : List ℕ} {lowered : Bool} {k j 
   }
     where
       orphan_at : ℕ → Type 0
-      orphan_at n = Orphan (get_or (messages_of m sends receipts) n no_message) (as_line line)
+      orphan_at n = Orphan (get_or (all_messages parts) n no_message) (as_line line)
 
-      by_place : (n : ℕ) → k - 1 ≤ n → n < m → lowered ≡ false → Dec (n ≡ k - 1) → orphan_at n → ⊥
+      by_place : (n : ℕ) → k - 1 ≤ n → n < parts.count → lowered ≡ false → Dec (n ≡ k - 1) → orphan_at n → ⊥
       by_place n l l' e (yes h) o = none (subst (λ (m : Message). Orphan m (as_line line)) (message_is x.message) (subst orphan_at h o))
       by_place n l l' e (no h) o = x.passing.no_orphans e n (omega arith) l' o
 
@@ -114,10 +90,8 @@ module _ {m : ℕ} {sends receipts start line : List ℕ} {lowered : Bool} {k j 
 
   -- it is an orphan, and its receiver is put back
   pub pass_lowers : (r ≡ 0 → ⊥) → get_or line j 0 ≤ y → r ≤ get_or line i 0
-      → LoweringPass m sends receipts start (set line i (r - 1)) true (k - 1)
+      → LoweringPass parts start (set line i (r - 1)) true (k - 1)
   pass_lowers d s b = record {
-    given = x.passing.given;
-    within = omega (arith, x.message.within);
     down = down_more x.passing.down (down_put_back line (k - 1) here (message_is x.message) orphan);
     unchanged = λ f. absurd (true≢false f);
     no_orphans = λ f. absurd (true≢false f);

@@ -1,45 +1,33 @@
 // A few passes over the messages, from the last to the first.
-ghost use Rattle.std.specs.Prelude.{true, ◌≡◌, ◌≤◌};
+ghost use Rattle.std.specs.Prelude.{◌≡◌, ◌≤◌, IfErr, IfOk};
 ghost use Rattle.consistency.specs.Lowering.{line_under};
-ghost use Rattle.lowering.specs.Lowered.{BroughtDown, messages_of};
-ghost use Rattle.tables.specs.Parts.{Messages};
+ghost use Rattle.lowering.specs.Lowered.{BroughtDown, all_messages};
 ghost use Rattle.tables.specs.Table.{most_processes};
 
-use tables::numbers::u16_at;
+use tables::messages::MessageParts;
 
-// A ceiling, brought down by a few passes over the m messages of a part of sends and a part of receipts
-// between n processes: as many as cost about what a chase does, ten at most, and none where `few` says that
-// they are not worth a try. It says afterwards whether they settled the line.
+// A ceiling, brought down by a few passes over the messages between n processes: as many as cost about
+// what a chase does, ten at most. Ok where they settled the line, and else Err with how far they came.
 pub fn few_passes(
     ceiling: [u16; 32],
     n: usize,
-    sends: &[u8],
-    receipts: &[u8],
-    m: usize,
-    few: &mut bool,
-) -> [u16; 32]
-    requires messages { Messages most_processes m sends.now receipts.now }
+    messages: MessageParts,
+) -> Result<[u16; 32], [u16; 32]>
     requires n_le_most_processes { n ≤ most_processes }
-    ensures brought_down { BroughtDown (messages_of m sends.now receipts.now) ceiling result }
-    ensures value { few.new ≡ true
-        → result ≡ line_under (messages_of m sends.now receipts.now) ceiling }
+    ensures settled { IfOk result (λ line. (BroughtDown (all_messages messages.entry) ceiling line)
+        × (line ≡ line_under (all_messages messages.entry) ceiling)) }
+    ensures brought_down { IfErr result (BroughtDown (all_messages messages.entry) ceiling) }
 {
     let mut line = ceiling;
-    let mut left = 0;
-    if *few {
-        left = n / 4 + 2;
-    }
-    *few = false;
-    'passes: while 0 < left {
-        left -= 1;
+    'passes: for _ in 0..n / 4 + 2 {
+        // The body of a pass of `passes::lower`, whose loop the format's document wants whole: "a nested
+        // loop, passes over messages, left by label".
         let mut lowered = false;
-        let mut k = m;
-        while 0 < k {
-            k -= 1;
-            let sender = u16_at(sends, 4 * k) as usize;
-            let sent = u16_at(sends, 4 * k + 2);
-            let receiver = u16_at(receipts, 4 * k) as usize;
-            let received = u16_at(receipts, 4 * k + 2);
+        for k in (0..messages.count).rev() {
+            let sender = messages.sender(k);
+            let sent = messages.sent(k);
+            let receiver = messages.receiver(k);
+            let received = messages.received(k);
             if received == 0 {
                 continue;
             }
@@ -53,9 +41,8 @@ pub fn few_passes(
             lowered = true;
         }
         if !lowered {
-            *few = true;
-            return line;
+            return Ok(line);
         }
     }
-    line
+    Err(line)
 }

@@ -2,28 +2,23 @@
 // orphan.
 ghost use Rattle.std.specs.Prelude.{◌≡◌};
 ghost use Rattle.consistency.specs.Lowering.{line_under};
-ghost use Rattle.lowering.specs.Lowered.{messages_of};
-ghost use Rattle.tables.specs.Parts.{Messages};
-ghost use Rattle.tables.specs.Table.{most_processes};
+ghost use Rattle.lowering.specs.Lowered.{all_messages};
 
-use tables::numbers::u16_at;
+use tables::messages::MessageParts;
 
-// The line under a ceiling, of the m messages of a part of sends and a part of receipts. An orphan of
-// the line puts its receiver back to the checkpoint before the receipt.
-pub fn lower(ceiling: [u16; 32], sends: &[u8], receipts: &[u8], m: usize) -> [u16; 32]
-    requires { Messages most_processes m sends.now receipts.now }
-    ensures { result ≡ line_under (messages_of m sends.now receipts.now) ceiling }
+// The line under a ceiling. An orphan of the line puts its receiver back to the checkpoint before the
+// receipt.
+pub fn lower(ceiling: [u16; 32], messages: MessageParts) -> [u16; 32]
+    ensures { result ≡ line_under (all_messages messages.entry) ceiling }
 {
     let mut line = ceiling;
     'passes: loop {
         let mut lowered = false;
-        let mut k = m;
-        while 0 < k {
-            k -= 1;
-            let sender = u16_at(sends, 4 * k) as usize;
-            let sent = u16_at(sends, 4 * k + 2);
-            let receiver = u16_at(receipts, 4 * k) as usize;
-            let received = u16_at(receipts, 4 * k + 2);
+        for k in (0..messages.count).rev() {
+            let sender = messages.sender(k);
+            let sent = messages.sent(k);
+            let receiver = messages.receiver(k);
+            let received = messages.received(k);
             if received == 0 {
                 continue;
             }

@@ -5,5 +5,6 @@
 
 pub mod format;
 pub mod lookups;
+pub mod messages;
 pub mod numbers;
 pub mod parts;
