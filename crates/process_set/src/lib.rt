@@ -6,7 +6,7 @@ ghost use Rattle.std.specs.Prelude.{◌≡◌, ◌<◌, ◌^◌};
 ghost use Rattle.process_set.specs.Sets.{high_bit, member, some_high_bit};
 
 // The set of all 32 processes.
-pub const ALL: u32 = 4294967295;
+pub const ALL: u32 = u32::MAX;
 
 // The set that holds process p alone. One is shifted in 64 bits: of shifts in 32 bits the compiler makes several at
 // once by way of floating point numbers, and bit 31 then raises the caller's invalid operation flag.

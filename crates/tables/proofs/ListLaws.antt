@@ -192,7 +192,8 @@ module _ {A : Type 0} (test : A → Bool) (n : ℕ) (f : ℕ → A) where
   any-tabulate = by_cases (any_below n (λ k. test (f k))) refl
 
 -- what an iterator's `any` finds in a list
-pub any_answer : (test : ℕ → Bool) (l : List ℕ) (r : Bool) → IsAnyAnswer (λ x b. test x ≡ b) l r → r ≡ any_below (length l) (λ k. test (get_or l k 0))
+pub any_answer : (test : ℕ → Bool) (l : List ℕ) (r : Bool) → IsAnyAnswer (λ x b. test x ≡ b) l r
+    → r ≡ any_below (length l) (λ k. test (get_or l k 0))
 any_answer test l true (k, b, h) = sym (any_below_found _ (length l) k b (h 0))
 any_answer test l false none = sym (any_below_none _ (length l) (λ k b. none k 0 zero-le b))
 

@@ -1,6 +1,6 @@
 -- Laws of numbers in bytes, over their width.
 --     number_at_beyond, u16_at_last              a number at the end of the bytes
---     number_at-take, number_at-drop             a number in a part of the bytes
+--     number_at-take, number_at-drop, number_at-rest    a number in a part of the bytes
 --     length_bytes, length-all, all_append, all-rows    the bytes of numbers
 --     four_bytes                                 those of 32 bits, as std has them
 --     length-put_at, put_at_none, put_at_one, part_put, put_at_more  bytes put into a buffer
@@ -11,12 +11,14 @@
 use mathlib.Core.List.{List, [], ◌∷◌, ◌++◌, append_assoc}
 use mathlib.Core.Path.{◌≡◌, refl, sym, ap, ◌∙◌}
 use Prim.Native.Nat.{ℕ, zero, suc, ◌+◌, ◌*◌, ◌/◌, ◌%◌, ◌^◌, ◌<◌, ◌≤◌}
-use native.Mathlib.Nat.{add-zero, le_of_suc-le-suc, mul-suc, mul-zero, not-suc-le-zero, pow-succ'}
+use native.Mathlib.Nat.{add-zero, le_refl, le_of_suc-le-suc, mul-suc, mul-zero, not-suc-le-zero, pow-succ'}
 use native.Mathlib.Omega.{arith}
 use lib.ListN.{length, get_or, take, drop, set, length-append, length-drop, length-take, take-append-drop, get_or-eq_default}
 use lib.Seq.{drop-append-add, drop-append_seam, drop-drop, get_or-take, get_or-drop, length-take-le, sets-eq, take_at}
 use borrow.Rule.Slice.PartMut.{put_mid}
+use Rattle.std.proofs.lemmas.Slice.{between_to_end}
 use Rattle.std.specs.Int.{to_le_bytes, w32}
+use Rattle.std.specs.List.{slice_range}
 use Rattle.tables.specs.Lists.{rows}
 use Rattle.tables.specs.Numbers.{bytes_of, bytes_of_all, number_at, put_at, u16_at, u16s, u32_bytes}
 
@@ -46,6 +48,13 @@ number_at-drop zero n bytes at = refl
 number_at-drop (suc w) n bytes at =
     let place : n + (at + 1) ≡ n + at + 1 = omega arith in
     omega (arith, get_or-drop n bytes at 0, number_at-drop w n bytes (at + 1), ap (number_at w bytes) place)
+
+-- a number at a place of the bytes stands at the front of what is left from there on
+pub number_at-rest : (w : ℕ) (bytes : List ℕ) (at : ℕ) {rest : List ℕ} → rest ≡ slice_range bytes at (length bytes)
+    → number_at w rest 0 ≡ number_at w bytes at
+number_at-rest w bytes at is =
+    ap (λ (l : List ℕ). number_at w l 0) (is ∙ between_to_end bytes at (length bytes) (le_refl _))
+    ∙ number_at-drop w at bytes 0 ∙ ap (number_at w bytes) (add-zero at)
 
 -- ---- the bytes of numbers
 pub length_bytes : (w n : ℕ) → length (bytes_of w n) ≡ w

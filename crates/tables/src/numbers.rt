@@ -21,14 +21,12 @@ pub fn u16_at(bytes: &[u8], at: usize) -> u16
 pub fn u16_or_zero(bytes: &[u8], at: usize) -> u16
     ensures { result ≡ u16_at bytes.now at }
 {
-    let len = bytes.len();
-    if len <= at {
-        return 0;
+    match bytes.get(at..) {
+        None => 0,
+        Some([]) => 0,
+        Some([low]) => u16_of(*low, 0),
+        Some([low, high, ..]) => u16_of(*low, *high),
     }
-    if len - at == 1 {
-        return u16_of(bytes[at], 0);
-    }
-    u16_at(bytes, at)
 }
 
 // Writes a number at byte `at` of a slice that has room for both its bytes.
