@@ -70,7 +70,8 @@ pub record Chases (parts : MessageParts) (start cursors line stack : List ℕ) (
   pub room : height + idle stacked ≤ most_processes
 
 -- at first every process is on the stack
-pub chase_begins : {parts : MessageParts} {n : ℕ} {start cursors line stack : List ℕ} → BroughtDown (all_messages parts) start line → n ≤ most_processes
+pub chase_begins : {parts : MessageParts} {n : ℕ} {start cursors line stack : List ℕ} → BroughtDown (all_messages parts) start line
+    → n ≤ most_processes
     → Placed parts.count cursors → stack ≡ tabulate 32 (λ p. p) → Chases parts start cursors line stack (tabulate 32 (λ _. true)) n
 chase_begins down few placed all = record {
   down = down;
