@@ -2,10 +2,9 @@
 --     Chases                      the invariant of the chase, relative to its start
 --     chase_begins                how it begins
 --     Before                      the message at which a process stands: one of its own, in front of a bound
---     left, left_falls            how many messages it has left; fewer where it goes to the next one
+--     left                        how many messages it has left
 --     GoesBack                    the invariant of one process that goes back, relative to the line then
---     back_begins, back_ends      how it begins and ends
---     back_skips                  it passes over a message
+--     back_begins                 how it begins
 --     AtOrphan                    an orphan that it comes to
 --     back_lowers, back_stacks    the orphan puts its receiver back; that is put on the stack too
 --     stack_room                  there is room for it
@@ -19,7 +18,7 @@ use native.Mathlib.Omega.{arith}
 use lib.ListN.{length, get_or, set, length-set}
 use Rattle.std.proofs.Common.{Option, Some, None}
 use Rattle.std.proofs.lemmas.Option.{IfSome_then}
-use Rattle.std.specs.Prelude.{IfSome, MatchOption}
+use Rattle.std.specs.Prelude.{IfSome}
 use Rattle.lowering.proofs.EveryLaws.{every_set, every_tabulate}
 use Rattle.sweep.specs.Cursors.{Placed}
 use Rattle.consistency.proofs.LoweringLaws.{put_back_falls}
@@ -70,8 +69,8 @@ pub record Chases (parts : MessageParts) (start cursors line stack : List ℕ) (
   pub room : height + idle stacked ≤ most_processes
 
 -- at first every process is on the stack
-pub chase_begins : {parts : MessageParts} {n : ℕ} {start cursors line stack : List ℕ} → BroughtDown (all_messages parts) start line → n ≤ most_processes
-    → Placed parts.count cursors → stack ≡ tabulate 32 (λ p. p) → Chases parts start cursors line stack (tabulate 32 (λ _. true)) n
+pub chase_begins : {parts : MessageParts} {n : ℕ} {start cursors line stack : List ℕ} → BroughtDown (all_messages parts) start line
+    → n ≤ most_processes → Placed parts.count cursors → stack ≡ tabulate 32 (λ p. p) → Chases parts start cursors line stack (tabulate 32 (λ _. true)) n
 chase_begins down few placed all = record {
   down = down;
   placed = placed;
@@ -89,18 +88,6 @@ Before parts p bound k = (k < bound) × ((message_at parts.sends.now parts.recei
 abbrev pub left : Option ℕ → ℕ
 left None = 0
 left (Some k) = k + 1
-
-pub left_falls : (parts : MessageParts) (p k : ℕ) (next : Option ℕ) → IfSome next (Before parts p k) → left next < left (Some k)
-left_falls parts p k None e = omega arith
-left_falls parts p k (Some j) e = omega (arith, e.0)
-
-left_within : (parts : MessageParts) (p : ℕ) {bound : ℕ} (next : Option ℕ) → IfSome next (Before parts p bound) → left next ≤ bound
-left_within parts p None e = omega arith
-left_within parts p (Some j) e = omega (arith, e.0)
-
-pub behind_left : (next : Option ℕ) {r : ℕ} → MatchOption next (r ≡ 0) (λ k. r ≡ k + 1) → r ≡ left next
-behind_left None e = e
-behind_left (Some k) e = e
 
 before_more : (parts : MessageParts) (p : ℕ) {bound bound' : ℕ} (next : Option ℕ) → bound ≤ bound' → IfSome next (Before parts p bound)
     → IfSome next (Before parts p bound')
@@ -136,28 +123,8 @@ module _ {parts : MessageParts} {start cursors line stack : List ℕ} {stacked :
         paid = le_refl _;
       }
 
-  -- its cursor is left where it stands
-  pub back_ends : {p height₀ height' r : ℕ} {next : Option ℕ} {line' stack' : List ℕ} {stacked' : List Bool}
-      → GoesBack parts line height₀ cursors p line' stack' stacked' height' next → r ≡ left next
-      → Chases parts start (set cursors p r) line' stack' stacked' height'
-  back_ends {p} {next = next} b e = rw e record {
-    down = down_more w.down b.chasing.down;
-    placed = every_set (λ n. n ≤ parts.count) cursors p (left next) (left_within parts p next b.sent) w.placed;
-    known = b.chasing.known;
-    flags = b.chasing.flags;
-    room = b.chasing.room;
-  }
-
--- ---- it goes to its next message
-module _ {parts : MessageParts} {start cursors line stack : List ℕ} {stacked : List Bool} {height₀ p height k : ℕ}
-    (b : GoesBack parts start height₀ cursors p line stack stacked height (Some k)) (next : Option ℕ) (sent : IfSome next (Before parts p k)) where
-  sent_next : IfSome next (Before parts p parts.count)
-  sent_next = before_more parts p next (omega (arith, b.sent.0)) sent
-
-  pub back_skips : GoesBack parts start height₀ cursors p line stack stacked height next
-  back_skips = record { chasing = b.chasing; small = b.small; sent = sent_next; paid = b.paid }
-
--- Its message is an orphan: it was sent at or above the line from which the process began, and was received at or below its line now.
+-- ---- it comes to an orphan
+-- The message at which it stands was sent at or above the line from which the process began, and was received at or below its line now.
 pub record AtOrphan (parts : MessageParts) (start : List ℕ) (height₀ : ℕ) (cursors : List ℕ) (p : ℕ) (line stack : List ℕ) (stacked : List Bool)
     (height k : ℕ) (next : Option ℕ) (y i r : ℕ) : Type 0 where
   pub going : GoesBack parts start height₀ cursors p line stack stacked height (Some k)
@@ -188,12 +155,15 @@ module _ {parts : MessageParts} {start cursors line stack : List ℕ} {stacked :
   down : BroughtDown (all_messages parts) start (set line i (r - 1))
   down = down_more b.chasing.down (down_put_back line k here (message_is x.message) orphan)
 
+  sent_next : IfSome next (Before parts p parts.count)
+  sent_next = before_more parts p next (omega (arith, b.sent.0)) x.next_sent
+
   -- its receiver is put back
   pub back_lowers : GoesBack parts start height₀ cursors p (set line i (r - 1)) stack stacked height next
   back_lowers = record {
     chasing = record { down = down; placed = b.chasing.placed; known = b.chasing.known; flags = b.chasing.flags; room = b.chasing.room };
     small = b.small;
-    sent = sent_next b next x.next_sent;
+    sent = sent_next;
     paid = omega (arith, less, b.paid);
   }
 
@@ -215,6 +185,6 @@ module _ {parts : MessageParts} {start cursors line stack : List ℕ} {stacked :
         room = omega (arith, fewer, b.chasing.room);
       };
       small = b.small;
-      sent = sent_next b next x.next_sent;
+      sent = sent_next;
       paid = omega (arith, less, b.paid);
     }

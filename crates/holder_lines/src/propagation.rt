@@ -12,7 +12,7 @@ pub fn propagating(counts: &[u8], messages: MessageParts) -> [bool; 32]
     requires { CountedMessages messages.count counts.now messages.sends.now messages.receipts.now }
     ensures { result
         ≡ tabulate 32 (propagates_at messages.entry.count counts.now messages.entry.sends.now
-            messages.entry.receipts.now) }
+        messages.entry.receipts.now) }
 {
     let mut propagates = [false; 32];
     for k in 0..messages.count {

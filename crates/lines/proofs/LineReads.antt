@@ -92,7 +92,8 @@ module _ (bytes : List ℕ) (accepted : table_refusal bytes ≡ 0) where
 
 -- by the messages of the table, as parts
 pub line_read : (bytes : List ℕ) (parts : MessageParts) → parts.count ≡ message_count (decode bytes) → parts.sends.now ≡ sends_part bytes
-    → parts.receipts.now ≡ receipts_part bytes → (ceiling : List ℕ) → line_under (all_messages parts) ceiling ≡ line_under (decode bytes).messages ceiling
+    → parts.receipts.now ≡ receipts_part bytes
+    → (ceiling : List ℕ) → line_under (all_messages parts) ceiling ≡ line_under (decode bytes).messages ceiling
 unfolding messages_of decode
 line_read bytes parts counted sends receipts ceiling = rw (counted, sends, receipts, decode-messages bytes)
 

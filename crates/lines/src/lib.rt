@@ -26,7 +26,12 @@ pub fn settled_line(table: &[u8], ceiling: [u16; 32], few: &mut bool) -> [u16; 3
     requires { table_refusal table.now ≡ 0 }
     ensures { result ≡ line_under (decode table.now).messages ceiling }
 {
-    settle(ceiling, parts::process_count(table), MessageParts::of(table), few)
+    settle(
+        ceiling,
+        parts::process_count(table),
+        MessageParts::of(table),
+        few,
+    )
 }
 
 // The line under a ceiling in an accepted table.

@@ -1,11 +1,10 @@
 -- Passes over the messages, from the last to the first, as the loops of `passes::lower` and of `few::few_passes` go.
 --     LoweringPass                    the invariant of one pass, relative to its line at the start
---     pass_begins                     how it begins
 --     pass_settles                    how it ends: where it lowered nothing, its line is settled
 --     NextInPass                      a pass at its next message, whose four numbers were read
 --     skips_undelivered, skips_sent_before, skips_received_after, pass_lowers    what its tests say of that message
 -- Assumes nothing.
-use mathlib.Core.Bool.{Bool, true, false, false≢true, true≢false}
+use mathlib.Core.Bool.{Bool, true, false, true≢false}
 use mathlib.Core.List.{List, []}
 use mathlib.Core.Path.{◌≡◌, refl, ◌∙◌, subst}
 use Prim.Native.Nat.{ℕ, ◌-◌, ◌≤◌, ◌<◌}
@@ -15,7 +14,7 @@ use lib.ListN.{get_or, set}
 use Rattle.consistency.proofs.LoweringLaws.{line_consistent, put_back_falls}
 use Rattle.consistency.specs.Lines.{Orphan, as_line}
 use Rattle.consistency.specs.Lowering.{line_under}
-use Rattle.lowering.proofs.DownLaws.{MessageRead, down_more, down_none, down_put_back, message_is, messages-length}
+use Rattle.lowering.proofs.DownLaws.{MessageRead, down_more, down_put_back, message_is, messages-length}
 use Rattle.lowering.specs.Lowered.{BroughtDown, all_messages}
 use Rattle.tables.proofs.FormatLaws.{message_in}
 use Rattle.tables.specs.Lists.{sum}
@@ -30,14 +29,6 @@ pub record LoweringPass (parts : MessageParts) (start line : List ℕ) (lowered 
   pub unchanged : lowered ≡ false → line ≡ start
   pub no_orphans : lowered ≡ false → (j : ℕ) → k ≤ j → j < parts.count → Orphan (get_or (all_messages parts) j no_message) (as_line line) → ⊥
   pub falls : lowered ≡ true → sum line < sum start
-
-pub pass_begins : {parts : MessageParts} {line : List ℕ} → LoweringPass parts line line false parts.count
-pass_begins = record {
-  down = down_none _;
-  unchanged = λ _. refl;
-  no_orphans = λ _ j l l' _. omega arith;
-  falls = λ e. absurd (false≢true e);
-}
 
 -- a pass that has lowered nothing has found no orphan
 pub pass_settles : {parts : MessageParts} {ceiling start line : List ℕ} {lowered : Bool} {k : ℕ} → BroughtDown (all_messages parts) ceiling start

@@ -20,8 +20,7 @@ pub fn few_passes(
 {
     let mut line = ceiling;
     'passes: for _ in 0..n / 4 + 2 {
-        // The body of a pass of `passes::lower`, whose loop the format's document wants whole: "a nested
-        // loop, passes over messages, left by label".
+        // As in `passes::lower`, which the document wants as one nested loop, left by label.
         let mut lowered = false;
         for k in (0..messages.count).rev() {
             let sender = messages.sender(k);

@@ -8,14 +8,9 @@ use tables::messages::MessageParts;
 
 // Brings a line down, by the messages between n processes. A process stops at the first message of its own
 // that was sent before the line, and its cursor is left behind that message; what it sent behind it puts
-// receivers back. The sweep ends where all n have stopped. A cursor is the number of messages in front of
-// it: 0 where a process has not stopped, and has none left.
-pub fn sweep(
-    line: &mut [u16; 32],
-    cursors: &mut [u16; 32],
-    n: usize,
-    messages: MessageParts,
-)
+// receivers back. The sweep ends where all n have stopped. A cursor is how many messages are in front of
+// it: 0 is that of a process that has not stopped, and has none left.
+pub fn sweep(line: &mut [u16; 32], cursors: &mut [u16; 32], n: usize, messages: MessageParts)
     requires placed { Placed messages.count cursors.old }
     ensures brought_down { BroughtDown (all_messages messages.entry) line.old line.new }
     ensures placed_2 { Placed messages.entry.count cursors.new }

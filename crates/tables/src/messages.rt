@@ -1,5 +1,5 @@
 // The messages of an accepted table, as functions take them: a part of sends and a part of receipts.
-#![tactic(auto, unfolding(crate::specs::Format::message_at, crate::specs::Format::checkpoint_at, crate::specs::Format::process_at))]
+#![tactic(auto, unfolding(crate::specs::Format::message_at, crate::specs::Format::checkpoint_at))]
 
 ghost use Rattle.std.specs.Prelude.{◌≡◌, ◌<◌};
 ghost use Rattle.tables.specs.Checks.{table_refusal};

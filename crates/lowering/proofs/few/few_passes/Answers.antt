@@ -1,7 +1,7 @@
 -- `few::few_passes` meets its contract.
 use native.Mathlib.Omega.{arith}
-use Rattle.lowering.proofs.DownLaws.{down_more, down_none}
-use Rattle.lowering.proofs.PassLaws.{NextInPass, pass_begins, pass_lowers, pass_settles}
+use Rattle.lowering.proofs.DownLaws.{down_more}
+use Rattle.lowering.proofs.PassLaws.{NextInPass, pass_lowers, pass_settles}
 use Rattle.lowering.proofs.PassLaws.{skips_received_after, skips_sent_before, skips_undelivered}
 use Rattle.lowering.proofs.few.few_passes.Goals as goal
 use Rattle.lowering.proofs.few.few_passes.Goals.{After-received-received}
@@ -20,12 +20,6 @@ next c = record {
     received = c.received-received.ensures;
   };
 }
-
-pub passes-init : goal.passes-init
-passes-init c = down_none _
-
-pub loop-k-init : goal.loop-k-init
-loop-k-init c = pass_begins
 
 -- it is no orphan
 pub loop-k-preserved-then-received-eq0 : goal.loop-k-preserved-then-received-eq0
@@ -52,7 +46,3 @@ returns-then-not-lowered-clause-settled c = (
   down_more c.passes.invariant c.loop-k.invariant.down,
   pass_settles c.passes.invariant c.loop-k.invariant c.loop-k-test.false c.if-not-lowered.true,
 )
-
--- the pass lowered, and another may follow
-pub passes-preserved : goal.passes-preserved
-passes-preserved c = down_more c.passes.invariant c.loop-k.invariant.down

@@ -1,7 +1,6 @@
 -- `passes::lower` meets its contract.
 use native.Mathlib.Omega.{arith}
-use Rattle.lowering.proofs.DownLaws.{down_more, down_none}
-use Rattle.lowering.proofs.PassLaws.{NextInPass, pass_begins, pass_lowers, pass_settles}
+use Rattle.lowering.proofs.PassLaws.{NextInPass, pass_lowers, pass_settles}
 use Rattle.lowering.proofs.PassLaws.{skips_received_after, skips_sent_before, skips_undelivered}
 use Rattle.lowering.proofs.passes.lower.Goals as goal
 use Rattle.lowering.proofs.passes.lower.Goals.{After-received-received}
@@ -20,12 +19,6 @@ next c = record {
     received = c.received-received.ensures;
   };
 }
-
-pub passes-init : goal.passes-init
-passes-init c = down_none _
-
-pub loop-k-init : goal.loop-k-init
-loop-k-init c = pass_begins
 
 -- it is no orphan
 pub loop-k-preserved-then-received-eq0 : goal.loop-k-preserved-then-received-eq0
@@ -46,13 +39,6 @@ loop-k-preserved c =
     pass_lowers (next (goal.at.loop-k-preserved c).After-received-received) c.if-received-eq0.false c.if-sent-line.false
     c.if-line-receiver.false
 
--- the pass lowered, and another follows
-pub passes-smaller : goal.passes-smaller
-passes-smaller c = c.loop-k.invariant.falls c.if-not-lowered.false
-
-pub passes-preserved : goal.passes-preserved
-passes-preserved c = down_more c.passes.invariant c.loop-k.invariant.down
-
--- it was the last one
+-- the pass lowered nothing, and was the last one
 pub returns : goal.returns
 returns c = pass_settles c.passes.invariant c.loop-k.invariant c.loop-k-test.false c.if-not-lowered.true
