@@ -10,10 +10,6 @@ pub loop-k-init : goal.loop-k-init
 loop-k-init c =
     counted_none c.requires c.message_count-m.ensures c.sends-sends.ensures
 
-pub offset_bounds-line-sender : goal.offset_bounds-line-sender
-offset_bounds-line-sender c =
-    omega (arith, sender_small c.loop-k.invariant.given.read c.loop-k-test.true c.u16_at-sender.ensures)
-
 pub bounds-line-sender : goal.bounds-line-sender
 bounds-line-sender c =
     sender_small c.loop-k.invariant.given.read c.loop-k-test.true c.u16_at-sender.ensures

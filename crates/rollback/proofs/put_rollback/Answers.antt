@@ -44,14 +44,6 @@ pub sends_at-requires : goal.sends_at-requires
 sends_at-requires c =
     omega (arith, few (goal.at.sends_at-requires c).After-counts_left-counts)
 
-pub put_messages-requires : goal.put_messages-requires
-put_messages-requires c =
-    record {
-      at_line = c.requires.at_line;
-      m_value = c.requires.m_value;
-      m_in_bounds = omega (arith, c.requires.m_in_bounds, c.process_count-n.ensures, c.sends_at.ensures, c.put_head.auto);
-    }
-
 pub returns : goal.returns
 returns c =
     let n = c.process_count-n.ensures in
