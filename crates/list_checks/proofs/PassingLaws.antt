@@ -2,7 +2,7 @@
 --     SendersMarked, marked_none                the marks of senders; how they begin
 --     marks_listed, marks_left, marks_more      what an entry that is listed, does not wait, or is skipped does to them
 --     GoneOver, gone_none, gone_all             the walk from one position to the next; how it begins and ends
---     sender_within, unlisted, marks_there                   the entries up to the next position
+--     sender_within, unlisted, marks_there      the entries up to the next position
 --     skips_here, gone_more                     what the mark of that position's sender says
 --     listed_entries, passes_is                 the entries of a table, and its messages
 -- Assumes nothing.

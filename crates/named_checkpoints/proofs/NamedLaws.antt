@@ -1,9 +1,9 @@
 -- The lists of named checkpoints, as the code goes over them.
---     parallel, place_inside                lists of which each process is known, and so has a place in an array
---     Known, known_all, unknown_here, known_here    a loop that looks for a process of N or above
---     NamedIn                               what the next two are given
---     NamedBelow, below_all                 a loop that looks for a number that is not below its count
---     not_below_here, below_here            what its test says
+--     parallel, place_inside                lists that the checks let through, each process of which has a place in an array
+--     unknown_found, not_below_found, missed_found    what a chain over them finds is what is asked
+--     both                                  an iterator over both lists
+--     NamedAt, named_at, known_at           what stands at a place of theirs, as the iterator gives it; pairs_length
+--     NamedIn                               what the next loop is given
 --     NamedPut, put_none, put_more, put_all    a loop that puts the named numbers into an array of the counts
 --     line_put                              the line under that array
 --     misses_found, line_found              the line found as an array: whether it misses a name, and its first N numbers

@@ -1,4 +1,5 @@
 -- `positions::bad_position` meets its contract: it hands over the receipts.
+-- Assumes nothing.
 use mathlib.Core.Path.{refl, ◌∙◌}
 use Rattle.list_checks.proofs.PositionLaws.{bad_positions}
 use Rattle.tables.proofs.ReadLaws.{messages_read}

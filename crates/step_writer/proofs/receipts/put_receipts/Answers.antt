@@ -1,13 +1,7 @@
 -- `receipts::put_receipts` meets its contract: the receipts are copied, and the listed ones set in their place.
 -- Assumes nothing.
-use native.Mathlib.Omega.{arith}
-use lib.ListN.{length-drop, length-take}
 use Rattle.step_writer.proofs.ListedLaws.{listed_put}
 use Rattle.step_writer.proofs.receipts.put_receipts.Goals as goal
-
-pub set_receipts-requires : goal.set_receipts-requires
-set_receipts-requires c =
-    λ a l. rw (length-take, length-drop) (omega (arith, c.requires.by_index a l, c.copy_numbers.auto))
 
 pub returns : goal.returns
 returns c =

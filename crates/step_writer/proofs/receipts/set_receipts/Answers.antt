@@ -7,12 +7,6 @@ use Rattle.step_writer.proofs.receipts.set_receipts.Goals as goal
 pub loop-position-init : goal.loop-position-init
 loop-position-init c = setting_none c.requires
 
-pub overflow_mul-k : goal.overflow_mul-k
-overflow_mul-k c = omega (arith, c.loop-position.invariant.listed _ c.loop-position-test.true)
-
-pub put_u16-requires : goal.put_u16-requires
-put_u16-requires c = omega (arith, c.loop-position.invariant.listed _ c.loop-position-test.true)
-
 pub loop-position-preserved : goal.loop-position-preserved
 loop-position-preserved c = setting_more c.loop-position.invariant c.loop-position-test.true (omega arith) c.put_u16.ensures
 
