@@ -71,7 +71,7 @@ module _ {sends receipts : List ℕ} {i : ℕ} {list : List ℕ} {skipped : List
     unfolding process_at
     marks_more {j} read within =
         let is : (p : ℕ) → entry_skipped sends receipts i list p k ≡ eqb j p =
-            λ p. just p ∙ ap (λ (x : ℕ). eqb x p) (sym read) in
+        λ p. just p ∙ ap (λ (x : ℕ). eqb x p) (sym read) in
         let found : entry_skipped sends receipts i list j k ≡ true = is j ∙ eq-eqb j j refl in
         record {
           marks =

@@ -96,7 +96,7 @@ module _ {n : ℕ} {processes states : List ℕ} (lists : Parallel n processes s
   named_at k l {p} e =
       let there : k < length processes = omega (arith, pairs_length) in
       let is : p ≡ (get_or processes k 0, get_or states k 0) =
-          e ∙ ap (λ (r : List (ℕ × ℕ)). get_or r k p) (pairs processes states lists.for_each) ∙ get_or_tabulate (length processes) _ k p there in
+      e ∙ ap (λ (r : List (ℕ × ℕ)). get_or r k p) (pairs processes states lists.for_each) ∙ get_or_tabulate (length processes) _ k p there in
       record { there = there; process_is = sym (ap (λ (r : ℕ × ℕ). r.0) is); state_is = sym (ap (λ (r : ℕ × ℕ). r.1) is) }
 
   pub known_at : (k : ℕ) → k < length (zip processes states) → {p : ℕ × ℕ} → p ≡ get_or (zip processes states) k p → p.0 < n

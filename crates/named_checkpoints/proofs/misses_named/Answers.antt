@@ -16,7 +16,8 @@ use Rattle.named_checkpoints.proofs.misses_named.Goals as goal
 pub any-requires-clause-callable : goal.any-requires-clause-callable
 any-requires-clause-callable c =
     serves_from_places (both c.args.processes.now c.args.states.now (cc) (cc))
-    (λ x q r. search rules) (λ x k l e. let small : x.0.now < 32 = omega (arith, known_at c.requires k l e) in search rules)
+    (λ x q r. search rules)
+    (λ x k l e. let small : x.0.now < 32 = omega (arith, known_at c.requires k l e) in search rules)
 
 pub returns : goal.returns
 returns c =

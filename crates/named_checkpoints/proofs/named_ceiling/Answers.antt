@@ -14,17 +14,17 @@ loop-p-init c = put_none (record { accepted = c.requires.table_value; lists = c.
 pub bounds-ceiling-p : goal.bounds-ceiling-p
 bounds-ceiling-p c =
     let turn = YieldsList-turn (both c.args.processes.now c.args.states.now {s = c.into_iter-p-iterator.result} (cc) (cc))
-        c.loop-p.yielded c.loop-p.p-iterator c.loop-p.yielded_by _ c.next.new.self _ c.in-Some.is c.next.ensures.steps in
+    c.loop-p.yielded c.loop-p.p-iterator c.loop-p.yielded_by _ c.next.new.self _ c.in-Some.is c.next.ensures.steps in
     omega (arith, known_at c.requires.parallel _ turn.0 turn.1, processes_few _ c.requires.table_value)
 
 pub loop-p-preserved : goal.loop-p-preserved
 loop-p-preserved c =
     let turn = YieldsList-turn (both c.args.processes.now c.args.states.now {s = c.into_iter-p-iterator.result} (cc) (cc))
-        c.loop-p.yielded c.loop-p.p-iterator c.loop-p.yielded_by _ c.next.new.self _ c.in-Some.is c.next.ensures.steps in
+    c.loop-p.yielded c.loop-p.p-iterator c.loop-p.yielded_by _ c.next.new.self _ c.in-Some.is c.next.ensures.steps in
     rw length-append (put_more c.loop-p.invariant (named_at c.requires.parallel _ turn.0 turn.1))
 
 pub returns : goal.returns
 returns c =
     let end = YieldsList-end (both c.args.processes.now c.args.states.now {s = c.into_iter-p-iterator.result} (cc) (cc))
-        c.loop-p.yielded c.loop-p.p-iterator c.loop-p.yielded_by _ c.next.new.self c.in-None.is c.next.ensures.steps in
+    c.loop-p.yielded c.loop-p.p-iterator c.loop-p.yielded_by _ c.next.new.self c.in-None.is c.next.ensures.steps in
     put_all c.loop-p.invariant (end.1 ∙ pairs_length c.requires.parallel)

@@ -34,6 +34,7 @@ sends_at-requires c = omega (arith, processes_few _ c.requires.at_line.accepted)
 pub returns : goal.returns
 returns c =
     let n = c.process_count-n.ensures in
-    table_put _ _ _ _ _ _ (n ∙ sym (rollback-processes _)) c.requires.m_value (counts_front c.requires.at_line c.counts_left-counts.ensures n) refl refl _ _ _ _
+    table_put _ _ _ _ _ _ (n ∙ sym (rollback-processes _)) c.requires.m_value (counts_front c.requires.at_line c.counts_left-counts.ensures n) refl refl
+    _ _ _ _
     (omega (arith, c.requires.m_in_bounds, n)) (rw (front (goal.at.returns c).After-counts_left-counts) at c.put_head.ensures) refl
     (rw c.sends_at.ensures at c.put_messages.ensures)
