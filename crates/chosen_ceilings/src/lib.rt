@@ -23,8 +23,8 @@ pub fn above_counts(table: &[u8], ceilings: &[u16]) -> bool
     let counts = parts::count_array(table);
     ceilings
         .iter()
-        .zip(counts.iter())
-        .any(|(ceiling, count)| *count < *ceiling)
+        .zip(&counts)
+        .any(|(&ceiling, &count)| count < ceiling)
 }
 
 // Writes the line under N ceilings in an accepted table to the front of a buffer that has room for it.

@@ -20,8 +20,8 @@ pub fn skips_older(sends: &[u8], receipts: &[u8], process: u16, list: &[u16]) ->
 {
     let mut skipped = [false; 32];
     let mut next = 0;
-    for position in list {
-        let listed = *position as usize;
+    for &position in list {
+        let listed = position as usize;
         for k in next..listed {
             if entry_waits(receipts, process, k) {
                 let sender = u16_at(sends, 4 * k) as usize;

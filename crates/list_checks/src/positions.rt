@@ -13,7 +13,7 @@ use tables::parts;
 pub fn not_rising(list: &[u16]) -> bool
     ensures { result ≡ not_rising list.now }
 {
-    !list.is_sorted_by(|before, here| *before < *here)
+    !list.is_sorted_by(|before, here| before < here)
 }
 
 // Whether an entry of the receipts waits for a process: it goes there and is undelivered.
@@ -29,8 +29,8 @@ pub fn not_waiting(receipts: &[u8], m: usize, process: u16, list: &[u16]) -> boo
     requires { length receipts.now ≡ 4 * m }
     ensures { result ≡ any (bad_entry receipts.now m process) list.now }
 {
-    list.iter().any(|position| {
-        let k = *position as usize;
+    list.iter().any(|&position| {
+        let k = position as usize;
         m <= k || !entry_waits(receipts, process, k)
     })
 }

@@ -20,7 +20,7 @@ pub fn unknown_process(table: &[u8], processes: &[u16]) -> bool
     ensures { result ≡ unknown_named (decode table.now) processes.now }
 {
     let n = parts::process_count(table);
-    processes.iter().any(|p| n <= (*p as usize))
+    processes.iter().any(|&p| n <= p as usize)
 }
 
 // Whether one of the numbers is not below the count of its process in an accepted table.
@@ -33,8 +33,8 @@ pub fn not_below_counts(table: &[u8], processes: &[u16], states: &[u16]) -> bool
     let counts = parts::count_array(table);
     processes
         .iter()
-        .zip(states.iter())
-        .any(|(p, state)| counts[*p as usize] <= *state)
+        .zip(states)
+        .any(|(&p, &state)| counts[p as usize] <= state)
 }
 
 // The ceiling of the named checkpoints of an accepted table.
@@ -45,8 +45,8 @@ fn named_ceiling(table: &[u8], processes: &[u16], states: &[u16]) -> [u16; 32]
         ≡ array_of (named_ceiling (decode table.now) processes.now states.now) }
 {
     let mut ceiling = parts::count_array(table);
-    for (p, state) in processes.iter().zip(states.iter()) {
-        ceiling[*p as usize] = *state;
+    for (&p, &state) in processes.iter().zip(states) {
+        ceiling[p as usize] = state;
     }
     ceiling
 }
@@ -68,6 +68,6 @@ pub fn misses_named(line: [u16; 32], processes: &[u16], states: &[u16]) -> bool
 {
     processes
         .iter()
-        .zip(states.iter())
-        .any(|(p, state)| line[*p as usize] != *state)
+        .zip(states)
+        .any(|(&p, &state)| line[p as usize] != state)
 }

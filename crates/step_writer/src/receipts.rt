@@ -20,8 +20,8 @@ pub fn set_receipts(receipts: &mut [u8], list: &[u16], number: u16)
     ensures { receipts.new
         ≡ receipts_set receipts.old list.now number }
 {
-    for position in list {
-        let k = *position as usize;
+    for &position in list {
+        let k = position as usize;
         put_u16(receipts, 4 * k + 2, number);
     }
 }
