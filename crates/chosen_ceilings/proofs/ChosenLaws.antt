@@ -1,62 +1,58 @@
 -- Ceilings that a caller lends, as the code reads them.
---     CeilingsBelow, below_all                 a loop that looks for a ceiling above its count
---     above_here, below_here                   what its test says of one
+--     chosen_above    a chain over the ceilings and the counts finds one that is above its count
 --     under_read                               the line under an array of ceilings, its first N numbers
 -- Assumes nothing.
-use mathlib.Core.Bool.{Bool, true, false}
-use mathlib.Core.List.{List}
-use mathlib.Core.Path.{◌≡◌, sym, ap, ◌∙◌}
-use Prim.Native.Nat.{ℕ, ◌+◌, ◌*◌, ◌≤◌, ◌<◌}
+use mathlib.Core.Bool.{Bool, ◌||◌}
+use mathlib.Core.List.{List, [], ◌∷◌}
+use mathlib.Core.Path.{◌≡◌, refl, sym, ap, ◌∙◌}
+use Prim.Native.Nat.{ℕ, ◌≤◌}
+use native.Mathlib.Nat.{le_of_suc-le-suc, not-suc-le-zero}
 use native.Mathlib.Omega.{arith}
-use borrow.Author.Tests.{le-ltb, lt-ltb}
 use lib.Dec.{ltb}
 use lib.ListN.{length, get_or, take}
 use Rattle.consistency.proofs.LoweringLaws.{line_length}
 use Rattle.consistency.specs.Ceilings.{above_counts}
-use Rattle.consistency.specs.Lines.{as_line}
 use Rattle.consistency.specs.Lowering.{line_under}
 use Rattle.lines.proofs.LineReads.{array_line}
-use Rattle.tables.proofs.ArrayLaws.{array_front}
-use Rattle.tables.proofs.ReadLaws.{ReadCounts, count_read, processes_few}
-use Rattle.tables.proofs.SearchedLaws.{Searched, searched_all, searched_here, searched_more}
+use Rattle.std.specs.List.{list_any, zip}
+use Rattle.tables.proofs.ArrayLaws.{array_at, array_front, array_length}
+use Rattle.tables.proofs.ListLaws.{any-tabulate, any_below_ext}
+use Rattle.tables.proofs.ReadLaws.{processes_few}
 use Rattle.tables.specs.Arrays.{array_of}
 use Rattle.tables.specs.Checks.{table_refusal}
 use Rattle.tables.specs.Format.{decode}
-use Rattle.tables.specs.Lists.{any_below}
-use Rattle.tables.specs.Numbers.{u16_at}
-use Rattle.tables.specs.Table.{Message, Table, count_of, process_count}
+use Rattle.tables.specs.Lists.{any, any_below, tabulate}
+use Rattle.tables.specs.Table.{Message, count_of, process_count}
 
--- the ceiling of process p is above its count
-abbrev above : Table → List ℕ → ℕ → Bool
-above t ceilings p = ltb (count_of t p) (as_line ceilings p)
+-- ---- what a chain over two lists finds
+pairs : (xs ys : List ℕ) → length xs ≤ length ys → zip xs ys ≡ tabulate (length xs) (λ k. (get_or xs k 0, get_or ys k 0))
+unfolding tabulate
+pairs [] ys l = refl
+pairs (x ∷ xs) [] l = absurd (not-suc-le-zero l)
+pairs (x ∷ xs) (y ∷ ys) l = ap (λ (r : List (ℕ × ℕ)). (x, y) ∷ r) (pairs xs ys (le_of_suc-le-suc l))
 
--- ---- a loop that looks for a ceiling above its count
--- It has found none of a process below p.
-pub record CeilingsBelow (table ceilings counts : List ℕ) (p : ℕ) : Type 0 where
-  pub read : ReadCounts table (length ceilings) counts
-  pub searched : Searched (length ceilings) (above (decode table) ceilings) p
+as_any : {A : Type 0} (test : A → Bool) (l : List A) → list_any test l ≡ any test l
+unfolding any
+as_any test [] = refl
+as_any test (x ∷ rest) = ap (λ (r : Bool). test x || r) (as_any test rest)
 
-module _ {table ceilings counts : List ℕ} {p : ℕ} (w : CeilingsBelow table ceilings counts p) where
-  abbrev t : Table
-  t = decode table
+any_pair : (test : ℕ × ℕ → Bool) (xs ys : List ℕ) → length xs ≤ length ys
+    → list_any test (zip xs ys) ≡ any_below (length xs) (λ k. test (get_or xs k 0, get_or ys k 0))
+any_pair test xs ys l =
+    ap (list_any test) (pairs xs ys l) ∙ as_any test _ ∙ any-tabulate test (length xs) (λ k. (get_or xs k 0, get_or ys k 0))
 
-  as_check : any_below (length ceilings) (above t ceilings) ≡ above_counts t ceilings
-  unfolding above_counts
-  as_check = ap (λ (n : ℕ). any_below n (above t ceilings)) w.read.n_is
-
-  pub below_all : length ceilings ≤ p → false ≡ above_counts t ceilings
-  below_all l = searched_all w.searched l ∙ as_check
-
-  module _ (l : p < length ceilings) {count : ℕ} (read : count ≡ u16_at counts (2 * p)) where
-    pub above_here : count < get_or ceilings p 0 → true ≡ above_counts t ceilings
-    above_here h =
-        searched_here w.searched l (lt-ltb (count_of t p) (as_line ceilings p) (omega (arith, count_read w.read l read))) ∙ as_check
-
-    pub below_here : get_or ceilings p 0 ≤ count → CeilingsBelow table ceilings counts (p + 1)
-    below_here h = record {
-      read = w.read;
-      searched = searched_more w.searched l (le-ltb (count_of t p) (as_line ceilings p) (omega (arith, count_read w.read l read)));
-    }
+-- the ceilings beside the counts
+pub chosen_above : (table : List ℕ) → table_refusal table ≡ 0 → (ceilings : List ℕ) → length ceilings ≡ process_count (decode table)
+    → {counts : List ℕ} → counts ≡ array_of (decode table).counts
+    → list_any (λ p. ltb p.1 p.0) (zip ceilings counts) ≡ above_counts (decode table) ceilings
+unfolding above_counts count_of process_count
+chosen_above table accepted ceilings e {counts} is-array =
+    let few : length (decode table).counts ≤ 32 = processes_few table accepted in
+    let size : length counts ≡ 32 = ap length is-array ∙ array_length (decode table).counts in
+    any_pair (λ p. ltb p.1 p.0) ceilings counts (omega arith)
+    ∙ ap (λ (n : ℕ). any_below n (λ k. ltb (get_or counts k 0) (get_or ceilings k 0))) e
+    ∙ any_below_ext _ _ (length (decode table).counts)
+    (λ k _. ap (λ (x : ℕ). ltb x (get_or ceilings k 0)) (ap (λ (a : List ℕ). get_or a k 0) is-array ∙ array_at (decode table).counts few k))
 
 -- ---- the line under an array of ceilings
 pub under_read : (table : List ℕ) → table_refusal table ≡ 0 → (ceilings : List ℕ) → length ceilings ≡ process_count (decode table)

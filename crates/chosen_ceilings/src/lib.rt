@@ -11,7 +11,6 @@ ghost use Rattle.tables.specs.Numbers.{put_at, u16s};
 ghost use Rattle.tables.specs.Table.{most_processes, process_count};
 
 use lines::{line_under, put_line};
-use tables::numbers::u16_at;
 use tables::parts;
 use tables::parts::number_array;
 
@@ -21,15 +20,11 @@ pub fn above_counts(table: &[u8], ceilings: &[u16]) -> bool
     requires ceilings_len { length ceilings.now ≡ process_count (decode table.now) }
     ensures { result ≡ above_counts (decode table.now) ceilings.now }
 {
-    let counts = parts::counts(table);
-    let mut p = 0;
-    while p < ceilings.len() {
-        if u16_at(counts, 2 * p) < ceilings[p] {
-            return true;
-        }
-        p += 1;
-    }
-    false
+    let counts = parts::count_array(table);
+    ceilings
+        .iter()
+        .zip(&counts)
+        .any(|(&ceiling, &count)| count < ceiling)
 }
 
 // Writes the line under N ceilings in an accepted table to the front of a buffer that has room for it.

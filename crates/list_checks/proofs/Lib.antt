@@ -1,5 +1,5 @@
 -- The laws of the checks of a list.
---     PositionLaws     loops that look for a position that does not rise, or does not wait
+--     PositionLaws     a list that does not rise, and a position that does not wait
 --     PassingLaws      the walk that finds what a list passes over
 mod PassingLaws
 mod PositionLaws

@@ -6,6 +6,7 @@ ghost use Rattle.tables.specs.Checks.{table_refusal};
 ghost use Rattle.tables.specs.Format.{decode};
 ghost use Rattle.tables.specs.Lists.{any};
 
+use crate::positions::entry_waits;
 use tables::numbers::u16_at;
 use tables::parts;
 
@@ -18,26 +19,20 @@ pub fn skips_older(sends: &[u8], receipts: &[u8], process: u16, list: &[u16]) ->
         list.now }
 {
     let mut skipped = [false; 32];
-    let mut a = 0;
-    let mut k = 0;
-    while a < list.len() {
-        let here = k;
-        k += 1;
-        let sender = u16_at(sends, 4 * here) as usize;
-        if here == list[a] as usize {
-            if skipped[sender] {
-                return true;
+    let mut next = 0;
+    for &position in list {
+        let listed = position as usize;
+        for k in next..listed {
+            if entry_waits(receipts, process, k) {
+                let sender = u16_at(sends, 4 * k) as usize;
+                skipped[sender] = true;
             }
-            a += 1;
-            continue;
         }
-        if u16_at(receipts, 4 * here) != process {
-            continue;
+        let listed_sender = u16_at(sends, 4 * listed) as usize;
+        if skipped[listed_sender] {
+            return true;
         }
-        if u16_at(receipts, 4 * here + 2) != 0 {
-            continue;
-        }
-        skipped[sender] = true;
+        next = listed + 1;
     }
     false
 }

@@ -1,6 +1,6 @@
 // Lists that do not rise, and positions of messages that do not wait (checks 13 and 21).
-ghost use Rattle.std.specs.Prelude.{◌≡◌, ◌*◌, length};
-ghost use Rattle.list_checks.specs.Entries.{bad_entry};
+ghost use Rattle.std.specs.Prelude.{◌≡◌, ◌+◌, ◌*◌, ◌<◌, length};
+ghost use Rattle.list_checks.specs.Entries.{bad_entry, entry_waits};
 ghost use Rattle.steps.specs.Steps.{bad_position, not_rising};
 ghost use Rattle.tables.specs.Checks.{table_refusal};
 ghost use Rattle.tables.specs.Format.{decode};
@@ -13,14 +13,15 @@ use tables::parts;
 pub fn not_rising(list: &[u16]) -> bool
     ensures { result ≡ not_rising list.now }
 {
-    let mut a = 1;
-    while a < list.len() {
-        if list[a] <= list[a - 1] {
-            return true;
-        }
-        a += 1;
-    }
-    false
+    !list.is_sorted_by(|before, here| before < here)
+}
+
+// Whether an entry of the receipts waits for a process: it goes there and is undelivered.
+pub(crate) fn entry_waits(receipts: &[u8], process: u16, k: usize) -> bool
+    requires { 4 * k + 3 < length receipts.now }
+    ensures { result ≡ entry_waits receipts.now process k }
+{
+    u16_at(receipts, 4 * k) == process && u16_at(receipts, 4 * k + 2) == 0
 }
 
 // Whether a position of the list is not that of an entry, of m receipts, that waits for the process.
@@ -28,21 +29,10 @@ pub fn not_waiting(receipts: &[u8], m: usize, process: u16, list: &[u16]) -> boo
     requires { length receipts.now ≡ 4 * m }
     ensures { result ≡ any (bad_entry receipts.now m process) list.now }
 {
-    let mut a = 0;
-    while a < list.len() {
-        let k = list[a] as usize;
-        a += 1;
-        if m <= k {
-            return true;
-        }
-        if u16_at(receipts, 4 * k) != process {
-            return true;
-        }
-        if u16_at(receipts, 4 * k + 2) != 0 {
-            return true;
-        }
-    }
-    false
+    list.iter().any(|&position| {
+        let k = position as usize;
+        m <= k || !entry_waits(receipts, process, k)
+    })
 }
 
 // Whether a position of the list is not that of a message that waits for the process.

@@ -1,3 +1,3 @@
 -- The laws of the code of named checkpoints.
---     NamedLaws    a loop that searches the names; the ceiling that one builds; arrays of lines
+--     NamedLaws    chains that search the names; the ceiling that a loop builds; arrays of lines
 pub mod NamedLaws

@@ -20,14 +20,7 @@ pub fn unknown_process(table: &[u8], processes: &[u16]) -> bool
     ensures { result ≡ unknown_named (decode table.now) processes.now }
 {
     let n = parts::process_count(table);
-    let mut k = 0;
-    while k < processes.len() {
-        if n <= (processes[k] as usize) {
-            return true;
-        }
-        k += 1;
-    }
-    false
+    processes.iter().any(|&p| n <= p as usize)
 }
 
 // Whether one of the numbers is not below the count of its process in an accepted table.
@@ -38,15 +31,10 @@ pub fn not_below_counts(table: &[u8], processes: &[u16], states: &[u16]) -> bool
         ≡ not_below_counts (decode table.now) processes.now states.now }
 {
     let counts = parts::count_array(table);
-    let mut k = 0;
-    while k < processes.len() {
-        let p = processes[k] as usize;
-        if counts[p] <= states[k] {
-            return true;
-        }
-        k += 1;
-    }
-    false
+    processes
+        .iter()
+        .zip(states)
+        .any(|(&p, &state)| counts[p as usize] <= state)
 }
 
 // The ceiling of the named checkpoints of an accepted table.
@@ -57,11 +45,8 @@ fn named_ceiling(table: &[u8], processes: &[u16], states: &[u16]) -> [u16; 32]
         ≡ array_of (named_ceiling (decode table.now) processes.now states.now) }
 {
     let mut ceiling = parts::count_array(table);
-    let mut k = 0;
-    while k < processes.len() {
-        let p = processes[k] as usize;
-        ceiling[p] = states[k];
-        k += 1;
+    for (&p, &state) in processes.iter().zip(states) {
+        ceiling[p as usize] = state;
     }
     ceiling
 }
@@ -81,13 +66,8 @@ pub fn misses_named(line: [u16; 32], processes: &[u16], states: &[u16]) -> bool
     requires { Parallel most_processes processes.now states.now }
     ensures { result ≡ misses processes.now states.now line }
 {
-    let mut k = 0;
-    while k < processes.len() {
-        let p = processes[k] as usize;
-        if line[p] != states[k] {
-            return true;
-        }
-        k += 1;
-    }
-    false
+    processes
+        .iter()
+        .zip(states)
+        .any(|(&p, &state)| line[p as usize] != state)
 }

@@ -33,15 +33,12 @@ pub fn count_remaining(table: &[u8], line: [u16; 32]) -> usize
     let m = parts::message_count(table);
     let sends = parts::sends(table);
     let mut remaining = 0;
-    let mut k = 0;
-    while k < m {
+    for k in 0..m {
         let sender = u16_at(sends, 4 * k) as usize;
         let sent = u16_at(sends, 4 * k + 2);
-        k += 1;
-        if line[sender] <= sent {
-            continue;
+        if sent < line[sender] {
+            remaining += 1;
         }
-        remaining += 1;
     }
     remaining
 }
@@ -53,10 +50,8 @@ fn counts_left(table: &[u8], line: [u16; 32]) -> [u16; 32]
 {
     let n = parts::process_count(table);
     let mut counts = [0u16; 32];
-    let mut p = 0;
-    while p < n {
+    for p in 0..n {
         counts[p] = line[p] + 1;
-        p += 1;
     }
     counts
 }
@@ -76,17 +71,14 @@ fn put_messages(table: &[u8], line: [u16; 32], m: usize, buffer: &mut [u8], at: 
     let sends = parts::sends(table);
     let receipts = parts::receipts(table);
     let mut place = at;
-    let mut k = 0;
-    while k < all {
-        let here = k;
-        let sender = u16_at(sends, 4 * here);
-        let sent = u16_at(sends, 4 * here + 2);
-        k += 1;
+    for k in 0..all {
+        let sender = u16_at(sends, 4 * k);
+        let sent = u16_at(sends, 4 * k + 2);
         if line[sender as usize] <= sent {
             continue;
         }
-        let receiver = u16_at(receipts, 4 * here);
-        let received = u16_at(receipts, 4 * here + 2);
+        let receiver = u16_at(receipts, 4 * k);
+        let received = u16_at(receipts, 4 * k + 2);
         put_entry(buffer, place, sender, sent);
         put_entry(
             buffer,

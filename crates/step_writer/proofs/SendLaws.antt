@@ -1,6 +1,6 @@
 -- What a step has read of a table, and the bytes of the table after a send.
 --     Read, table_read            what was read of an accepted table: its sizes, and its counts as an array
---     front_size, front_set       its first N counts
+--     front_set                   its first N counts
 --     count_read .. count_small   the count of a process
 --     Writes, table_written       three writes that put a table
 --     Longer, longer_put          an entry behind an array
@@ -12,36 +12,31 @@ use mathlib.Core.Path.{◌≡◌, sym, ap, ap₂, ◌∙◌, refl}
 use Prim.Native.Nat.{ℕ, ◌+◌, ◌-◌, ◌*◌, ◌≤◌, ◌<◌}
 use native.Mathlib.Omega.{arith}
 use lib.ListN.{length, get_or, set, take, length-set}
-use lib.Seq.{length-take-le}
 use Rattle.steps.proofs.StepLaws.{send-messages, send-processes}
 use Rattle.steps.specs.Steps.{after_send}
 use Rattle.tables.proofs.AcceptLaws.{facts}
-use Rattle.tables.proofs.ArrayLaws.{array_at, array_front, array_length, array_set}
+use Rattle.tables.proofs.ArrayLaws.{array_at, array_front, array_set}
 use Rattle.tables.proofs.CodingLaws.{entries_append, receipts_numbers, sends_numbers}
 use Rattle.tables.proofs.FormatLaws.{decode-messages}
 use Rattle.tables.proofs.NumberLaws.{length-u16s, put_at_more, u16s-append}
-use Rattle.tables.proofs.ReadLaws.{ReadMessages, messages_few, processes_few, receipts_size, sends_size}
+use Rattle.tables.proofs.ReadLaws.{ReadMessages, processes_few}
 use Rattle.number_writer.proofs.WriteLaws.{numbers_size}
 use Rattle.table_writer.proofs.TablePutLaws.{table_put}
 use Rattle.tables.specs.Arrays.{array_of}
 use Rattle.tables.specs.Checks.{table_refusal}
-use Rattle.tables.specs.Format.{decode, encode, entries_of, receipts_at, receipts_of, receipts_part, sends_at, sends_of, sends_part, table_length}
+use Rattle.tables.specs.Format.{decode, encode, entries_of, receipts_at, receipts_of, sends_at, sends_of, table_length}
 use Rattle.tables.specs.Lists.{tabulate}
 use Rattle.tables.specs.Numbers.{put_at, u16_at, u16s}
-use Rattle.tables.specs.Table.{Table, count_of, message_count, most_checkpoints, most_messages, most_processes, process_count}
+use Rattle.tables.specs.Table.{Table, count_of, message_count, most_checkpoints, most_processes, process_count}
 
 -- ---- what a step has read of an accepted table
--- Its sizes, and its counts as an array. The limits and the lengths follow from the rest; `omega` finds them here.
+-- Its sizes, and its counts as an array. That N is small follows from the rest; `omega` finds it here.
 pub record Read (table : List ℕ) (n m : ℕ) (counts : List ℕ) : Type 0 where
   pub accepted : table_refusal table ≡ 0
   pub n_is : n ≡ process_count (decode table)
   pub m_is : m ≡ message_count (decode table)
   pub counts_are : counts ≡ array_of (decode table).counts
   pub n_few : n ≤ most_processes
-  pub m_few : m ≤ most_messages
-  pub counts_size : length counts ≡ 32
-  pub sends_size : length (sends_part table) ≡ 4 * m
-  pub receipts_size : length (receipts_part table) ≡ 4 * m
 
 pub table_read : {table : List ℕ} {n m : ℕ} {counts : List ℕ} → table_refusal table ≡ 0 → n ≡ process_count (decode table)
     → m ≡ message_count (decode table) → counts ≡ array_of (decode table).counts → Read table n m counts
@@ -51,10 +46,6 @@ table_read {table} accepted n_is m_is counts_are = record {
   m_is = m_is;
   counts_are = counts_are;
   n_few = omega (arith, processes_few table accepted);
-  m_few = omega (arith, messages_few table accepted);
-  counts_size = ap length counts_are ∙ array_length (decode table).counts;
-  sends_size = omega (arith, sends_size table accepted);
-  receipts_size = omega (arith, receipts_size table accepted);
 }
 
 module _ {table : List ℕ} {n m : ℕ} {counts : List ℕ} (r : Read table n m counts) where
@@ -62,9 +53,6 @@ module _ {table : List ℕ} {n m : ℕ} {counts : List ℕ} (r : Read table n m 
   t = decode table
 
   -- the first N of an array
-  pub front_size : (l : List ℕ) → length l ≡ 32 → n ≡ length (take n l)
-  front_size l long = sym (length-take-le n l (omega (arith, r.n_few)))
-
   front : take n counts ≡ t.counts
   unfolding process_count
   front = array_front t.counts counts n r.counts_are r.n_is (omega (arith, r.n_few, r.n_is))

@@ -20,11 +20,9 @@ pub fn set_receipts(receipts: &mut [u8], list: &[u16], number: u16)
     ensures { receipts.new
         ≡ receipts_set receipts.old list.now number }
 {
-    let mut a = 0;
-    while a < list.len() {
-        let k = list[a] as usize;
+    for &position in list {
+        let k = position as usize;
         put_u16(receipts, 4 * k + 2, number);
-        a += 1;
     }
 }
 
@@ -71,7 +69,8 @@ fn put_received(table: &[u8], process: u16, list: &[u16], taken: u16, answer: &m
     );
 }
 
-// Writes the table after a receipt.
+// Writes the table after a receipt. Receipt and checkpoint are two calls: each contract names its own step, as the
+// manual has it, and no number of checkpoints.
 pub fn put_receipt(table: &[u8], process: u16, list: &[u16], answer: &mut [u8])
     requires can_receive { CanReceive table.now process list.now }
     requires table_in_bounds { table_length (process_count (decode table.now)) (message_count (decode table.now))

@@ -1,32 +1,34 @@
--- `named_ceiling` meets its contract. The invariant: the counts, with the first k named numbers put (`NamedPut`). The measure: the names that are left.
+-- `named_ceiling` meets its contract: each turn puts the next name of the two lists (`NamedAt`).
+-- Assumes nothing.
+use lib.ListN.{length, length-append}
+use mathlib.Core.Path.{◌∙◌}
 use native.Mathlib.Omega.{arith}
-use Rattle.named_checkpoints.proofs.NamedLaws.{place_inside, put_all, put_more, put_none}
+use Rattle.std.proofs.lemmas.Iterator.Consumers.{YieldsList-end, YieldsList-turn}
+use Rattle.named_checkpoints.proofs.NamedLaws.{NamedAt, both, named_at, pairs_length, put_all, put_more, put_none}
+use Rattle.tables.proofs.ReadLaws.{processes_few}
 use Rattle.named_checkpoints.proofs.named_ceiling.Goals as goal
+use Rattle.named_checkpoints.proofs.named_ceiling.Goals.{In-Some}
 
-pub loop-k-init : goal.loop-k-init
-loop-k-init c =
-    put_none (record { accepted = c.requires.table_value; lists = c.requires.parallel }) c.count_array-ceiling.ensures
+-- the name of this turn
+this : (c : In-Some) → NamedAt c.args.processes.now c.args.states.now (length c.loop-p.yielded) c.in-Some.field-0-0.now c.in-Some.field-0-1.now
+this c =
+    let turn = YieldsList-turn (both c.args.processes.now c.args.states.now {s = c.into_iter-p-iterator.result} (cc) (cc))
+    c.loop-p.yielded c.loop-p.p-iterator c.loop-p.yielded_by _ c.next.new.self _ c.in-Some.is c.next.ensures.steps in
+    named_at c.requires.parallel _ turn.0 turn.1
 
-pub overflow_cast-p : goal.overflow_cast-p
-overflow_cast-p c =
-    omega (arith, place_inside _ c.loop-k.invariant.given.accepted c.loop-k.invariant.given.lists c.loop-k-test.true)
-
-pub bounds-states-k : goal.bounds-states-k
-bounds-states-k c =
-    omega (arith, c.loop-k.invariant.given.lists.for_each)
-
-pub offset_bounds-ceiling-p : goal.offset_bounds-ceiling-p
-offset_bounds-ceiling-p c =
-    omega (arith, place_inside _ c.loop-k.invariant.given.accepted c.loop-k.invariant.given.lists c.loop-k-test.true)
+pub loop-p-init : goal.loop-p-init
+loop-p-init c = put_none (record { accepted = c.requires.table_value; lists = c.requires.parallel }) c.count_array-ceiling.ensures
 
 pub bounds-ceiling-p : goal.bounds-ceiling-p
 bounds-ceiling-p c =
-    place_inside _ c.loop-k.invariant.given.accepted c.loop-k.invariant.given.lists c.loop-k-test.true
+    let here = this (goal.at.bounds-ceiling-p c).In-Some in
+    omega (arith, c.requires.parallel.known _ here.there, processes_few _ c.requires.table_value)
 
-pub loop-k-preserved : goal.loop-k-preserved
-loop-k-preserved c =
-    put_more c.loop-k.invariant c.loop-k-test.true
+pub loop-p-preserved : goal.loop-p-preserved
+loop-p-preserved c = rw length-append (put_more c.loop-p.invariant (this (goal.at.loop-p-preserved c).In-Some))
 
 pub returns : goal.returns
 returns c =
-    put_all c.loop-k.invariant c.loop-k-test.false
+    let end = YieldsList-end (both c.args.processes.now c.args.states.now {s = c.into_iter-p-iterator.result} (cc) (cc))
+    c.loop-p.yielded c.loop-p.p-iterator c.loop-p.yielded_by _ c.next.new.self c.in-None.is c.next.ensures.steps in
+    put_all c.loop-p.invariant (end.1 ∙ pairs_length c.requires.parallel)

@@ -1,11 +1,8 @@
--- `named_ceiling` meets its contract. The invariant: the counts, with the first k named numbers put (`NamedPut`). The measure: the names that are left.
-use Prim.Native.Nat.{◌-◌}
+-- `named_ceiling` meets its contract. The invariant: the counts, with the names gone over so far put (`NamedPut`).
+-- Assumes nothing.
 use lib.ListN.{length}
 use Rattle.named_checkpoints.proofs.NamedLaws.{NamedPut}
 use Rattle.named_checkpoints.proofs.named_ceiling.Given as goal
 
-abbrev pub invariant-loop-k : goal.invariant-loop-k
-invariant-loop-k l = NamedPut l.table l.processes l.states l.ceiling l.k
-
-abbrev pub decreases-loop-k : goal.decreases-loop-k
-decreases-loop-k l = length l.processes - l.k
+abbrev pub invariant-loop-p : goal.invariant-loop-p
+invariant-loop-p l = NamedPut l.table l.processes l.states l.ceiling (length l.yielded)

@@ -1,41 +1,27 @@
--- `not_below_counts` meets its contract. The invariant: the first k numbers are below their counts (`NamedBelow`). The measure: the names that are left.
+-- `not_below_counts` meets its contract: each process has a place in the array, and what the chain finds is what the check asks.
+-- Assumes nothing.
+use borrow.Author.Tests.{tests}
+use lib.Dec.{leb}
+use lib.ListN.{get_or}
+use mathlib.Core.Path.{◌∙◌}
+use Prim.Native.Nat.{◌<◌}
 use native.Mathlib.Omega.{arith}
-use Rattle.named_checkpoints.proofs.NamedLaws.{below_all, below_here, not_below_here, place_inside}
-use Rattle.tables.proofs.SearchedLaws.{searched_none}
+use Rattle.std.proofs.Common.{rules}
+use Rattle.std.proofs.lemmas.Iterator.Adapters.{serves_from_places}
+use Rattle.std.proofs.lemmas.Iterator.Search.{any_from_yields_List}
+use Rattle.named_checkpoints.proofs.NamedLaws.{both, known_at, not_below_found}
+use Rattle.tables.proofs.ReadLaws.{processes_few}
 use Rattle.named_checkpoints.proofs.not_below_counts.Goals as goal
 
-pub loop-k-init : goal.loop-k-init
-loop-k-init c =
-    record {
-      given = record { accepted = c.requires.table_value; lists = c.requires.parallel };
-      counts_are = c.count_array-counts.ensures;
-      searched = searched_none;
-    }
-
-pub overflow_cast-p : goal.overflow_cast-p
-overflow_cast-p c =
-    omega (arith, place_inside _ c.loop-k.invariant.given.accepted c.loop-k.invariant.given.lists c.loop-k-test.true)
-
-pub offset_bounds-counts-p : goal.offset_bounds-counts-p
-offset_bounds-counts-p c =
-    omega (arith, place_inside _ c.loop-k.invariant.given.accepted c.loop-k.invariant.given.lists c.loop-k-test.true)
-
-pub bounds-counts-p : goal.bounds-counts-p
-bounds-counts-p c =
-    place_inside _ c.loop-k.invariant.given.accepted c.loop-k.invariant.given.lists c.loop-k-test.true
-
-pub bounds-states-k : goal.bounds-states-k
-bounds-states-k c =
-    omega (arith, c.loop-k.invariant.given.lists.for_each)
-
-pub returns-then-counts-p : goal.returns-then-counts-p
-returns-then-counts-p c =
-    not_below_here c.loop-k.invariant c.loop-k-test.true c.if-counts-p.true
-
-pub loop-k-preserved : goal.loop-k-preserved
-loop-k-preserved c =
-    below_here c.loop-k.invariant c.loop-k-test.true c.if-counts-p.false
+pub any-requires-clause-callable : goal.any-requires-clause-callable
+any-requires-clause-callable c =
+    serves_from_places (both c.args.processes.now c.args.states.now (cc) (cc))
+    (λ x q r. search rules)
+    (λ x k l e. let small : x.0.now < 32 = omega (arith, known_at c.requires.parallel k l e, processes_few _ c.requires.table_value) in search rules)
 
 pub returns : goal.returns
 returns c =
-    below_all c.loop-k.invariant c.loop-k-test.false
+    any_from_yields_List (λ p. leb (get_or c.count_array-counts.result p.0 0) p.1) c.any.new.self _ _ c.any.ensures.ran
+    (both c.args.processes.now c.args.states.now (cc) (cc))
+    (λ x b q k. search (rules, tests))
+    ∙ not_below_found _ c.requires.table_value _ _ c.requires.parallel c.count_array-counts.ensures

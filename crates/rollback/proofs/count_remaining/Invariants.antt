@@ -1,0 +1,7 @@
+-- `count_remaining` meets its contract. The loop's invariant: as many are counted as remain of the first k messages.
+-- Assumes nothing.
+use Rattle.rollback.proofs.RollbackLaws.{RemainingCounted}
+use Rattle.rollback.proofs.count_remaining.Given as goal
+
+abbrev pub invariant-loop-k : goal.invariant-loop-k
+invariant-loop-k l = RemainingCounted l.table l.line l.m l.sends l.remaining l.k
