@@ -1,7 +1,7 @@
 -- What chains over the numbers below n find.
 --     any_of_range, filter_of_range    whether one passes a test; those that pass
 --     between, first_of_least          the least of n numbers from a start on, below a limit
---     sum_of_lengths                   how many entries n lists have
+--     sum_of_sizes                     how many entries n lists have
 -- Assumes nothing.
 use mathlib.Core.Bool.{Bool, true, false, cond, ◌&&◌, ◌||◌}
 use mathlib.Core.List.{List, [], ◌∷◌, ◌++◌, map, append-nil}
@@ -24,7 +24,7 @@ use Rattle.std.proofs.lemmas.List.Sums.{fold-append}
 use Rattle.std.specs.List.{All, filter, fold, list_any, range_with_len, reduce, sum}
 use Rattle.std.specs.Option.{unwrap_or}
 use Rattle.sheet_entries.specs.Kept.{FirstBelow}
-use Rattle.tables.proofs.ListLaws.{or_none, rows_more}
+use Rattle.tables.proofs.ListLaws.{or_none}
 use Rattle.tables.proofs.SelectLaws.{Searching, search_begins, search_ends, search_finds, search_passes}
 use Rattle.tables.specs.Lists.{First, any_below, rows, select}
 
@@ -106,11 +106,11 @@ module _ (from limit : ℕ) where
         rw e (by_list (found n) (filter_passes between (map f (range_with_len 0 n))) _
         (search_ends (searching n (le_refl n)) (le_refl n)))
 
--- ---- how many entries n lists have
-pub sum_of_lengths : {A : Type 0} (g : ℕ → List A) (n : ℕ) → sum (map (λ k. length (g k)) (range_with_len 0 n)) ≡ length (rows g n)
-unfolding rows
-sum_of_lengths g zero = refl
-sum_of_lengths g (suc n) =
-    ap (λ (k : ℕ). sum (map (λ k. length (g k)) (range_with_len 0 k))) (sym (add-one n))
-    ∙ sum_by-map-range_with_len_more (λ (x : ℕ). x) (λ k. length (g k)) 0 n n (omega arith)
-    ∙ ap (λ (x : ℕ). x + length (g n)) (sum_of_lengths g n) ∙ sym (length-append (rows g n) (g n))
+-- ---- how many entries n lists have, by their lengths
+module _ {A : Type 0} (g : ℕ → List A) (size : ℕ → ℕ) (sizes : (k : ℕ) → size k ≡ length (g k)) where
+  pub sum_of_sizes : (n : ℕ) → sum (map size (range_with_len 0 n)) ≡ length (rows g n)
+  unfolding rows
+  sum_of_sizes zero = refl
+  sum_of_sizes (suc n) =
+      ap (λ (k : ℕ). sum (map size (range_with_len 0 k))) (sym (add-one n)) ∙ sum_by-map-range_with_len_more (λ (x : ℕ). x) size 0 n n (omega arith)
+      ∙ ap₂ (λ (x y : ℕ). x + y) (sum_of_sizes n) (sizes n) ∙ sym (length-append (rows g n) (g n))

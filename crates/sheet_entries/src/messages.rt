@@ -1,9 +1,9 @@
 // The kept messages: undelivered, or crossing some line.
 ghost use Rattle.std.specs.Prelude.{◌≡◌, ◌<◌, length};
 ghost use Rattle.holder_lines.specs.Held.{line_held};
-ghost use Rattle.sheet_entries.specs.Kept.{MessageBeside, crosses_line, is_kept, lowest_line, positions_of};
+ghost use Rattle.sheet_entries.specs.Kept.{crosses_line, is_kept, lowest_line, positions_of};
 ghost use Rattle.tables.specs.Format.{message_at};
-ghost use Rattle.tables.specs.Parts.{Messages};
+ghost use Rattle.tables.specs.Parts.{MessageThere, Messages};
 
 use crate::checkpoints::next_kept;
 use holder_lines::scratch::HeldLines;
@@ -31,10 +31,17 @@ fn crosses_line(lines: HeldLines, sender: usize, sent: u16, receiver: usize, rec
     (0..lines.n).any(|k| lines.number(k, receiver) < received && sent < lines.number(k, sender))
 }
 
-// Whether message k of a part of sends and a part of receipts is kept, given the lowest line's number at
-// its receiver: a message received at or before that line crosses no line.
-pub fn is_kept(lines: HeldLines, lowest: u16, sends: &[u8], receipts: &[u8], k: usize) -> bool
-    requires { MessageBeside lines.n lowest k lines.numbers.now sends.now receipts.now }
+// Whether message k of a part of sends and a part of receipts is kept, given the lowest line: a message
+// received at or before that line crosses no line.
+pub fn is_kept(
+    lines: HeldLines,
+    lowest: &[u16; 32],
+    sends: &[u8],
+    receipts: &[u8],
+    k: usize,
+) -> bool
+    requires there { MessageThere lines.n k sends.now receipts.now }
+    requires lowest_is { lowest.now ≡ lowest_line lines.n (line_held lines) }
     ensures { result ≡ is_kept lines.entry.n (line_held lines.entry)
         (message_at sends.now receipts.now k) }
 {
@@ -43,7 +50,7 @@ pub fn is_kept(lines: HeldLines, lowest: u16, sends: &[u8], receipts: &[u8], k: 
     if received == 0 {
         return true;
     }
-    if received <= lowest {
+    if received <= lowest[receiver] {
         return false;
     }
     let sender = u16_at(sends, 4 * k) as usize;
@@ -59,9 +66,6 @@ pub fn count_kept(lines: HeldLines, sends: &[u8], receipts: &[u8], m: usize) -> 
 {
     let lowest = lowest_line(lines);
     (0..m)
-        .filter(|k| {
-            let receiver = u16_at(receipts, 4 * *k) as usize;
-            is_kept(lines, lowest[receiver], sends, receipts, *k)
-        })
+        .filter(|k| is_kept(lines, &lowest, sends, receipts, *k))
         .count()
 }

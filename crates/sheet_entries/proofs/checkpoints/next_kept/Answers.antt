@@ -1,5 +1,5 @@
 -- The least of the lines' numbers at the process from the start on, below the count.
-use Rattle.std.proofs.Common.{arith, refl, rules, ◌∙◌, ◌≡◌, sym}
+use Rattle.std.proofs.Common.{arith, rules, ◌∙◌, sym}
 use borrow.Author.Tests.{tests}
 use Rattle.std.proofs.lemmas.Iterator.{YieldsList-from_map, YieldsList-from_range}
 use Rattle.std.proofs.lemmas.Iterator.Adapters.{option_map_id}
