@@ -1,6 +1,6 @@
 -- The rows of a listing, as the code reads them off a scratch and a sheet.
 --     checkpoint_read        the row that comes next
---     line_in, line_part     a line inside the scratch
+--     line_in                a line inside the scratch
 --     Summed, summed-..      the loop over the counts
 -- Assumes nothing.
 use mathlib.Core.List.{List}
@@ -9,9 +9,8 @@ use Prim.Native.Nat.{ℕ, ◌+◌, ◌*◌, ◌-◌, ◌≤◌, ◌<◌}
 use native.Mathlib.Nat.{le_antisymm}
 use native.Mathlib.Numerals.{add-one}
 use native.Mathlib.Omega.{arith}
-use lib.ListN.{take, drop}
 use Rattle.listings.specs.Listing.{checkpoint_row}
-use Rattle.listing_text.specs.Rows.{checkpoint_at, line_at}
+use Rattle.listing_text.specs.Rows.{checkpoint_at}
 use Rattle.holder_lines.proofs.ScratchLaws.{cell_below}
 use Rattle.tables.proofs.ListLaws.{sum_more, tabulate-get_or}
 use Rattle.tables.specs.Lists.{sum, tabulate}
@@ -27,12 +26,6 @@ checkpoint_read sheet k e p s = ap₂ (λ (a b : ℕ). checkpoint_row (record { 
 -- line k of n ends within n lines
 pub line_in : (n k : ℕ) → k < n → n * k + n ≤ n * n
 line_in n k l = omega (arith, cell_below {i = n - 1} l (omega arith))
-
-pub line_part : (scratch : List ℕ) (n k : ℕ) → take (n * k + n - n * k) (drop (n * k) scratch) ≡ line_at scratch n k
-unfolding line_at
-line_part scratch n k =
-    let size : n * k + n - n * k ≡ n = omega arith in
-    rw size
 
 -- ---- the loop over the counts
 pub record Summed (t : Table) (total p : ℕ) : Type 0 where

@@ -13,6 +13,7 @@ ghost use Rattle.tables.specs.Checks.{table_refusal};
 ghost use Rattle.tables.specs.Format.{decode};
 ghost use Rattle.tables.specs.Table.{checkpoint_total};
 
+use holder_lines::scratch::HeldLines;
 use keeper::keeper_keep_sheet;
 use lines::recovery_line;
 use rounding::rounded_quotient;
@@ -58,7 +59,11 @@ fn put_listing(text: &mut [u8], table: &[u8], scratch: &[u16], sheet: &[u8]) -> 
     let logged = u16_at(sheet, 2) as usize;
     let line = recovery_line(table);
     let after_line = rows::put_line(text, 0, &line[..n]);
-    let after_holds = rows::put_holds(text, after_line, scratch, n);
+    let lines = HeldLines {
+        numbers: scratch,
+        n,
+    };
+    let after_holds = rows::put_holds(text, after_line, lines);
     let after_checkpoints = rows::put_checkpoints(text, after_holds, sheet, kept);
     let after_messages = rows::put_messages(text, after_checkpoints, sheet, kept, logged);
     rows::put_row(text, after_messages, b"share", share_of(table, kept))

@@ -2,9 +2,9 @@
 ghost use Rattle.std.specs.Prelude.{◌∷◌, [], ◌+◌, ◌*◌, ◌≤◌, ◌<◌, length};
 ghost use Rattle.listings.specs.Listing.{line_row};
 ghost use Rattle.listing_text.specs.Rows.{checkpoint_rows, hold_rows, message_rows};
-ghost use Rattle.holder_lines.specs.Scratch.{HoldsLines};
 ghost use Rattle.text_writer.specs.Text.{Fits, Laid, row};
 
+use holder_lines::scratch::HeldLines;
 use tables::numbers::u16_at;
 use text_writer::{put_byte, put_field, put_fields, put_word};
 
@@ -40,19 +40,14 @@ fn put_long_row(text: &mut [u8], at: usize, word: &[u8], first: u32, rest: &[u16
     put_byte(text, after_rest, b'\n')
 }
 
-// Puts the rows of n processes that hold, from a scratch that begins with n lines of n numbers each.
-pub fn put_holds(text: &mut [u8], at: usize, scratch: &[u16], n: usize) -> usize
-    requires holds_lines { HoldsLines n scratch.now }
-    requires fits { Fits at (hold_rows scratch.now n) }
-    ensures { Laid text.old text.new at (hold_rows scratch.now n) result }
+// Puts the rows of the processes that hold, by their lines.
+pub fn put_holds(text: &mut [u8], at: usize, lines: HeldLines) -> usize
+    requires { Fits at (hold_rows lines.numbers.now lines.n) }
+    ensures { Laid text.old text.new at (hold_rows lines.entry.numbers.now lines.entry.n) result }
 {
     let mut next = at;
-    let mut k = 0;
-    while k < n {
-        let start = n * k;
-        let end = start + n;
-        next = put_long_row(text, next, b"hold", k as u32, &scratch[start..end]);
-        k += 1;
+    for k in 0..lines.n {
+        next = put_long_row(text, next, b"hold", k as u32, lines.line(k));
     }
     next
 }
@@ -64,12 +59,10 @@ pub fn put_checkpoints(text: &mut [u8], at: usize, sheet: &[u8], k: usize) -> us
     ensures { Laid text.old text.new at (checkpoint_rows sheet.now k) result }
 {
     let mut next = at;
-    let mut e = 0;
-    while e < k {
+    for e in 0..k {
         let process = u16_at(sheet, 4 + 2 * e);
         let number = [u16_at(sheet, 4 + 2 * k + 2 * e)];
-        next = put_long_row(text, next, b"checkpoint", process as u32, &number);
-        e += 1;
+        next = put_long_row(text, next, b"checkpoint", u32::from(process), &number);
     }
     next
 }
@@ -81,11 +74,9 @@ pub fn put_messages(text: &mut [u8], at: usize, sheet: &[u8], k: usize, q: usize
     ensures { Laid text.old text.new at (message_rows sheet.now k q) result }
 {
     let mut next = at;
-    let mut e = 0;
-    while e < q {
+    for e in 0..q {
         let position = u16_at(sheet, 4 + 4 * k + 2 * e);
-        next = put_row(text, next, b"message", position as u32);
-        e += 1;
+        next = put_row(text, next, b"message", u32::from(position));
     }
     next
 }

@@ -13,6 +13,7 @@ ghost use Rattle.tables.specs.Numbers.{put_at, u16s};
 ghost use Rattle.tables.specs.Table.{process_count};
 
 use holder_lines::fill_lines;
+use holder_lines::scratch::HeldLines;
 use member_lines::line_of_members;
 use number_writer::put_numbers;
 use tables::parts;
@@ -28,13 +29,15 @@ fn put_each(table: &[u8], sets: &[u32], scratch: &[u16], answer: &mut [u8])
 {
     let n = parts::process_count(table);
     let counts = parts::count_array(table);
+    let lines = HeldLines {
+        numbers: scratch,
+        n,
+    };
     let mut at = 0;
-    let mut k = 0;
-    while k < sets.len() {
-        let line = line_of_members(scratch, n, counts, sets[k]);
+    for set in sets {
+        let line = line_of_members(lines, counts, *set);
         put_numbers(answer, at, &line[..n]);
         at += 2 * n;
-        k += 1;
     }
 }
 

@@ -1,33 +1,38 @@
 -- What loops over n lines find.
 --     least_at_most, least_first      the least of n numbers
 --     lowest_found                    the lowest line
+--     select_next, select_last, tallied_next, tallied_last    from one number that passes a test to the next
 --     received-before, sent_after, crossed    whether a message crosses a line
 --     .. -kept                        whether a message is kept
---     MessagesBeside, receiver_small, may_ask, keeps_at    what a loop over messages was given, and what it may ask of message k
---     Totalling, totalling-..         the kept checkpoints of each process, counted
+--     receiver_small, message_beside    message k, by its receiver
+--     keeps_at                        what a loop over the messages tests
+--     kept_number, checkpoints_counted, checkpoints_few    the kept checkpoints of each process, counted
 -- Assumes nothing.
 use mathlib.Core.Bool.{Bool, true, false, and-false}
-use mathlib.Core.List.{List}
+use mathlib.Core.List.{List, [], ◌∷◌, ◌++◌}
 use mathlib.Core.Logic.{⊎_elim}
-use mathlib.Core.Path.{◌≡◌, refl, sym, ap, ap₂, ◌∙◌, subst}
+use mathlib.Core.Path.{◌≡◌, refl, sym, ap, ap₂, ◌∙◌}
 use Prim.Native.Nat.{ℕ, zero, suc, ◌+◌, ◌*◌, ◌<◌, ◌≤◌, zero-le}
-use native.Mathlib.Nat.{eq-or-lt_of_le, le_antisymm, le_of_suc-le-suc, le_refl}
+use native.Mathlib.Nat.{eq-or-lt_of_le, le_of_suc-le-suc, le_refl, mul-le-mul}
 use native.Mathlib.Omega.{arith}
 use borrow.Author.Tests.{eqb-false, eqb-true, ne_eqb, lt-ltb, le-ltb}
 use lib.Dec.{eqb, ltb}
 use lib.ListN.{length, get_or, length-append, length-map}
+use Rattle.std.proofs.Common.{Option, Some, None, map, sum, unwrap_or}
+use Rattle.std.specs.List.{range_with_len}
 use Rattle.consistency.specs.Lines.{Line}
 use Rattle.holder_lines.specs.Scratch.{HoldsLines, lines_in}
-use Rattle.keep_sheet.specs.Sheet.{Checkpoint, crosses}
+use Rattle.sheet_entries.proofs.ChainLaws.{sum_of_sizes}
+use Rattle.keep_sheet.specs.Sheet.{crosses}
 use Rattle.tables.proofs.ArrayLaws.{array_at}
-use Rattle.tables.proofs.ListLaws.{any_below_none, found_below, get_or_tabulate, length-tabulate, none_below, rows_more, select_small}
-use Rattle.tables.proofs.ReadLaws.{message_there}
+use Rattle.tables.proofs.ListLaws.{any_below_none, found_below, get_or_tabulate, length-tabulate, none_below, rows_most, select_gap, select_more}
+use Rattle.tables.proofs.SelectLaws.{Tallied, select_few}
 use Rattle.tables.specs.Format.{checkpoint_at, count_at, message_at, process_at}
-use Rattle.tables.specs.Lists.{First, any_below, rows, tabulate}
+use Rattle.tables.specs.Lists.{First, any_below, select, tabulate}
 use Rattle.tables.specs.Numbers.{u16_at}
-use Rattle.tables.specs.Parts.{Messages}
+use Rattle.tables.specs.Parts.{MessageThere}
 use Rattle.tables.specs.Table.{Message, most_processes}
-use Rattle.sheet_entries.specs.Kept.{MessageBeside, checkpoints_at, checkpoints_of, crosses_line, is_kept, kept_of, least_below, lowest_at, lowest_line, shows}
+use Rattle.sheet_entries.specs.Kept.{FirstBelow, MessageBeside, checkpoints_at, checkpoints_of, crosses_line, is_kept, kept_of, least_below, lowest_at, lowest_line, shows}
 
 -- ---- the least of n numbers
 module _ (f : ℕ → ℕ) where
@@ -61,10 +66,32 @@ module _ (f : ℕ → ℕ) where
           omega (arith, least_at_most n there.0 there.1, eqb-true (f there.0) r there.2)
 
 -- the lowest line's number at process i, as it was found
-pub lowest_found : {n : ℕ} (line : ℕ → Line) {i v : ℕ} → i < n → First (shows n line i) 0 65535 v → v
-    ≡ get_or (tabulate n (lowest_at n line)) i 0
+pub lowest_found : {n : ℕ} (line : ℕ → Line) {i v : ℕ} → i < n → (r : Option ℕ) → FirstBelow (shows n line i) 0 65535 r → v ≡ unwrap_or r 65535
+    → v ≡ get_or (tabulate n (lowest_at n line)) i 0
 unfolding shows lowest_at
-lowest_found {n} line {i} {v} l first = least_first (λ k. line k i) n v first ∙ sym (get_or_tabulate n (lowest_at n line) i 0 l)
+lowest_found {n} line {i} l r first e =
+    e ∙ least_first (λ k. line k i) n (unwrap_or r 65535) (or_limit r first) ∙ sym (get_or_tabulate n (lowest_at n line) i 0 l)
+  where
+    or_limit : (r : Option ℕ) → FirstBelow (shows n line i) 0 65535 r → First (shows n line i) 0 65535 (unwrap_or r 65535)
+    or_limit None f = f
+    or_limit (Some c) f = f.0
+
+-- ---- a loop that goes from one number that passes a test to the next
+module _ {test : ℕ → Bool} {from limit : ℕ} where
+  pub select_next : {c : ℕ} → First test from limit c → c < limit → select test (c + 1) ≡ select test from ++ (c ∷ [])
+  select_next {c} f l = select_more test c (f.passes l) ∙ ap (λ (xs : List ℕ). xs ++ (c ∷ [])) (select_gap test from c f.from_on f.none_before)
+
+  pub select_last : First test from limit limit → select test limit ≡ select test from
+  select_last f = select_gap test from limit f.from_on f.none_before
+
+  -- they are counted
+  module _ {kept : ℕ} (h : Tallied test limit kept from) where
+    pub tallied_next : {c : ℕ} → First test from limit c → c < limit → Tallied test limit (kept + 1) (c + 1)
+    tallied_next {c} f l =
+        record { within = omega arith; number = omega (arith, h.number, ap length (select_next f l), length-append (select test from) (c ∷ [])) }
+
+    pub tallied_last : First test from limit limit → kept ≡ length (select test limit)
+    tallied_last f = h.number ∙ ap length (sym (select_last f))
 
 -- ---- whether a message crosses a line, by the numbers that the line has at its receiver and at its sender
 module _ (l : Line) (m : Message) where
@@ -108,74 +135,43 @@ module _ {n lowest k : ℕ} {scratch sends receipts : List ℕ} (beside : Messag
     unfolding is_kept message_at checkpoint_at process_at
     delivered_kept read-i read-j read-y e = rw (← read-x, ne_eqb x 0 some) (rw (read-i, read-j, read-y) at e)
 
--- ---- what a loop over m messages was given, and the lowest line that it found
-pub record MessagesBeside (n m : ℕ) (scratch sends receipts lowest : List ℕ) : Type 0 where
-  pub holds : HoldsLines n scratch
-  pub known : Messages n m sends receipts
-  pub lowest_is : lowest ≡ lowest_line n (lines_in scratch n)
-
--- message k, by the receiver that was read
-module _ {n m : ℕ} {scratch sends receipts lowest : List ℕ} (beside : MessagesBeside n m scratch sends receipts lowest) {k : ℕ} (l : k < m)
+-- ---- message k, by the lowest line and its receiver, as they were read
+module _ {n k : ℕ} {scratch sends receipts : List ℕ} (holds : HoldsLines n scratch) (there : MessageThere n k sends receipts)
     {receiver : ℕ} (read : receiver ≡ u16_at receipts (4 * k)) where
   pub receiver_small : receiver < most_processes
   unfolding process_at
-  receiver_small = omega (arith, beside.known.receivers_known k l, beside.holds.few)
+  receiver_small = omega (arith, there.receiver_known, holds.few)
 
-  pub may_ask : MessageBeside n (get_or lowest receiver 0) k scratch sends receipts
+  pub message_beside : {lowest : List ℕ} → lowest ≡ lowest_line n (lines_in scratch n) → MessageBeside n (get_or lowest receiver 0) k scratch sends receipts
   unfolding lowest_line process_at
-  may_ask =
+  message_beside lowest_is =
       let numbers = tabulate n (lowest_at n (lines_in scratch n)) in
       let size = length-tabulate n (lowest_at n (lines_in scratch n)) in
-      let there = message_there beside.known l in
       record {
-        holds = beside.holds;
+        holds = holds;
         there = there;
         lowest_is =
-            ap₂ (λ (xs : List ℕ) (i : ℕ). get_or xs i 0) beside.lowest_is read ∙ array_at numbers (omega (arith, size, beside.holds.few)) _
+            ap₂ (λ (xs : List ℕ) (i : ℕ). get_or xs i 0) lowest_is read ∙ array_at numbers (omega (arith, size, holds.few)) _
             ∙ get_or_tabulate n (lowest_at n (lines_in scratch n)) _ 0 there.receiver_known;
       }
 
--- what it tests of message k
+-- what a loop over the messages tests of message k
 abbrev pub keeps_at : ℕ → List ℕ → List ℕ → List ℕ → ℕ → Bool
 keeps_at n scratch sends receipts k = is_kept n (lines_in scratch n) (message_at sends receipts k)
 
--- ---- a loop that counts the kept checkpoints, process by process
--- the kept checkpoints of process i
-abbrev kept_at : ℕ → List ℕ → List ℕ → ℕ → List Checkpoint
-kept_at n scratch counts i = checkpoints_at i (kept_of n (lines_in scratch n) i (count_at counts i))
+-- ---- the kept checkpoints of n processes, counted one process after another
+module _ (n : ℕ) (line : ℕ → Line) (counts : List ℕ) where
+  -- how many of process i are kept
+  abbrev pub kept_number : ℕ → ℕ
+  kept_number i = length (kept_of n line i (count_at counts i))
 
-pub record Totalling (n : ℕ) (scratch counts : List ℕ) (total i : ℕ) : Type 0 where
-  pub within : i ≤ n
-  pub small : total ≤ 65536 * i
-  pub number : total ≡ length (rows (kept_at n scratch counts) i)
+  pub checkpoints_counted : sum (map kept_number (range_with_len 0 n)) ≡ length (checkpoints_of n line counts)
+  unfolding checkpoints_of checkpoints_at
+  checkpoints_counted =
+      sum_of_sizes _ kept_number (λ i. sym (length-map (kept_of n line i (count_at counts i)) (λ (c : ℕ). record { process = i; number = c }))) n
 
-module _ {n : ℕ} {scratch counts : List ℕ} where
-  pub totalling_none : Totalling n scratch counts 0 0
-  unfolding rows
-  totalling_none = record { within = zero-le; small = zero-le; number = refl }
-
-  module _ {total i : ℕ} (h : Totalling n scratch counts total i) where
-    -- the number r of checkpoints that are kept of process i, and its count, as they were read
-    module _ {count r : ℕ} (read : count ≡ u16_at counts (2 * i)) (found : r ≡ length (kept_of n (lines_in scratch n) i count)) where
-      pub totalling_adds : r ≤ count
-      unfolding kept_of
-      totalling_adds = omega (arith, select_small (shows n (lines_in scratch n) i) count)
-
-      pub totalling_more : i < n → count ≤ 65536 → Totalling n scratch counts (total + r) (i + 1)
-      unfolding count_at checkpoints_at
-      totalling_more l b = record {
-        within = omega arith;
-        small = omega (arith, h.small, totalling_adds);
-        number =
-            let f = kept_at n scratch counts in
-            omega (arith, h.number, ap length (rows_more f i), length-append (rows f i) (f i), this_many);
-      }
-        where
-          this_many : r ≡ length (kept_at n scratch counts i)
-          this_many =
-              found ∙ ap (λ (x : ℕ). length (kept_of n (lines_in scratch n) i x)) read
-              ∙ sym (length-map (kept_of n (lines_in scratch n) i (u16_at counts (2 * i))) (λ c. record { process = i; number = c }))
-
-    pub totalling_all : n ≤ i → total ≡ length (checkpoints_of n (lines_in scratch n) counts)
-    unfolding checkpoints_of
-    totalling_all l = subst (λ (j : ℕ). total ≡ length (rows (kept_at n scratch counts) j)) (le_antisymm h.within l) h.number
+  pub checkpoints_few : n ≤ most_processes → sum (map kept_number (range_with_len 0 n)) ≤ 1024
+  unfolding kept_of shows
+  checkpoints_few few =
+      let most = rows_most (λ i. kept_of n line i (count_at counts i)) n n (λ i _. select_few (λ k. line k i) n (count_at counts i)) in
+      omega (arith, sum_of_sizes (λ i. kept_of n line i (count_at counts i)) kept_number (λ i. refl) n, most, mul-le-mul few few)

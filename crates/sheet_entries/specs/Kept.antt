@@ -1,18 +1,23 @@
 -- Of the code: what n lines say is kept, the line of holder k being `line k`. The laws join these to the keep sheet
 -- of a table. Assumes nothing.
-use Rattle.std.specs.Prelude.{Bool, ◌||◌, List, map, ◌≡◌, ℕ, zero, suc, min, eqb}
+use Rattle.std.specs.Prelude.{Bool, ◌||◌, List, map, Option, Some, None, ◌≡◌, ℕ, zero, suc, ◌<◌, min, eqb}
 use Rattle.consistency.specs.Lines.{Line}
 use Rattle.holder_lines.specs.Scratch.{HoldsLines, lines_in}
 use Rattle.keep_sheet.specs.Sheet.{Checkpoint, crosses}
 use Rattle.tables.specs.Arrays.{array_of}
 use Rattle.tables.specs.Format.{count_at, message_at, process_at}
-use Rattle.tables.specs.Lists.{any_below, rows, select, tabulate}
+use Rattle.tables.specs.Lists.{First, any_below, rows, select, tabulate}
 use Rattle.tables.specs.Parts.{MessageThere}
 use Rattle.tables.specs.Table.{Message}
 
 -- Some line has checkpoint c at process i.
 unfoldable pub shows : ℕ → (ℕ → Line) → ℕ → ℕ → Bool
 shows n line i c = any_below n (λ k. eqb (line k i) c)
+
+-- The first number from a start on, below a limit, that passes a test, where there is one.
+abbrev pub FirstBelow : (ℕ → Bool) → ℕ → ℕ → Option ℕ → Type 0
+FirstBelow test from limit None = First test from limit limit
+FirstBelow test from limit (Some c) = First test from limit c × (c < limit)
 
 -- The checkpoints of process i below a count that some line has, by number, rising.
 unfoldable pub kept_of : ℕ → (ℕ → Line) → ℕ → ℕ → List ℕ

@@ -2,7 +2,7 @@
 --     put_written, put_length           what a writer has put; the buffer's length
 --     put_room, put_then                more after what was put
 --     PuttingNumbers, putting-..        a loop that puts one after another
---     LayingColumn, laying-..           the loop over the kept checkpoints of a process
+--     column_below, laying-..           the loop over the kept checkpoints of a process
 --     rows_none, row_room, row_more     a loop that puts one list after another
 --     select_none, picked_skip, picked_room, picked_more    one that puts the numbers that pass a test
 --     put_low                           numbers put by their low 16 bits
@@ -14,9 +14,9 @@ use Prim.Native.Nat.{ℕ, ◌+◌, ◌*◌, ◌%◌, ◌≤◌, ◌<◌, zero-le
 use native.Mathlib.Nat.{le_antisymm}
 use native.Mathlib.Omega.{arith}
 use lib.ListN.{length, length-append, length-map}
-use Rattle.tables.proofs.ListLaws.{map-append, rows_more, rows_room, select_more, select_room, select_skip}
+use Rattle.tables.proofs.ListLaws.{map-append, rows_more, rows_room, select_gap, select_more, select_room, select_skip}
 use Rattle.tables.proofs.NumberLaws.{length-put_at, length-u16s, put_at_more, put_at_none, u16s-append}
-use Rattle.tables.proofs.SelectLaws.{AtPassing, at_first, select-first, select_next}
+use Rattle.sheet_entries.proofs.SearchLaws.{select_last, select_next}
 use Rattle.tables.specs.Lists.{First, rows, select}
 use Rattle.tables.specs.Numbers.{bytes_of, bytes_of_all, put_at, u16_bytes, u16s}
 use Rattle.sheet_writer.specs.SheetParts.{column_at, number_in}
@@ -83,37 +83,42 @@ module _ {f : ℕ → List ℕ} {n : ℕ} {before : List ℕ} {at : ℕ} where
     pub putting_all : n ≤ k → Put before after at (f n) next
     putting_all l = subst (λ (j : ℕ). Put before after at (f j) next) (le_antisymm h.within l) h.put
 
--- ---- the loop over the kept checkpoints of process i, for one array of the sheet
-pub record LayingColumn (test : ℕ → Bool) (limit : ℕ) (column : Column) (i : ℕ) (before : List ℕ) (at : ℕ) (after : List ℕ) (next c : ℕ)
-    : Type 0 where
-  pub here : AtPassing test limit c
-  pub putting : PuttingNumbers (λ d. column_at column i (select test d)) limit before at after next c
+-- ---- the loop over the kept checkpoints of process i, for one array of the sheet, that has put those below c
+abbrev pub column_below : (ℕ → Bool) → Column → ℕ → ℕ → List ℕ
+column_below test column i c = column_at column i (select test c)
 
-module _ {test : ℕ → Bool} {limit : ℕ} {column : Column} {i : ℕ} {before : List ℕ} {at : ℕ} where
-  pub laying_first : {c : ℕ} → First test 0 limit c → at + 2 * length (column_at column i (select test limit)) ≤ length before
-      → LayingColumn test limit column i before at before at c
-  unfolding column_at
-  laying_first f room =
-      record { here = at_first f; putting = putting_none f.within (ap (column_at column i) (select-first f)) room }
+module _ (test : ℕ → Bool) (column : Column) (i : ℕ) {limit : ℕ} {before : List ℕ} {at : ℕ} where
+  pub laying_none : at + 2 * length (column_below test column i limit) ≤ length before
+      → PuttingNumbers (column_below test column i) limit before at before at 0
+  unfolding column_at select
+  laying_none room = putting_none zero-le refl room
 
-  module _ {after : List ℕ} {next c : ℕ} (h : LayingColumn test limit column i before at after next c) (l : c < limit) where
-    fits : length (column_at column i (select test c)) + 1 ≤ length (column_at column i (select test limit))
-    unfolding column_at
-    fits = simp length-map (select_room test c limit l (h.here.passes l))
+  module _ {after : List ℕ} {next from : ℕ} (h : PuttingNumbers (column_below test column i) limit before at after next from) where
+    -- c is the next that is kept
+    module _ {c : ℕ} (f : First test from limit c) (l : c < limit) where
+      same : select test c ≡ select test from
+      same = select_gap test from c f.from_on f.none_before
 
-    pub laying_room : next + 1 < length after
-    laying_room = omega (arith, putting_room h.putting 1 fits)
+      fits : length (column_below test column i from) + 1 ≤ length (column_below test column i limit)
+      unfolding column_at
+      fits = simp length-map (omega (arith, ap length same, select_room test c limit l (f.passes l)))
 
-    -- the number v of checkpoint c was put
-    pub laying_more : {v : ℕ} {later : List ℕ} {end d : ℕ} → v ≡ number_in column i c → Put after later next (v ∷ []) end
-        → First test (c + 1) limit d → LayingColumn test limit column i before at later end d
-    unfolding column_at
-    laying_more {v} {d = d} e put f = record { here = at_first f; putting = putting_more h.putting put f.within grown fits }
-      where
-        grown : column_at column i (select test d) ≡ column_at column i (select test c) ++ (v ∷ [])
-        grown =
-            ap (column_at column i) (select_next h.here l f) ∙ map-append (number_in column i) (select test c) (c ∷ [])
-            ∙ ap (λ (x : ℕ). column_at column i (select test c) ++ (x ∷ [])) (sym e)
+      pub laying_room : next + 1 < length after
+      laying_room = omega (arith, putting_room h 1 fits)
+
+      -- its number v was put
+      pub laying_more : {v : ℕ} {later : List ℕ} {end : ℕ} → v ≡ number_in column i c → Put after later next (v ∷ []) end
+          → PuttingNumbers (column_below test column i) limit before at later end (c + 1)
+      unfolding column_at
+      laying_more {v} e put = putting_more h put (omega arith) grown fits
+        where
+          grown : column_below test column i (c + 1) ≡ column_below test column i from ++ (v ∷ [])
+          grown =
+              ap (column_at column i) (select_next f l) ∙ map-append (number_in column i) (select test from) (c ∷ [])
+              ∙ ap (λ (x : ℕ). column_below test column i from ++ (x ∷ [])) (sym e)
+
+    pub laying_all : First test from limit limit → Put before after at (column_below test column i limit) next
+    laying_all f = rw (ap (column_at column i) (select_last f)) h.put
 
 -- ---- a loop that puts one list after another
 pub rows_none : (f : ℕ → List ℕ) {n : ℕ} {before : List ℕ} {at : ℕ} → at + 2 * length (rows f n) ≤ length before

@@ -13,6 +13,7 @@ ghost use Rattle.sheet_writer.specs.SheetParts.{CanPutSheet};
 
 use crate::writer::SheetWriter;
 use crate::writing::{Column, Part};
+use holder_lines::scratch::HeldLines;
 use sheet_entries::{checkpoints, messages};
 use tables::parts;
 
@@ -22,7 +23,11 @@ pub fn count_checkpoints(table: &[u8], scratch: &[u16]) -> usize
     ensures { result ≡ length (kept_checkpoints (decode table.now)) }
 {
     let n = parts::process_count(table);
-    checkpoints::count_kept(scratch, n, parts::counts(table))
+    let lines = HeldLines {
+        numbers: scratch,
+        n,
+    };
+    checkpoints::count_kept(lines, parts::counts(table))
 }
 
 // Q, the number of messages that are kept.
@@ -31,8 +36,12 @@ pub fn count_messages(table: &[u8], scratch: &[u16]) -> usize
     ensures { result ≡ length (kept_messages (decode table.now)) }
 {
     let n = parts::process_count(table);
+    let lines = HeldLines {
+        numbers: scratch,
+        n,
+    };
     let m = parts::message_count(table);
-    messages::count_kept(scratch, n, parts::sends(table), parts::receipts(table), m)
+    messages::count_kept(lines, parts::sends(table), parts::receipts(table), m)
 }
 
 // Writes the keep sheet, given K and Q, to the front of a buffer that has room for it.

@@ -1,27 +1,28 @@
 // The numbers of a keep sheet, put into a buffer one after another, part by part. Each function answers
 // the next place.
 ghost use Rattle.std.specs.Prelude.{◌∷◌, [], ◌≡◌, ◌+◌, ◌*◌, ◌<◌, ◌≤◌, length};
-ghost use Rattle.holder_lines.specs.Scratch.{HoldsLines, lines_in};
+ghost use Rattle.holder_lines.specs.Held.{line_held};
 ghost use Rattle.sheet_entries.specs.Kept.{kept_of, positions_of};
 ghost use Rattle.sheet_writer.specs.SheetParts.{CanPut, column_at, column_of, number_in, numbers_of};
 ghost use Rattle.sheet_writer.specs.Writing.{Put};
 ghost use Rattle.tables.specs.Format.{decode};
 ghost use Rattle.tables.specs.Parts.{Counts, Messages};
 
+use holder_lines::scratch::HeldLines;
 use sheet_entries::checkpoints::next_kept;
 use sheet_entries::messages::{is_kept, lowest_line};
 use tables::numbers::{put_u16, u16_at};
 use tables::parts;
 
 // The two arrays of the kept checkpoints: their processes, and their numbers.
-#[derive(Clone, Copy)]
+#[derive(Clone, Copy, PartialEq, Eq, Debug)]
 pub enum Column {
     Process,
     Number,
 }
 
 // The parts of a keep sheet: K and Q, an array of the kept checkpoints, and the positions.
-#[derive(Clone, Copy)]
+#[derive(Clone, Copy, PartialEq, Eq, Debug)]
 pub enum Part {
     Sizes(usize, usize),
     Kept(Column),
@@ -61,48 +62,42 @@ fn put_process(
     buffer: &mut [u8],
     at: usize,
     column: Column,
-    scratch: &[u16],
-    n: usize,
+    lines: HeldLines,
     i: usize,
     count: u16,
 ) -> usize
-    requires holds_lines { HoldsLines n scratch.now }
-    requires i_lt_n { i < n }
-    requires count_in_bounds { at + 2 * length (column_at column i (kept_of n (lines_in scratch.now n) i count))
+    requires i_lt_n { i < lines.n }
+    requires count_in_bounds { at + 2 * length (column_at column i (kept_of lines.n (line_held lines) i count))
         ≤ length buffer.old }
     ensures { Put buffer.old buffer.new at
-        (column_at column i (kept_of n (lines_in scratch.now n) i count)) result }
+        (column_at column i (kept_of lines.entry.n (line_held lines.entry) i count)) result }
 {
     let mut next = at;
-    let mut checkpoint = next_kept(scratch, n, i, 0, count);
-    while checkpoint < count {
+    let mut from = 0;
+    while let Some(checkpoint) = next_kept(lines, i, from, count) {
         next = put_number(buffer, next, number_of(column, i as u16, checkpoint));
-        checkpoint = next_kept(scratch, n, i, checkpoint + 1, count);
+        from = checkpoint + 1;
     }
     next
 }
 
-// Puts one array of the kept checkpoints of n processes.
+// Puts one array of the kept checkpoints of the processes.
 fn put_column(
     buffer: &mut [u8],
     at: usize,
     column: Column,
-    scratch: &[u16],
-    n: usize,
+    lines: HeldLines,
     counts: &[u8],
 ) -> usize
-    requires holds_lines { HoldsLines n scratch.now }
-    requires counts { Counts n counts.now }
-    requires counts_in_bounds { at + 2 * length (column_of column n (lines_in scratch.now n) counts.now)
+    requires counts { Counts lines.n counts.now }
+    requires counts_in_bounds { at + 2 * length (column_of column lines.n (line_held lines) counts.now)
         ≤ length buffer.old }
     ensures { Put buffer.old buffer.new at
-        (column_of column n (lines_in scratch.now n) counts.now) result }
+        (column_of column lines.entry.n (line_held lines.entry) counts.now) result }
 {
     let mut next = at;
-    let mut i = 0;
-    while i < n {
-        next = put_process(buffer, next, column, scratch, n, i, u16_at(counts, 2 * i));
-        i += 1;
+    for i in 0..lines.n {
+        next = put_process(buffer, next, column, lines, i, u16_at(counts, 2 * i));
     }
     next
 }
@@ -111,31 +106,23 @@ fn put_column(
 fn put_positions(
     buffer: &mut [u8],
     at: usize,
-    scratch: &[u16],
-    n: usize,
+    lines: HeldLines,
     sends: &[u8],
     receipts: &[u8],
     m: usize,
 ) -> usize
-    requires holds_lines { HoldsLines n scratch.now }
-    requires messages { Messages n m sends.now receipts.now }
-    requires m_in_bounds { at + 2 * length (positions_of n (lines_in scratch.now n) sends.now receipts.now m)
+    requires messages { Messages lines.n m sends.now receipts.now }
+    requires m_in_bounds { at + 2 * length (positions_of lines.n (line_held lines) sends.now receipts.now m)
         ≤ length buffer.old }
     ensures { Put buffer.old buffer.new at
-        (positions_of n (lines_in scratch.now n) sends.now receipts.now m) result }
+        (positions_of lines.entry.n (line_held lines.entry) sends.now receipts.now m) result }
 {
-    let lowest = lowest_line(scratch, n);
+    let lowest = lowest_line(lines);
     let mut next = at;
-    let mut k = 0;
-    while k < m {
-        let position = k;
-        let receiver = u16_at(receipts, 4 * k) as usize;
-        let keep = is_kept(scratch, n, lowest[receiver], sends, receipts, k);
-        k += 1;
-        if !keep {
-            continue;
+    for position in 0..m {
+        if is_kept(lines, &lowest, sends, receipts, position) {
+            next = put_number(buffer, next, position as u16);
         }
-        next = put_number(buffer, next, position as u16);
     }
     next
 }
@@ -147,14 +134,17 @@ pub fn put_part(buffer: &mut [u8], at: usize, part: Part, table: &[u8], scratch:
         (numbers_of part (decode table.now)) result }
 {
     let n = parts::process_count(table);
+    let lines = HeldLines {
+        numbers: scratch,
+        n,
+    };
     match part {
         Part::Sizes(kept, logged) => put_sizes(buffer, at, kept, logged),
-        Part::Kept(column) => put_column(buffer, at, column, scratch, n, parts::counts(table)),
+        Part::Kept(column) => put_column(buffer, at, column, lines, parts::counts(table)),
         Part::Positions => put_positions(
             buffer,
             at,
-            scratch,
-            n,
+            lines,
             parts::sends(table),
             parts::receipts(table),
             parts::message_count(table),

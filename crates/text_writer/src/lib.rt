@@ -23,10 +23,8 @@ pub fn put_word(text: &mut [u8], at: usize, word: &[u8]) -> usize
     ensures { Laid text.old text.new at word.now result }
 {
     let mut next = at;
-    let mut i = 0;
-    while i < word.len() {
-        next = put_byte(text, next, word[i]);
-        i += 1;
+    for byte in word {
+        next = put_byte(text, next, *byte);
     }
     next
 }
@@ -58,10 +56,8 @@ pub fn put_fields(text: &mut [u8], at: usize, numbers: &[u16]) -> usize
     ensures { Laid text.old text.new at (each field numbers.now) result }
 {
     let mut next = at;
-    let mut i = 0;
-    while i < numbers.len() {
-        next = put_field(text, next, numbers[i] as u32);
-        i += 1;
+    for n in numbers {
+        next = put_field(text, next, u32::from(*n));
     }
     next
 }

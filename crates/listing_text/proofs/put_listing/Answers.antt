@@ -41,13 +41,13 @@ pub put_line-after_line-requires : goal.put_line-after_line-requires
 put_line-after_line-requires c =
     part_room (listing_left (reading (goal.at.put_line-after_line-requires c).After-recovery_line-line) {before = []} refl)
 
+pub invariant_of-lines : goal.invariant_of-lines
+invariant_of-lines c = record { holds = holds_lines (reading (goal.at.invariant_of-lines c).After-recovery_line-line) }
+
 pub put_holds-after_holds-requires : goal.put_holds-after_holds-requires
 put_holds-after_holds-requires c =
     let here = reading (goal.at.put_holds-after_holds-requires c).After-recovery_line-line in
-    record {
-      holds_lines = holds_lines here;
-      fits = part_room (part_laid (listing_left here refl) c.put_line-after_line.ensures);
-    }
+    part_room (part_laid (listing_left here refl) c.put_line-after_line.ensures)
 
 pub put_checkpoints-after_checkpoints-requires : goal.put_checkpoints-after_checkpoints-requires
 put_checkpoints-after_checkpoints-requires c =

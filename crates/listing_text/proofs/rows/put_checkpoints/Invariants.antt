@@ -1,12 +1,8 @@
--- `rows::put_checkpoints` meets its contract. The invariant: the rows of the first e checkpoints are laid (`Laying`). The measure: the rows that are left.
-use Prim.Native.Nat.{◌-◌}
+-- The rows of the first e checkpoints are laid.
 use Rattle.text_writer.proofs.TextLaws.{Laying}
 use Rattle.listings.specs.Listing.{checkpoint_row}
 use Rattle.listing_text.specs.Rows.{checkpoint_at, checkpoint_rows}
 use Rattle.listing_text.proofs.rows.put_checkpoints.Given as goal
 
 abbrev pub invariant-loop-e : goal.invariant-loop-e
-invariant-loop-e l = Laying (λ j. checkpoint_row (checkpoint_at l.sheet l.k j)) l.k (checkpoint_rows l.sheet l.k) l.initial.text l.at l.text l.next l.e
-
-abbrev pub decreases-loop-e : goal.decreases-loop-e
-decreases-loop-e l = l.k - l.e
+invariant-loop-e l = Laying (λ j. checkpoint_row (checkpoint_at l.sheet l.k j)) l.k (checkpoint_rows l.sheet l.k) l.fn.text l.at l.text l.next l.e

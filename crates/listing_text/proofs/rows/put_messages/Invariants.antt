@@ -1,5 +1,5 @@
--- `rows::put_messages` meets its contract. The invariant: the rows of the first e positions are laid (`Laying`). The measure: the rows that are left.
-use Prim.Native.Nat.{◌+◌, ◌-◌, ◌*◌}
+-- The rows of the first e positions are laid.
+use Rattle.std.proofs.Common.{◌+◌, ◌*◌}
 use Rattle.text_writer.proofs.TextLaws.{Laying}
 use Rattle.listings.specs.Listing.{message_row}
 use Rattle.listing_text.specs.Rows.{message_rows}
@@ -7,7 +7,4 @@ use Rattle.tables.specs.Numbers.{u16_at}
 use Rattle.listing_text.proofs.rows.put_messages.Given as goal
 
 abbrev pub invariant-loop-e : goal.invariant-loop-e
-invariant-loop-e l = Laying (λ j. message_row (u16_at l.sheet (4 + 4 * l.k + 2 * j))) l.q (message_rows l.sheet l.k l.q) l.initial.text l.at l.text l.next l.e
-
-abbrev pub decreases-loop-e : goal.decreases-loop-e
-decreases-loop-e l = l.q - l.e
+invariant-loop-e l = Laying (λ j. message_row (u16_at l.sheet (4 + 4 * l.k + 2 * j))) l.q (message_rows l.sheet l.k l.q) l.fn.text l.at l.text l.next l.e

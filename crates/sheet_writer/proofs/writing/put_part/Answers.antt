@@ -9,15 +9,20 @@ pub put_sizes-requires : goal.put_sizes-requires
 put_sizes-requires c =
     rw (← sizes_are c.in-Sizes.is) at c.requires.room
 
+pub invariant_of-lines : goal.invariant_of-lines
+invariant_of-lines c = record { holds = holds_lines c.requires.given c.process_count-n.ensures }
+
 pub put_column-requires : goal.put_column-requires
 put_column-requires c =
     let counts = counts_known _ c.requires.given.accepted c.process_count-n.ensures c.counts.ensures in
     let numbers = column_is c.requires.given c.process_count-n.ensures c.counts.ensures c.in-Kept.is in
     record {
-      holds_lines = holds_lines c.requires.given c.process_count-n.ensures;
       counts = counts;
       counts_in_bounds = rw numbers c.requires.room;
     }
+
+pub invariant_of-lines-in-Positions : goal.invariant_of-lines-in-Positions
+invariant_of-lines-in-Positions c = record { holds = holds_lines c.requires.given c.process_count-n.ensures }
 
 pub put_positions-requires : goal.put_positions-requires
 put_positions-requires c =
@@ -25,7 +30,6 @@ put_positions-requires c =
     c.receipts.result.now = messages_read c.requires.given.accepted c.message_count.ensures c.sends.ensures c.receipts.ensures in
     let numbers = positions_are c.requires.given c.process_count-n.ensures messages c.in-Positions.is in
     record {
-      holds_lines = holds_lines c.requires.given c.process_count-n.ensures;
       messages = messages_known messages (omega (arith, c.process_count-n.ensures));
       m_in_bounds = rw numbers c.requires.room;
     }

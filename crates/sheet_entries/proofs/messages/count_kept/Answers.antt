@@ -1,0 +1,22 @@
+-- The messages that are kept are counted.
+use Rattle.std.proofs.Common.{ap, arith, rules, ◌∙◌}
+use borrow.Author.Tests.{tests}
+use lib.ListN.{length}
+use Rattle.std.proofs.lemmas.Iterator.{YieldsList-from_range, serves_from_Range}
+use Rattle.std.proofs.lemmas.Iterator.Consumers.{YieldsList-from_filter, count_from_yields_List}
+use Rattle.sheet_entries.proofs.ChainLaws.{filter_of_range}
+use Rattle.sheet_entries.proofs.SearchLaws.{keeps_at}
+use Rattle.tables.proofs.ReadLaws.{message_there}
+use Rattle.sheet_entries.specs.Kept.{positions_of}
+use Rattle.sheet_entries.proofs.messages.count_kept.Goals as goal
+
+pub count-requires-clause-can : goal.count-requires-clause-can
+count-requires-clause-can c = (tt, tt, serves_from_Range (λ x q k. search rules) (λ x a b. search (rules, message_there)))
+
+pub returns : goal.returns
+unfolding positions_of
+returns c =
+    count_from_yields_List c.filter.result c.count.result c.count.ensures.ran
+    (YieldsList-from_filter _ (keeps_at c.args.lines.n c.args.lines.numbers.now c.args.sends.now c.args.receipts.now)
+    (YieldsList-from_range 0 c.args.m c.args.m c.filter.ensures.source (omega arith)) c.filter.ensures.closure (λ x b q k. search (rules, tests)))
+    ∙ ap length (filter_of_range _ c.args.m)
