@@ -182,6 +182,18 @@ pub fn numbers<W: Write>(out: &mut W, bytes: &[u8]) -> io::Result<()> {
     Ok(())
 }
 
+// Prints what a call answers: its number, what stands at `written` afterwards and the numbers of its answer.
+pub fn answered<W: Write>(
+    out: &mut W,
+    number: u32,
+    written: usize,
+    answer: &[u8],
+) -> io::Result<()> {
+    value(out, u64::from(number))?;
+    value(out, written as u64)?;
+    numbers(out, answer)
+}
+
 // A checksum of some bytes.
 #[tactic(auto, unfolding(crate::specs::Buffers::checksum_of))]
 fn checksum(bytes: &[u8]) -> u64

@@ -82,6 +82,21 @@ impl Line {
         self.numbers.map(|number| (number % 65536) as u16)
     }
 
+    // Number i, as a set of processes.
+    pub fn set(&self, i: usize) -> u32
+        requires { i < 16 }
+        ensures { result ≡ get_or self.now.numbers i 0 % 4294967296 }
+    {
+        (self.numbers[i] % 4294967296) as u32
+    }
+
+    // The numbers, as sets of processes.
+    pub fn sets(&self) -> [u32; 16]
+        ensures { result ≡ tabulate 16 (λ i. get_or self.now.numbers i 0 % 4294967296) }
+    {
+        self.numbers.map(|number| (number % 4294967296) as u32)
+    }
+
     // Number i, as a size.
     pub fn size(&self, i: usize) -> usize
         requires { i < 16 }

@@ -4,4 +4,4 @@ use Rattle.test_script.proofs.ScriptLaws.{is_tabulated}
 use Rattle.test_script.proofs.Line.smalls.Goals as goal
 
 pub returns : goal.returns
-returns c = is_tabulated _ 16 _ 0 c.map.ensures.items.long (λ k l. let h = c.map.ensures.items.at k 0 0 l in let b = h.2 in search rules)
+returns c = is_tabulated _ 16 _ 0 c.map.ensures.items.long (λ k l. let given = (c.map.ensures.items.at k 0 0 l).2 in search rules)
