@@ -105,9 +105,7 @@ fn ask(
         Call::Hold => keeper::keeper_line_of_set(table, line.set(0), answer, written),
         Call::Under => line_under(table, line, answer, written),
         Call::Stand => stand_together(table, line, answer, written),
-        Call::Send => {
-            keeper::keeper_send(table, line.small(0), line.small(1), answer, written)
-        }
+        Call::Send => { keeper::keeper_send(table, line.small(0), line.small(1), answer, written) }
         Call::Deliver => {
             let numbers = line.smalls();
             let received = line.behind(&numbers, 2);

@@ -79,16 +79,28 @@ pub fn sizes(buffer: &mut [u8], n: u16, m: u16, value: u16)
     counts(buffer, n, value);
 }
 
+// N and M of the table in a buffer.
+#[tactic(auto, unfolding(tables::specs::Format::processes_in, tables::specs::Format::messages_in))]
+fn sizes_in(buffer: &[u8]) -> (u16, u16)
+    ensures { (result.0 ≡ processes_in buffer.now) × (result.1 ≡ messages_in buffer.now) }
+{
+    (u16_or_zero(buffer, 0), u16_or_zero(buffer, 2))
+}
+
 // Writes message k: from checkpoint y of j to checkpoint r of i.
-#[tactic(auto, unfolding(crate::specs::Tables::with_message, tables::specs::Format::processes_in, tables::specs::Format::messages_in))]
+#[tactic(auto, unfolding(crate::specs::Tables::with_message))]
 pub fn message(buffer: &mut [u8], k: u16, j: u16, y: u16, i: u16, r: u16)
     ensures { buffer.new ≡ with_message buffer.old k j y i r }
 {
-    let n = usize::from(u16_or_zero(buffer, 0));
-    let m = usize::from(u16_or_zero(buffer, 2));
+    let (n, m) = sizes_in(buffer);
     let place = 4 * usize::from(k);
-    entry(buffer, sends_at(n) + place, j, y);
-    entry(buffer, receipts_at(n, m) + place, i, r);
+    entry(buffer, sends_at(usize::from(n)) + place, j, y);
+    entry(
+        buffer,
+        receipts_at(usize::from(n), usize::from(m)) + place,
+        i,
+        r,
+    );
 }
 
 // Writes every message alike.
@@ -109,14 +121,11 @@ pub fn first(buffer: &[u8], len: usize) -> &[u8]
 }
 
 // The length that the sizes of a table give.
-#[tactic(auto, unfolding(tables::specs::Format::processes_in, tables::specs::Format::messages_in))]
 pub fn length_of(buffer: &[u8]) -> usize
     ensures { result ≡ table_length (processes_in buffer.now) (messages_in buffer.now) }
 {
-    table_length(
-        usize::from(u16_or_zero(buffer, 0)),
-        usize::from(u16_or_zero(buffer, 2)),
-    )
+    let (n, m) = sizes_in(buffer);
+    table_length(usize::from(n), usize::from(m))
 }
 
 // Writes a domino of two processes and m messages: each one, once its receiver is put back, makes the
