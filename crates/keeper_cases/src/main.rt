@@ -21,7 +21,7 @@
 // LEN as its second number.
 #![tactic(auto)]
 
-ghost use Rattle.std.specs.Prelude.{◌≡◌, ◌+◌, ◌≤◌, length};
+ghost use Rattle.std.specs.Prelude.{IfOk, ◌≡◌, ◌+◌, ◌≤◌, length};
 ghost use Rattle.keeper_cases.specs.Places.{line_numbers, scratch_size};
 ghost use Rattle.test_kit.specs.Guards.{guards, most_room, space_size};
 
@@ -105,7 +105,7 @@ fn ask(
         Call::Hold => keeper::keeper_line_of_set(table, line.set(0), answer, written),
         Call::Under => line_under(table, line, answer, written),
         Call::Stand => stand_together(table, line, answer, written),
-        Call::Send => { keeper::keeper_send(table, line.small(0), line.small(1), answer, written) }
+        Call::Send => keeper::keeper_send(table, line.small(0), line.small(1), answer, written),
         Call::Deliver => {
             let numbers = line.smalls();
             let received = line.behind(&numbers, 2);
@@ -153,7 +153,7 @@ fn show_lines<W: Write>(out: &mut W, lines: &[u8]) -> io::Result<()> {
 }
 
 // Prints what a call left in the guarded buffer and in the guarded scratch, and `ok` if the rest of both
-// is as it was. Says where the answer ends.
+// is as it was. Says how long the answer is.
 fn show<W: Write>(
     out: &mut W,
     sheet: bool,
@@ -166,6 +166,7 @@ fn show<W: Write>(
 ) -> io::Result<usize>
     requires scratch_len { length scratch.now ≡ scratch_size }
     requires room_le_most_room { (room ≤ most_room) × (guards + room ≤ length space.now) }
+    ensures { IfOk result (λ len. len ≤ most_room) }
 {
     let to = answer_end(number, written, room);
     let lines_at = 2 * GUARDS;
@@ -177,11 +178,11 @@ fn show<W: Write>(
     if is_guarded(space, GUARDS, to) && is_guarded(&bytes, lines_at, lines_end) {
         word(out, b" ok")?;
     }
-    Ok(to)
+    Ok(to - GUARDS)
 }
 
 // Makes the call that a line asks for, with a lent part of the guarded scratch and a room inside the
-// guarded buffer, and prints what it left. Says where the answer ends in the guarded buffer.
+// guarded buffer, and prints what it left. Says how long the answer is.
 fn guarded_call<W: Write>(
     out: &mut W,
     text: &[u8],
@@ -191,16 +192,17 @@ fn guarded_call<W: Write>(
     space: &mut [u8],
 ) -> io::Result<usize>
     requires { (length scratch.old ≡ scratch_size) × (length space.old ≡ space_size) }
+    ensures { IfOk result (λ len. len ≤ most_room) }
 {
     let Some(call) = call_of(text) else {
-        return Ok(GUARDS);
+        return Ok(0);
     };
     // The keep sheet's alone has a scratch.
     let sheet = call == Call::Sheet;
     let lent = if sheet { line.size(0) } else { 0 };
     let room = room_of(call, line);
     if MOST_LENT < lent || MOST_ROOM < room {
-        return Ok(GUARDS);
+        return Ok(0);
     }
     let lent_end = GUARDS + lent;
     let room_end = GUARDS + room;
@@ -215,12 +217,12 @@ fn guarded_call<W: Write>(
     );
     asked(out, text)?;
     let n = usize::from(run_table::run_table_processes(table));
-    let answer_end = show(out, sheet, number, written, n, scratch, space, room)?;
+    let len = show(out, sheet, number, written, n, scratch, space, room)?;
     end(out)?;
-    Ok(answer_end)
+    Ok(len)
 }
 
-// Answers a line with new guards, and says where its answer ends in the guarded buffer.
+// Answers a line with new guards, and says how long its answer in the guarded buffer is.
 fn answer<W: Write>(
     out: &mut W,
     text: &[u8],
@@ -229,6 +231,7 @@ fn answer<W: Write>(
     space: &mut [u8],
 ) -> io::Result<usize>
     requires { length space.old ≡ space_size }
+    ensures { IfOk result (λ len. len ≤ most_room) }
 {
     comment(out, text)?;
     let mut scratch = [42405u16; SCRATCH];
@@ -243,12 +246,14 @@ fn answer<W: Write>(
     )
 }
 
-// Keeps an answer for `use`, and says how long the one kept is.
-fn keep(kept: &mut [u8], len: usize, space: &[u8], answer_end: usize) -> usize {
-    if GUARDS < answer_end && answer_end <= space.len() {
-        copy(kept, &space[GUARDS..answer_end]);
-        return answer_end - GUARDS;
+// Keeps the answer in the guarded buffer for `use`, if there is one, and says how long the one kept is.
+fn keep(kept: &mut [u8], kept_len: usize, space: &[u8], len: usize) -> usize
+    requires { guards + len ≤ length space.now }
+{
+    if len == 0 {
+        return kept_len;
     }
+    copy(kept, &space[GUARDS..GUARDS + len]);
     len
 }
 
@@ -273,8 +278,8 @@ fn run<W: Write>(
     for text in script.split(|byte| *byte == b'\n') {
         let line = numbers_in(text);
         change(table, text, &line, first(kept, kept_len));
-        let answer_end = answer(out, text, table, &line, space)?;
-        kept_len = keep(kept, kept_len, space, answer_end);
+        let len = answer(out, text, table, &line, space)?;
+        kept_len = keep(kept, kept_len, space, len);
     }
     Ok(())
 }
