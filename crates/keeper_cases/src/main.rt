@@ -21,7 +21,7 @@
 // LEN as its second number.
 #![tactic(auto)]
 
-ghost use Rattle.std.specs.Prelude.{◌≡◌, ◌+◌, ◌-◌, ◌≤◌, drop, length, take};
+ghost use Rattle.std.specs.Prelude.{IfOk, ◌≡◌, ◌+◌, ◌≤◌, length};
 ghost use Rattle.keeper_cases.specs.Places.{line_numbers, scratch_size};
 ghost use Rattle.test_kit.specs.Guards.{guards, most_room, space_size};
 
@@ -31,16 +31,10 @@ use std::io::Write;
 use tables::format::MOST_PROCESSES;
 use test_kit::guards::{GUARDS, MOST_ROOM, answer_end, is_guarded};
 use test_kit::{
-    SPACE, asked, build, comment, copy, end, fill, first, length_of, numbers, value, word,
+    SPACE, answered, asked, build, comment, copy, end, first, length_of, numbers, word,
 };
-use test_script::{
-    Line, MOST_CEILINGS, ceilings_of, lent, line_at, numbers_in, says, size, size_up_to, small,
-    smalls,
-};
+use test_script::{Line, MOST_CEILINGS, extended, numbers_in, says, word_of};
 use whole_input::read_into;
-
-// What `ask` answers of a line that asks for no call: no refusal has this number.
-const NO_CALL: u32 = 4294967295;
 
 // The numbers of the scratch, which is guarded too: a guard there is a number of two bytes 165.
 const SCRATCH: usize = 1216;
@@ -50,56 +44,25 @@ const MOST_LENT: usize = SCRATCH - 2 * GUARDS;
 // Where the two lists of a line that names checkpoints begin among its numbers.
 const NAMES_AT: usize = 3;
 
-// The numbers of a line behind its first two, of which it has so many.
-fn behind_two(numbers: &[u16], count: usize) -> &[u16]
-    requires { (length numbers.now ≡ 16) × (count ≤ 16) }
-    ensures { result.now ≡ take (count - 2) (drop 2 numbers.now) }
-{
-    if count < 2 {
-        return &numbers[2..2];
-    }
-    &numbers[2..count]
-}
-
 // The line under the ceilings of a line.
-fn line_under(table: &[u8], line: Line, answer: &mut [u8], written: &mut usize) -> u32
-    requires { line.count ≤ 16 }
-{
-    let ceilings = ceilings_of(&smalls(&line.numbers), 2, line.count);
-    let count = size_up_to(&line.numbers, 0, MOST_CEILINGS);
-    keeper::keeper_line_under(table, lent(&ceilings, count), answer, written)
-}
-
-// Whether the checkpoints stand together whose processes and numbers are two parts of the numbers of a line.
-fn parts_together(
-    table: &[u8],
-    numbers: &[u16],
-    middle: usize,
-    last: usize,
-    answer: &mut [u8],
-    written: &mut usize,
-) -> u32
-    requires { (3 ≤ middle) × (middle ≤ last) × (last ≤ length numbers.now) }
-{
-    keeper::keeper_stand_together(
-        table,
-        &numbers[NAMES_AT..middle],
-        &numbers[middle..last],
-        answer,
-        written,
-    )
+fn line_under(table: &[u8], line: &Line, answer: &mut [u8], written: &mut usize) -> u32 {
+    let ceilings: [u16; MOST_CEILINGS] = extended(line.behind(&line.smalls(), 2), 0);
+    let count = line.size_up_to(0, MOST_CEILINGS);
+    keeper::keeper_line_under(table, &ceilings[..count], answer, written)
 }
 
 // Whether the checkpoints that a line names stand together.
-fn stand_together(table: &[u8], line: Line, answer: &mut [u8], written: &mut usize) -> u32 {
-    let numbers = smalls(&line.numbers);
-    let middle = NAMES_AT + size_up_to(&line.numbers, 0, 16 - NAMES_AT);
-    let last = middle + size_up_to(&line.numbers, 2, 16 - middle);
-    parts_together(table, &numbers, middle, last, answer, written)
+fn stand_together(table: &[u8], line: &Line, answer: &mut [u8], written: &mut usize) -> u32 {
+    let numbers = line.smalls();
+    let middle = NAMES_AT + line.size_up_to(0, 16 - NAMES_AT);
+    let last = middle + line.size_up_to(2, 16 - middle);
+    let processes = &numbers[NAMES_AT..middle];
+    let checkpoints = &numbers[middle..last];
+    keeper::keeper_stand_together(table, processes, checkpoints, answer, written)
 }
 
 // A call that a line asks for.
-#[derive(Clone, Copy)]
+#[derive(Clone, Copy, PartialEq, Eq, Debug)]
 enum Call {
     Recovery,
     Hold,
@@ -110,107 +73,61 @@ enum Call {
     Save,
     Fall,
     Sheet,
-    Nothing,
 }
 
-// The call of a line, by its word.
-fn call_of(text: &[u8]) -> Call {
-    if says(text, b"recovery") {
-        return Call::Recovery;
+// The call of a line, by its word, if it asks for one.
+fn call_of(text: &[u8]) -> Option<Call> {
+    match word_of(text) {
+        b"recovery" => Some(Call::Recovery),
+        b"hold" => Some(Call::Hold),
+        b"under" => Some(Call::Under),
+        b"stand" => Some(Call::Stand),
+        b"send" => Some(Call::Send),
+        b"deliver" => Some(Call::Deliver),
+        b"save" => Some(Call::Save),
+        b"fall" => Some(Call::Fall),
+        b"sheet" => Some(Call::Sheet),
+        _ => None,
     }
-    if says(text, b"hold") {
-        return Call::Hold;
-    }
-    if says(text, b"under") {
-        return Call::Under;
-    }
-    if says(text, b"stand") {
-        return Call::Stand;
-    }
-    if says(text, b"send") {
-        return Call::Send;
-    }
-    if says(text, b"deliver") {
-        return Call::Deliver;
-    }
-    if says(text, b"save") {
-        return Call::Save;
-    }
-    if says(text, b"fall") {
-        return Call::Fall;
-    }
-    if says(text, b"sheet") {
-        return Call::Sheet;
-    }
-    Call::Nothing
 }
 
 // Makes a call with the numbers of a line, and answers its number.
 fn ask(
     call: Call,
     table: &[u8],
-    line: Line,
+    line: &Line,
     scratch: &mut [u16],
     answer: &mut [u8],
     written: &mut usize,
-) -> u32
-    requires { line.count ≤ 16 }
-{
+) -> u32 {
     match call {
         Call::Recovery => keeper::keeper_recovery_line(table, answer, written),
-        Call::Hold => {
-            let set = (size(&line.numbers, 0) % 4294967296) as u32;
-            keeper::keeper_line_of_set(table, set, answer, written)
-        }
+        Call::Hold => keeper::keeper_line_of_set(table, line.set(0), answer, written),
         Call::Under => line_under(table, line, answer, written),
         Call::Stand => stand_together(table, line, answer, written),
-        Call::Send => keeper::keeper_send(
-            table,
-            small(&line.numbers, 0),
-            small(&line.numbers, 1),
-            answer,
-            written,
-        ),
+        Call::Send => keeper::keeper_send(table, line.small(0), line.small(1), answer, written),
         Call::Deliver => {
-            let numbers = smalls(&line.numbers);
-            let received = behind_two(&numbers, line.count);
-            keeper::keeper_receive(table, small(&line.numbers, 0), received, answer, written)
+            let numbers = line.smalls();
+            let received = line.behind(&numbers, 2);
+            keeper::keeper_receive(table, line.small(0), received, answer, written)
         }
         Call::Save => {
-            let numbers = smalls(&line.numbers);
-            let received = behind_two(&numbers, line.count);
-            keeper::keeper_save(table, small(&line.numbers, 0), received, answer, written)
+            let numbers = line.smalls();
+            let received = line.behind(&numbers, 2);
+            keeper::keeper_save(table, line.small(0), received, answer, written)
         }
         Call::Fall => keeper::keeper_fall_back(table, answer, written),
         Call::Sheet => keeper::keeper_keep_sheet(table, scratch, answer, written),
-        Call::Nothing => NO_CALL,
     }
 }
 
 // The length of a call's answer buffer.
-fn room_of(call: Call, list: &[u64; 16]) -> usize {
+fn room_of(call: Call, line: &Line) -> usize {
     match call {
-        Call::Recovery => size(list, 0),
-        Call::Fall => size(list, 0),
-        Call::Send => size(list, 2),
-        _ => size(list, 1),
+        Call::Recovery | Call::Fall => line.size(0),
+        Call::Send => line.size(2),
+        _ => line.size(1),
     }
-}
-
-// Whether a call is the keep sheet's, which alone has a scratch.
-fn is_sheet(call: Call) -> bool {
-    match call {
-        Call::Sheet => true,
-        _ => false,
-    }
-}
-
-// The length of its scratch.
-fn scratch_of(sheet: bool, list: &[u64; 16]) -> usize {
-    if sheet {
-        return size(list, 0);
-    }
-    0
 }
 
 // How many numbers of the scratch a call for n processes fills: a keep sheet, also under 16, with n
@@ -219,23 +136,16 @@ fn scratch_of(sheet: bool, list: &[u64; 16]) -> usize {
 fn line_numbers(sheet: bool, number: u32, n: usize) -> usize
     ensures { (result ≤ 1024) × (result ≡ line_numbers sheet number n) }
 {
-    if !sheet {
-        return 0;
+    if sheet && n <= MOST_PROCESSES && (number == 0 || number == 16) {
+        n * n
+    } else {
+        0
     }
-    if MOST_PROCESSES < n {
-        return 0;
-    }
-    if number != 0 {
-        if number != 16 {
-            return 0;
-        }
-    }
-    n * n
 }
 
 // Prints the lines, if there are any: their numbers or a checksum of them.
 fn show_lines<W: Write>(out: &mut W, lines: &[u8]) -> io::Result<()> {
-    if lines.len() == 0 {
+    if lines.is_empty() {
         return Ok(());
     }
     word(out, b" lines")?;
@@ -243,7 +153,7 @@ fn show_lines<W: Write>(out: &mut W, lines: &[u8]) -> io::Result<()> {
 }
 
 // Prints what a call left in the guarded buffer and in the guarded scratch, and `ok` if the rest of both
-// is as it was. Says where the answer ends.
+// is as it was. Says how long the answer is.
 fn show<W: Write>(
     out: &mut W,
     sheet: bool,
@@ -256,46 +166,43 @@ fn show<W: Write>(
 ) -> io::Result<usize>
     requires scratch_len { length scratch.now ≡ scratch_size }
     requires room_le_most_room { (room ≤ most_room) × (guards + room ≤ length space.now) }
+    ensures { IfOk result (λ len. len ≤ most_room) }
 {
     let to = answer_end(number, written, room);
     let lines_at = 2 * GUARDS;
     let lines_end = lines_at + 2 * line_numbers(sheet, number, n);
     let mut bytes = [0u8; 2 * SCRATCH];
     put_numbers(&mut bytes, 0, scratch);
-    value(out, number as u64)?;
-    value(out, written as u64)?;
-    numbers(out, &space[GUARDS..to])?;
+    answered(out, number, written, &space[GUARDS..to])?;
     show_lines(out, &bytes[lines_at..lines_end])?;
-    if is_guarded(space, GUARDS, to) {
-        if is_guarded(&bytes, lines_at, lines_end) {
-            word(out, b" ok")?;
-        }
+    if is_guarded(space, GUARDS, to) && is_guarded(&bytes, lines_at, lines_end) {
+        word(out, b" ok")?;
     }
-    Ok(to)
+    Ok(to - GUARDS)
 }
 
 // Makes the call that a line asks for, with a lent part of the guarded scratch and a room inside the
-// guarded buffer, and prints what it left. Says where the answer ends in the guarded buffer.
+// guarded buffer, and prints what it left. Says how long the answer is.
 fn guarded_call<W: Write>(
     out: &mut W,
     text: &[u8],
     table: &[u8],
-    line: Line,
+    line: &Line,
     scratch: &mut [u16],
     space: &mut [u8],
 ) -> io::Result<usize>
-    requires count_bound { line.count ≤ 16 }
-    requires scratch_len { (length scratch.old ≡ scratch_size) × (length space.old ≡ space_size) }
+    requires { (length scratch.old ≡ scratch_size) × (length space.old ≡ space_size) }
+    ensures { IfOk result (λ len. len ≤ most_room) }
 {
-    let call = call_of(text);
-    let sheet = is_sheet(call);
-    let lent = scratch_of(sheet, &line.numbers);
-    let room = room_of(call, &line.numbers);
-    if MOST_LENT < lent {
-        return Ok(GUARDS);
-    }
-    if MOST_ROOM < room {
-        return Ok(GUARDS);
+    let Some(call) = call_of(text) else {
+        return Ok(0);
+    };
+    // The keep sheet's alone has a scratch.
+    let sheet = call == Call::Sheet;
+    let lent = if sheet { line.size(0) } else { 0 };
+    let room = room_of(call, line);
+    if MOST_LENT < lent || MOST_ROOM < room {
+        return Ok(0);
     }
     let lent_end = GUARDS + lent;
     let room_end = GUARDS + room;
@@ -308,30 +215,27 @@ fn guarded_call<W: Write>(
         &mut space[GUARDS..room_end],
         &mut written,
     );
-    if number == NO_CALL {
-        return Ok(GUARDS);
-    }
     asked(out, text)?;
-    let n = run_table::run_table_processes(table) as usize;
-    let answer_end = show(out, sheet, number, written, n, scratch, space, room)?;
+    let n = usize::from(run_table::run_table_processes(table));
+    let len = show(out, sheet, number, written, n, scratch, space, room)?;
     end(out)?;
-    Ok(answer_end)
+    Ok(len)
 }
 
-// Answers a line with new guards, and says where its answer ends in the guarded buffer.
+// Answers a line with new guards, and says how long its answer in the guarded buffer is.
 fn answer<W: Write>(
     out: &mut W,
     text: &[u8],
     table: &[u8],
-    line: Line,
+    line: &Line,
     space: &mut [u8],
 ) -> io::Result<usize>
-    requires count_bound { line.count ≤ 16 }
-    requires space_len { length space.old ≡ space_size }
+    requires { length space.old ≡ space_size }
+    ensures { IfOk result (λ len. len ≤ most_room) }
 {
     comment(out, text)?;
     let mut scratch = [42405u16; SCRATCH];
-    fill(space, 165);
+    space.fill(165);
     guarded_call(
         out,
         text,
@@ -342,20 +246,20 @@ fn answer<W: Write>(
     )
 }
 
-// Keeps an answer for `use`, and says how long the one kept is.
-fn keep(kept: &mut [u8], len: usize, space: &[u8], answer_end: usize) -> usize {
-    if GUARDS < answer_end {
-        if answer_end <= space.len() {
-            copy(kept, &space[GUARDS..answer_end]);
-            return answer_end - GUARDS;
-        }
+// Keeps the answer in the guarded buffer for `use`, if there is one, and says how long the one kept is.
+fn keep(kept: &mut [u8], kept_len: usize, space: &[u8], len: usize) -> usize
+    requires { guards + len ≤ length space.now }
+{
+    if len == 0 {
+        return kept_len;
     }
+    copy(kept, &space[GUARDS..GUARDS + len]);
     len
 }
 
 // Does what a line says of the table: builds it, or puts the answer that is kept at its front.
-fn change(table: &mut [u8], text: &[u8], list: &[u64; 16], kept: &[u8]) {
-    build(table, text, list);
+fn change(table: &mut [u8], text: &[u8], line: &Line, kept: &[u8]) {
+    build(table, text, line);
     if says(text, b"use") {
         copy(table, kept);
     }
@@ -370,15 +274,12 @@ fn run<W: Write>(
 ) -> io::Result<()>
     requires { length space.old ≡ space_size }
 {
-    let mut at = 0;
     let mut kept_len = 0;
-    while at < script.len() {
-        let text = line_at(script, at);
+    for text in script.split(|byte| *byte == b'\n') {
         let line = numbers_in(text);
-        change(table, text, &line.numbers, first(kept, kept_len));
-        let answer_end = answer(out, text, table, line, space)?;
-        kept_len = keep(kept, kept_len, space, answer_end);
-        at += text.len() + 1;
+        change(table, text, &line, first(kept, kept_len));
+        let len = answer(out, text, table, &line, space)?;
+        kept_len = keep(kept, kept_len, space, len);
     }
     Ok(())
 }

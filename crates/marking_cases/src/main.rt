@@ -18,12 +18,9 @@ use std::io;
 use std::io::Write;
 use test_kit::guards::{GUARDS, MOST_ROOM, answer_end, is_guarded};
 use test_kit::{
-    SPACE, all_are, asked, build, comment, end, fill, first, length_of, numbers, value, values_end,
-    word,
+    SPACE, all_are, answered, asked, build, comment, end, first, length_of, value, values_end, word,
 };
-use test_script::{
-    Line, MOST_CEILINGS, ceilings_of, lent, line_at, numbers_in, says, size, size_up_to, smalls,
-};
+use test_script::{Line, MOST_CEILINGS, extended, numbers_in, says};
 use whole_input::read_into;
 
 // The most bytes of a mark buffer that a line lends.
@@ -32,18 +29,16 @@ const MOST_MARKS: usize = 16500;
 // Fills the mark buffer with one byte, and asks for the line by marking under the ceilings of a line.
 fn marked_line(
     table: &[u8],
-    line: Line,
+    line: &Line,
     before: u8,
     marks: &mut [u8],
     answer: &mut [u8],
     written: &mut usize,
-) -> u32
-    requires { line.count ≤ 16 }
-{
-    fill(marks, before);
-    let ceilings = ceilings_of(&smalls(&line.numbers), 4, line.count);
-    let count = size_up_to(&line.numbers, 0, MOST_CEILINGS);
-    keeper::keeper_marked_line(table, lent(&ceilings, count), marks, answer, written)
+) -> u32 {
+    marks.fill(before);
+    let ceilings: [u16; MOST_CEILINGS] = extended(line.behind(&line.smalls(), 4), 0);
+    let count = line.size_up_to(0, MOST_CEILINGS);
+    keeper::keeper_marked_line(table, &ceilings[..count], marks, answer, written)
 }
 
 // Prints what a call left in the guarded buffers, and `ok` if the rest of both is as it was: of the marks,
@@ -63,17 +58,14 @@ fn show<W: Write>(
 {
     let to = answer_end(number, written, room);
     let zeros_end = values_end(marks, GUARDS, marks_end, 0);
-    value(out, number as u64)?;
-    value(out, written as u64)?;
-    numbers(out, &space[GUARDS..to])?;
+    answered(out, number, written, &space[GUARDS..to])?;
     word(out, b" marks")?;
     value(out, (zeros_end - GUARDS) as u64)?;
-    if is_guarded(space, GUARDS, to) {
-        if is_guarded(marks, GUARDS, marks_end) {
-            if all_are(marks, zeros_end, marks_end, before) {
-                return word(out, b" ok");
-            }
-        }
+    if is_guarded(space, GUARDS, to)
+        && is_guarded(marks, GUARDS, marks_end)
+        && all_are(marks, zeros_end, marks_end, before)
+    {
+        word(out, b" ok")?;
     }
     Ok(())
 }
@@ -84,17 +76,16 @@ fn call<W: Write>(
     out: &mut W,
     text: &[u8],
     table: &[u8],
-    line: Line,
+    line: &Line,
     marks: &mut [u8],
     space: &mut [u8],
 ) -> io::Result<()>
-    requires count_bound { line.count ≤ 16 }
-    requires marks_len { (length marks.old ≡ space_size) × (length space.old ≡ space_size) }
+    requires { (length marks.old ≡ space_size) × (length space.old ≡ space_size) }
 {
-    let room = size_up_to(&line.numbers, 1, MOST_ROOM);
+    let room = line.size_up_to(1, MOST_ROOM);
     let room_end = GUARDS + room;
-    let marks_end = GUARDS + size_up_to(&line.numbers, 2, MOST_MARKS);
-    let before = (size(&line.numbers, 3) % 256) as u8;
+    let marks_end = GUARDS + line.size_up_to(2, MOST_MARKS);
+    let before = (line.size(3) % 256) as u8;
     let mut written: usize = 777;
     let number = marked_line(
         table,
@@ -114,17 +105,16 @@ fn answer<W: Write>(
     out: &mut W,
     text: &[u8],
     table: &[u8],
-    line: Line,
+    line: &Line,
     marks: &mut [u8],
     space: &mut [u8],
 ) -> io::Result<()>
-    requires count_bound { line.count ≤ 16 }
-    requires marks_len { (length marks.old ≡ space_size) × (length space.old ≡ space_size) }
+    requires { (length marks.old ≡ space_size) × (length space.old ≡ space_size) }
 {
     comment(out, text)?;
     if says(text, b"marked") {
-        fill(marks, 165);
-        fill(space, 165);
+        marks.fill(165);
+        space.fill(165);
         call(
             out,
             text,
@@ -146,13 +136,10 @@ fn run<W: Write>(
 ) -> io::Result<()>
     requires { (length marks.old ≡ space_size) × (length space.old ≡ space_size) }
 {
-    let mut at = 0;
-    while at < script.len() {
-        let text = line_at(script, at);
+    for text in script.split(|byte| *byte == b'\n') {
         let line = numbers_in(text);
-        build(table, text, &line.numbers);
-        answer(out, text, table, line, marks, space)?;
-        at += text.len() + 1;
+        build(table, text, &line);
+        answer(out, text, table, &line, marks, space)?;
     }
     Ok(())
 }

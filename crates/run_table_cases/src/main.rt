@@ -10,62 +10,52 @@
 use std::io;
 use std::io::Write;
 use test_kit::{SPACE, asked, build, comment, end, first, length_of, value};
-use test_script::{line_at, numbers_in, says, size};
+use test_script::{Line, numbers_in, word_of};
 use whole_input::read_into;
 
 fn check<W: Write>(out: &mut W, table: &[u8]) -> io::Result<()> {
-    value(out, run_table::run_table_check(table) as u64)
+    value(out, u64::from(run_table::run_table_check(table)))
 }
 
 fn lookup<W: Write>(out: &mut W, table: &[u8], p: usize, k: usize) -> io::Result<()> {
-    value(out, run_table::run_table_processes(table) as u64)?;
-    value(out, run_table::run_table_messages(table) as u64)?;
-    value(out, run_table::run_table_count(table, p) as u64)?;
-    value(out, run_table::run_table_sender(table, k) as u64)?;
-    value(out, run_table::run_table_sent(table, k) as u64)?;
-    value(out, run_table::run_table_receiver(table, k) as u64)?;
-    value(out, run_table::run_table_received(table, k) as u64)
+    value(out, u64::from(run_table::run_table_processes(table)))?;
+    value(out, u64::from(run_table::run_table_messages(table)))?;
+    value(out, u64::from(run_table::run_table_count(table, p)))?;
+    value(out, u64::from(run_table::run_table_sender(table, k)))?;
+    value(out, u64::from(run_table::run_table_sent(table, k)))?;
+    value(out, u64::from(run_table::run_table_receiver(table, k)))?;
+    value(out, u64::from(run_table::run_table_received(table, k)))
 }
 
 // Answers a line.
-fn answer<W: Write>(
-    out: &mut W,
-    text: &[u8],
-    buffer: &[u8],
-    numbers: &[u64; 16],
-) -> io::Result<()> {
+fn answer<W: Write>(out: &mut W, text: &[u8], buffer: &[u8], line: &Line) -> io::Result<()> {
     comment(out, text)?;
-    if says(text, b"check") {
-        asked(out, text)?;
-        check(out, first(buffer, size(numbers, 0)))?;
-        return end(out);
+    match word_of(text) {
+        b"check" => {
+            asked(out, text)?;
+            check(out, first(buffer, line.size(0)))?;
+            end(out)
+        }
+        b"whole" => {
+            asked(out, text)?;
+            check(out, first(buffer, length_of(buffer)))?;
+            end(out)
+        }
+        b"lookup" => {
+            asked(out, text)?;
+            let table = first(buffer, line.size(0));
+            lookup(out, table, line.size(1), line.size(2))?;
+            end(out)
+        }
+        _ => Ok(()),
     }
-    if says(text, b"whole") {
-        asked(out, text)?;
-        check(out, first(buffer, length_of(buffer)))?;
-        return end(out);
-    }
-    if says(text, b"lookup") {
-        asked(out, text)?;
-        lookup(
-            out,
-            first(buffer, size(numbers, 0)),
-            size(numbers, 1),
-            size(numbers, 2),
-        )?;
-        return end(out);
-    }
-    Ok(())
 }
 
 fn run<W: Write>(out: &mut W, script: &[u8], buffer: &mut [u8]) -> io::Result<()> {
-    let mut at = 0;
-    while at < script.len() {
-        let text = line_at(script, at);
-        let numbers = numbers_in(text).numbers;
-        build(buffer, text, &numbers);
-        answer(out, text, buffer, &numbers)?;
-        at += text.len() + 1;
+    for text in script.split(|byte| *byte == b'\n') {
+        let line = numbers_in(text);
+        build(buffer, text, &line);
+        answer(out, text, buffer, &line)?;
     }
     Ok(())
 }

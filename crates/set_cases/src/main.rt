@@ -18,8 +18,8 @@ use std::io;
 use std::io::Write;
 use tables::format::MOST_PROCESSES;
 use test_kit::guards::{GUARDS, MOST_ROOM, answer_end, is_guarded};
-use test_kit::{SPACE, asked, build, comment, end, fill, first, length_of, numbers, value, word};
-use test_script::{Line, line_at, numbers_in, says, size, size_up_to};
+use test_kit::{SPACE, answered, asked, build, comment, end, first, length_of, numbers, word};
+use test_script::{Line, extended, numbers_in, says};
 use whole_input::read_into;
 
 // The most sets that a line lends.
@@ -31,64 +31,28 @@ const MOST_NUMBERS: usize = 1100;
 
 const SCRATCH: usize = MOST_NUMBERS + 2 * GUARDS;
 
-// Number i of a line, as a set.
-fn set_at(list: &[u64; 16], i: usize) -> u32
-    requires { i < 16 }
-{
-    (size(list, i) % 4294967296) as u32
-}
-
-// The sets of a line, from its fourth number on, of which it has so many in all: the last goes on to the
-// end, and without one they are empty.
-fn sets_of(list: &[u64; 16], count: usize) -> [u32; 300]
-    requires { count ≤ 16 }
-{
-    let mut sets = [0u32; MOST_LENT];
-    let mut last = 0;
-    let mut k = 0;
-    while k < MOST_LENT {
-        if k + 3 < count {
-            last = set_at(list, k + 3);
-        }
-        sets[k] = last;
-        k += 1;
-    }
-    sets
-}
-
-// The first sets, as many as a line lends.
-fn lent(sets: &[u32], count: usize) -> &[u32]
-    requires { count ≤ length sets.now }
-{
-    &sets[..count]
-}
-
 // Asks for the lines of the sets of a line.
 fn lines_of(
     table: &[u8],
-    line: Line,
+    line: &Line,
     scratch: &mut [u16],
     answer: &mut [u8],
     written: &mut usize,
-) -> u32
-    requires { line.count ≤ 16 }
-{
-    let sets = sets_of(&line.numbers, line.count);
-    let count = size_up_to(&line.numbers, 0, MOST_LENT);
-    keeper::keeper_lines_of_sets(table, lent(&sets, count), scratch, answer, written)
+) -> u32 {
+    let sets: [u32; MOST_LENT] = extended(line.behind(&line.sets(), 3), 0);
+    let count = line.size_up_to(0, MOST_LENT);
+    keeper::keeper_lines_of_sets(table, &sets[..count], scratch, answer, written)
 }
 
 // How many numbers of the scratch a call for n processes fills: on success n lines of n numbers.
 fn line_numbers(number: u32, n: usize) -> usize
     ensures { result ≤ 1024 }
 {
-    if number != 0 {
-        return 0;
+    if number == 0 && n <= MOST_PROCESSES {
+        n * n
+    } else {
+        0
     }
-    if MOST_PROCESSES < n {
-        return 0;
-    }
-    n * n
 }
 
 // Prints what a call left in the guarded buffer and in the guarded scratch, and `ok` if the rest of both is
@@ -110,15 +74,11 @@ fn show<W: Write>(
     let lines_end = lines_at + 2 * line_numbers(number, n);
     let mut bytes = [0u8; 2 * SCRATCH];
     put_numbers(&mut bytes, 0, scratch);
-    value(out, number as u64)?;
-    value(out, written as u64)?;
-    numbers(out, &space[GUARDS..to])?;
+    answered(out, number, written, &space[GUARDS..to])?;
     word(out, b" scratch")?;
     numbers(out, &bytes[lines_at..lines_end])?;
-    if is_guarded(space, GUARDS, to) {
-        if is_guarded(&bytes, lines_at, lines_end) {
-            return word(out, b" ok");
-        }
+    if is_guarded(space, GUARDS, to) && is_guarded(&bytes, lines_at, lines_end) {
+        word(out, b" ok")?;
     }
     Ok(())
 }
@@ -129,16 +89,15 @@ fn call<W: Write>(
     out: &mut W,
     text: &[u8],
     table: &[u8],
-    line: Line,
+    line: &Line,
     scratch: &mut [u16],
     space: &mut [u8],
 ) -> io::Result<()>
-    requires count_bound { line.count ≤ 16 }
-    requires scratch_len { (length scratch.old ≡ 1132) × (length space.old ≡ space_size) }
+    requires { (length scratch.old ≡ 1132) × (length space.old ≡ space_size) }
 {
-    let room = size_up_to(&line.numbers, 1, MOST_ROOM);
+    let room = line.size_up_to(1, MOST_ROOM);
     let room_end = GUARDS + room;
-    let scratch_end = GUARDS + size_up_to(&line.numbers, 2, MOST_NUMBERS);
+    let scratch_end = GUARDS + line.size_up_to(2, MOST_NUMBERS);
     let mut written: usize = 777;
     let number = lines_of(
         table,
@@ -148,7 +107,7 @@ fn call<W: Write>(
         &mut written,
     );
     asked(out, text)?;
-    let n = run_table::run_table_processes(table) as usize;
+    let n = usize::from(run_table::run_table_processes(table));
     show(out, number, written, n, scratch, space, room)?;
     end(out)
 }
@@ -158,16 +117,15 @@ fn answer<W: Write>(
     out: &mut W,
     text: &[u8],
     table: &[u8],
-    line: Line,
+    line: &Line,
     space: &mut [u8],
 ) -> io::Result<()>
-    requires count_bound { line.count ≤ 16 }
-    requires space_len { length space.old ≡ space_size }
+    requires { length space.old ≡ space_size }
 {
     comment(out, text)?;
     if says(text, b"sets") {
         let mut scratch = [42405u16; SCRATCH];
-        fill(space, 165);
+        space.fill(165);
         call(
             out,
             text,
@@ -183,13 +141,10 @@ fn answer<W: Write>(
 fn run<W: Write>(out: &mut W, script: &[u8], table: &mut [u8], space: &mut [u8]) -> io::Result<()>
     requires { length space.old ≡ space_size }
 {
-    let mut at = 0;
-    while at < script.len() {
-        let text = line_at(script, at);
+    for text in script.split(|byte| *byte == b'\n') {
         let line = numbers_in(text);
-        build(table, text, &line.numbers);
-        answer(out, text, table, line, space)?;
-        at += text.len() + 1;
+        build(table, text, &line);
+        answer(out, text, table, &line, space)?;
     }
     Ok(())
 }

@@ -13,25 +13,21 @@ pub const GUARDS: usize = 16;
 pub const MOST_ROOM: usize = SPACE - 2 * GUARDS;
 
 // Where the answer ends in the guarded buffer: where its room starts, if there is none.
+#[tactic(auto, unfolding(crate::specs::Guards::answer_end))]
 pub fn answer_end(number: u32, written: usize, room: usize) -> usize
     requires { room ≤ most_room }
     ensures { (guards ≤ result) × (result ≤ guards + room) × (result ≡ answer_end number written room) }
 {
-    if number != 0 {
-        return GUARDS;
+    if number == 0 && written <= room {
+        GUARDS + written
+    } else {
+        GUARDS
     }
-    if room < written {
-        return GUARDS;
-    }
-    GUARDS + written
 }
 
 // Whether a guarded buffer is as it was, in front of what a call wrote and behind it.
 pub fn is_guarded(buffer: &[u8], from: usize, to: usize) -> bool
     ensures { Guarded buffer.now from to result }
 {
-    if all_are(buffer, 0, from, 165) {
-        return all_are(buffer, to, buffer.len(), 165);
-    }
-    false
+    all_are(buffer, 0, from, 165) && all_are(buffer, to, buffer.len(), 165)
 }

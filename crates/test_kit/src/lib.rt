@@ -18,7 +18,7 @@ use std::io;
 use std::io::Write;
 use tables::format::{COUNTS_AT, receipts_at, sends_at, table_length};
 use tables::numbers::u16_or_zero;
-use test_script::{says, size, small};
+use test_script::{Line, says, word_of};
 
 // The bytes of each buffer of the test programs: more than the largest table has.
 pub const SPACE: usize = 33000;
@@ -27,21 +27,21 @@ pub const SPACE: usize = 33000;
 pub fn byte(buffer: &mut [u8], at: usize, value: u8)
     ensures { buffer.new ≡ set buffer.old at value }
 {
-    if buffer.len() <= at {
-        return;
+    if at < buffer.len() {
+        buffer[at] = value;
     }
-    buffer[at] = value;
 }
 
 // Writes a 16-bit number, low byte first.
+#[tactic(auto, unfolding(crate::specs::Buffers::with_number))]
 pub fn number(buffer: &mut [u8], at: usize, value: u16)
     ensures { buffer.new ≡ with_number buffer.old at value }
 {
-    byte(buffer, at, (value % 256) as u8);
-    if buffer.len() <= at {
-        return;
+    let [low, high] = value.to_le_bytes();
+    if at < buffer.len() {
+        buffer[at] = low;
+        byte(buffer, at + 1, high);
     }
-    byte(buffer, at + 1, (value / 256 % 256) as u8);
 }
 
 // Writes two numbers, one behind the other, as an entry of a message is.
@@ -57,21 +57,21 @@ fn entry(buffer: &mut [u8], at: usize, first: u16, second: u16)
 pub fn count(buffer: &mut [u8], p: u16, value: u16)
     ensures { buffer.new ≡ with_count buffer.old p value }
 {
-    number(buffer, COUNTS_AT + 2 * (p as usize), value);
+    number(buffer, COUNTS_AT + 2 * usize::from(p), value);
 }
 
 // Writes the counts, all alike.
+#[tactic(auto, unfolding(crate::specs::Tables::each))]
 fn counts(buffer: &mut [u8], n: u16, value: u16)
     ensures { buffer.new ≡ each n (λ p b. with_count b p value) buffer.old }
 {
-    let mut p: u16 = 0;
-    while p < n {
+    for p in 0..n {
         count(buffer, p, value);
-        p += 1;
     }
 }
 
 // Writes N and M, and the counts, all alike. The messages are left as they are.
+#[tactic(auto, unfolding(crate::specs::Tables::with_sizes))]
 pub fn sizes(buffer: &mut [u8], n: u16, m: u16, value: u16)
     ensures { buffer.new ≡ with_sizes buffer.old n m value }
 {
@@ -79,25 +79,37 @@ pub fn sizes(buffer: &mut [u8], n: u16, m: u16, value: u16)
     counts(buffer, n, value);
 }
 
+// N and M of the table in a buffer.
+#[tactic(auto, unfolding(tables::specs::Format::processes_in, tables::specs::Format::messages_in))]
+fn sizes_in(buffer: &[u8]) -> (u16, u16)
+    ensures { (result.0 ≡ processes_in buffer.now) × (result.1 ≡ messages_in buffer.now) }
+{
+    (u16_or_zero(buffer, 0), u16_or_zero(buffer, 2))
+}
+
 // Writes message k: from checkpoint y of j to checkpoint r of i.
+#[tactic(auto, unfolding(crate::specs::Tables::with_message))]
 pub fn message(buffer: &mut [u8], k: u16, j: u16, y: u16, i: u16, r: u16)
     ensures { buffer.new ≡ with_message buffer.old k j y i r }
 {
-    let n = u16_or_zero(buffer, 0) as usize;
-    let m = u16_or_zero(buffer, 2) as usize;
-    let place = 4 * (k as usize);
-    entry(buffer, sends_at(n) + place, j, y);
-    entry(buffer, receipts_at(n, m) + place, i, r);
+    let (n, m) = sizes_in(buffer);
+    let place = 4 * usize::from(k);
+    entry(buffer, sends_at(usize::from(n)) + place, j, y);
+    entry(
+        buffer,
+        receipts_at(usize::from(n), usize::from(m)) + place,
+        i,
+        r,
+    );
 }
 
 // Writes every message alike.
+#[tactic(auto, unfolding(crate::specs::Tables::each))]
 pub fn messages(buffer: &mut [u8], m: u16, j: u16, y: u16, i: u16, r: u16)
     ensures { buffer.new ≡ each m (λ k b. with_message b k j y i r) buffer.old }
 {
-    let mut k: u16 = 0;
-    while k < m {
+    for k in 0..m {
         message(buffer, k, j, y, i, r);
-        k += 1;
     }
 }
 
@@ -105,34 +117,28 @@ pub fn messages(buffer: &mut [u8], m: u16, j: u16, y: u16, i: u16, r: u16)
 pub fn first(buffer: &[u8], len: usize) -> &[u8]
     ensures { result.now ≡ take len buffer.now }
 {
-    if buffer.len() <= len {
-        return buffer;
-    }
-    &buffer[0..len]
+    &buffer[..len.min(buffer.len())]
 }
 
 // The length that the sizes of a table give.
 pub fn length_of(buffer: &[u8]) -> usize
     ensures { result ≡ table_length (processes_in buffer.now) (messages_in buffer.now) }
 {
-    table_length(
-        u16_or_zero(buffer, 0) as usize,
-        u16_or_zero(buffer, 2) as usize,
-    )
+    let (n, m) = sizes_in(buffer);
+    table_length(usize::from(n), usize::from(m))
 }
 
 // Writes a domino of two processes and m messages: each one, once its receiver is put back, makes the
 // one before it an orphan. In the order of sending, or in the other one.
+#[tactic(auto, unfolding(crate::specs::Tables::each, crate::specs::Tables::with_domino))]
 pub fn domino(buffer: &mut [u8], m: u16, backward: bool)
     ensures { buffer.new ≡ with_domino buffer.old m backward }
 {
     sizes(buffer, 2, m, m / 2 + 1);
     count(buffer, 1, m / 2);
-    let mut k: u16 = 0;
-    while k < m {
+    for k in 0..m {
         let place = domino_place(m, k, backward);
         message(buffer, place, k % 2, k / 2, 1 - k % 2, (k + 1) / 2);
-        k += 1;
     }
 }
 
@@ -141,22 +147,7 @@ fn domino_place(m: u16, k: u16, backward: bool) -> u16
     requires { k < m }
     ensures { result ≡ domino_place m k backward }
 {
-    if backward {
-        return m - 1 - k;
-    }
-    k
-}
-
-// Fills a buffer with one byte.
-pub fn fill(buffer: &mut [u8], value: u8)
-    ensures { Filled (λ _. value) (length buffer.old)
-        buffer.old buffer.new }
-{
-    let mut i = 0;
-    while i < buffer.len() {
-        buffer[i] = value;
-        i += 1;
-    }
+    if backward { m - 1 - k } else { k }
 }
 
 // Writes bytes at the front of a buffer.
@@ -164,42 +155,28 @@ pub fn copy(buffer: &mut [u8], bytes: &[u8])
     ensures { Filled (λ i. get_or bytes.now i 0) (length bytes.now)
         buffer.old buffer.new }
 {
-    let mut i = 0;
-    while i < bytes.len() {
-        byte(buffer, i, bytes[i]);
-        i += 1;
-    }
+    let len = bytes.len().min(buffer.len());
+    buffer[..len].copy_from_slice(&bytes[..len]);
 }
 
 // Where the bytes of a value that start at a place end, at `to` at the latest.
 pub fn values_end(buffer: &[u8], from: usize, to: usize, value: u8) -> usize
     ensures { ValuesEnd buffer.now from to value result }
 {
-    let mut i = from;
-    while i < to {
-        if buffer.len() <= i {
-            return i;
-        }
-        if buffer[i] != value {
-            return i;
-        }
-        i += 1;
-    }
-    i
+    let len = buffer
+        .iter()
+        .take(to)
+        .skip(from)
+        .take_while(|byte| **byte == value)
+        .count();
+    from + len
 }
 
 // Whether every byte from one place to another has a value.
 pub fn all_are(buffer: &[u8], from: usize, to: usize, value: u8) -> bool
     ensures { AllAre buffer.now from to value result }
 {
-    let end = values_end(buffer, from, to, value);
-    if to <= end {
-        return true;
-    }
-    if buffer.len() <= end {
-        return true;
-    }
-    false
+    buffer.iter().take(to).skip(from).all(|byte| *byte == value)
 }
 
 // Prints the 16-bit numbers of some bytes: each of them, or a checksum of more than 128 bytes.
@@ -208,23 +185,32 @@ pub fn numbers<W: Write>(out: &mut W, bytes: &[u8]) -> io::Result<()> {
         word(out, b" sum")?;
         return value(out, checksum(bytes));
     }
-    let mut at = 0;
-    while at < bytes.len() {
-        value(out, u16_or_zero(bytes, at) as u64)?;
-        at += 2;
+    for number in bytes.chunks(2) {
+        value(out, u64::from(u16_or_zero(number, 0)))?;
     }
     Ok(())
 }
 
+// Prints what a call answers: its number, what stands at `written` afterwards and the numbers of its answer.
+pub fn answered<W: Write>(
+    out: &mut W,
+    number: u32,
+    written: usize,
+    answer: &[u8],
+) -> io::Result<()> {
+    value(out, u64::from(number))?;
+    value(out, written as u64)?;
+    numbers(out, answer)
+}
+
 // A checksum of some bytes.
+#[tactic(auto, unfolding(crate::specs::Buffers::checksum_of))]
 fn checksum(bytes: &[u8]) -> u64
     ensures { result ≡ checksum_of bytes.now (length bytes.now) }
 {
     let mut sum: u64 = 0;
-    let mut i = 0;
-    while i < bytes.len() {
-        sum = (31 * sum + (bytes[i] as u64)) % 1000003;
-        i += 1;
+    for byte in bytes {
+        sum = (31 * sum + u64::from(*byte)) % 1000003;
     }
     sum
 }
@@ -267,78 +253,39 @@ pub fn asked<W: Write>(out: &mut W, line: &[u8]) -> io::Result<()>
     word(out, b" ->")
 }
 
-// What a line of a script writes to the table in a buffer:
+// Writes to the table in a buffer what a line of a script says, with its numbers:
 //     table N M COUNT      sizes, and every count alike
 //     count P COUNT
 //     message K J Y I R    from checkpoint Y of J to checkpoint R of I
 //     all M J Y I R        the first M messages alike
 //     number AT VALUE      a number at a byte
 //     domino M, backward M a domino of M messages, in the order of sending or the other one
-#[derive(Drop)]
-enum Written {
-    Table,
-    Count,
-    Message,
-    All,
-    Number,
-    Domino,
-    Backward,
-    Nothing,
-}
-
-// What a line writes, by its word.
-fn written_by(line: &[u8]) -> Written {
-    if says(line, b"table") {
-        return Written::Table;
-    }
-    if says(line, b"count") {
-        return Written::Count;
-    }
-    if says(line, b"message") {
-        return Written::Message;
-    }
-    if says(line, b"all") {
-        return Written::All;
-    }
-    if says(line, b"number") {
-        return Written::Number;
-    }
-    if says(line, b"domino") {
-        return Written::Domino;
-    }
-    if says(line, b"backward") {
-        return Written::Backward;
-    }
-    Written::Nothing
-}
-
-// Writes what a line says, with its numbers. A line that says something else writes nothing, and is left
-// to the caller.
-pub fn build(buffer: &mut [u8], line: &[u8], list: &[u64; 16])
+// A line that says something else writes nothing, and is left to the caller.
+pub fn build(buffer: &mut [u8], text: &[u8], line: &Line)
     ensures { length buffer.new ≡ length buffer.old }
 {
-    match written_by(line) {
-        Written::Table => sizes(buffer, small(list, 0), small(list, 1), small(list, 2)),
-        Written::Count => count(buffer, small(list, 0), small(list, 1)),
-        Written::Message => message(
+    match word_of(text) {
+        b"table" => sizes(buffer, line.small(0), line.small(1), line.small(2)),
+        b"count" => count(buffer, line.small(0), line.small(1)),
+        b"message" => message(
             buffer,
-            small(list, 0),
-            small(list, 1),
-            small(list, 2),
-            small(list, 3),
-            small(list, 4),
+            line.small(0),
+            line.small(1),
+            line.small(2),
+            line.small(3),
+            line.small(4),
         ),
-        Written::All => messages(
+        b"all" => messages(
             buffer,
-            small(list, 0),
-            small(list, 1),
-            small(list, 2),
-            small(list, 3),
-            small(list, 4),
+            line.small(0),
+            line.small(1),
+            line.small(2),
+            line.small(3),
+            line.small(4),
         ),
-        Written::Number => number(buffer, size(list, 0), small(list, 1)),
-        Written::Domino => domino(buffer, small(list, 0), false),
-        Written::Backward => domino(buffer, small(list, 0), true),
-        Written::Nothing => {}
+        b"number" => number(buffer, line.size(0), line.small(1)),
+        b"domino" => domino(buffer, line.small(0), false),
+        b"backward" => domino(buffer, line.small(0), true),
+        _ => {}
     }
 }

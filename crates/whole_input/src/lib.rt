@@ -17,6 +17,7 @@ pub fn read_front<R: Read>(input: &mut R, buffer: &mut [u8], len: &mut usize) ->
         (Consumes (R.remaining input.old) (R.remaining input.new) (take len.new buffer.new)) }
 {
     *len = 0;
+    // No method of `Read` does this: `read_exact` refuses a shorter input, and `read_to_end` asks for a heap.
     while *len < buffer.len() {
         let count = input.read(&mut buffer[*len..])?;
         if count == 0 {

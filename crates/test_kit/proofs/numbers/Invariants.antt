@@ -1,9 +1,0 @@
--- It stands at most one byte beyond the end, since it goes on two at a time. The measure is the number of bytes that are left.
-use Rattle.std.proofs.Common.{◌+◌, ◌-◌, ◌≤◌, length}
-use Rattle.test_kit.proofs.numbers.Given as goal
-
-abbrev pub invariant-loop-at : goal.invariant-loop-at
-invariant-loop-at g l = l.at ≤ length l.bytes + 1
-
-abbrev pub decreases-loop-at : goal.decreases-loop-at
-decreases-loop-at g l = length l.bytes + 1 - l.at
