@@ -3,7 +3,9 @@
 // `run_table`.
 #![tactic(auto)]
 
+pub mod accepted;
 pub mod format;
 pub mod lookups;
 pub mod numbers;
 pub mod parts;
+pub mod refusal;
