@@ -36,8 +36,7 @@ fn unknown_at(part: &[u8], n: usize, k: usize) -> bool
     requires { 4 * k + 1 < length part.now }
     ensures { result ≡ unknown_at n part.now k }
 {
-    let process = u16_at(part, 4 * k) as usize;
-    n <= process
+    n <= u16_at(part, 4 * k) as usize
 }
 
 // Whether message k has the same sender and receiver.
@@ -46,9 +45,7 @@ fn to_itself_at(sends: &[u8], receipts: &[u8], k: usize) -> bool
     requires k_in_bounds_2 { 4 * k + 1 < length receipts.now }
     ensures { result ≡ to_itself_at sends.now receipts.now k }
 {
-    let sender = u16_at(sends, 4 * k);
-    let receiver = u16_at(receipts, 4 * k);
-    sender == receiver
+    u16_at(sends, 4 * k) == u16_at(receipts, 4 * k)
 }
 
 // The count of the process of entry k of a part, where it has one.
@@ -71,10 +68,7 @@ fn fault_at(counts: &[u8], sends: &[u8], receipts: &[u8], n: usize, k: usize) ->
     ensures { result ≡ slice_get message_refusals (first_place (checks_at
         (message_checks n counts.now sends.now receipts.now) k)) }
 {
-    if unknown_at(sends, n, k) {
-        return Some(Refusal::UnknownProcessInMessage);
-    }
-    if unknown_at(receipts, n, k) {
+    if unknown_at(sends, n, k) || unknown_at(receipts, n, k) {
         return Some(Refusal::UnknownProcessInMessage);
     }
     if to_itself_at(sends, receipts, k) {
