@@ -1,15 +1,16 @@
-// The refusals of the calls: the number of the first check before 16 that catches, or 0. The table's
+// The refusals of the calls: the accepted table, or the first check before 16 that catches. The table's
 // checks come first, so what stands behind them judges an accepted table.
 #![tactic(auto)]
 
-ghost use Rattle.std.specs.Prelude.{◌≡◌, leb};
+ghost use Rattle.std.specs.Prelude.{◌≡◌, IfOk, leb};
 ghost use Rattle.call_checks.specs.CallChecks.{checkpoint_call_checks, full_of_checkpoints, full_of_messages};
 ghost use Rattle.call_checks.specs.CallChecks.{keep_sheet_checks, line_of_set_checks, line_under_checks};
 ghost use Rattle.call_checks.specs.CallChecks.{marked_line_checks};
 ghost use Rattle.call_checks.specs.CallChecks.{receipt_call_checks, send_call_checks, short_of_lines};
 ghost use Rattle.call_checks.specs.CallChecks.{stand_together_checks};
-ghost use Rattle.tables.specs.Checks.{first_caught, table_refusal};
+ghost use Rattle.tables.specs.Checks.{first_caught};
 ghost use Rattle.tables.specs.Format.{decode};
+ghost use Rattle.tables.specs.Refusals.{refusal_in};
 ghost use Rattle.tables.specs.Table.{process_count};
 
 use chosen_ceilings::above_counts;
@@ -19,180 +20,173 @@ use marks::marks_size;
 use named_checkpoints::{not_below_counts, unknown_process};
 use process_set::has_high_bit;
 use run_table::checks::check;
+use tables::accepted::RunTable;
 use tables::format::{MOST_CHECKPOINTS, MOST_MESSAGES};
-use tables::{lookups, parts};
+use tables::lookups;
+use tables::refusal::Refusal;
 
 // Whether a table has no such process.
-fn unknown(table: &[u8], process: u16) -> bool
-    requires { table_refusal table.now ≡ 0 }
-    ensures { result ≡ leb (process_count (decode table.now)) process }
+fn unknown(table: RunTable<'_>, process: u16) -> bool
+    ensures { result ≡ leb (process_count (decode table.entry.bytes.now)) process }
 {
-    parts::process_count(table) <= (process as usize)
+    table.process_count() <= process as usize
 }
 
 // Whether a table is full of messages.
-fn full_of_messages(table: &[u8]) -> bool
-    requires { table_refusal table.now ≡ 0 }
-    ensures { result ≡ full_of_messages (decode table.now) }
+fn full_of_messages(table: RunTable<'_>) -> bool
+    ensures { result ≡ full_of_messages (decode table.entry.bytes.now) }
 {
-    MOST_MESSAGES <= parts::message_count(table)
+    MOST_MESSAGES <= table.message_count()
 }
 
 // Whether a process is full of checkpoints.
-fn full_of_checkpoints(table: &[u8], process: u16) -> bool
-    ensures { result ≡ full_of_checkpoints (decode table.now) process }
+fn full_of_checkpoints(table: RunTable<'_>, process: u16) -> bool
+    ensures { result ≡ full_of_checkpoints (decode table.entry.bytes.now) process }
 {
-    MOST_CHECKPOINTS <= lookups::count(table, process as usize)
+    MOST_CHECKPOINTS <= lookups::count(table.bytes, process as usize)
 }
 
 // Whether a scratch of so many numbers is short of the lines of single holders.
-pub fn short_of_lines(table: &[u8], numbers: usize) -> bool
-    requires { table_refusal table.now ≡ 0 }
-    ensures { result ≡ short_of_lines (decode table.now) numbers }
+pub fn short_of_lines(table: RunTable<'_>, numbers: usize) -> bool
+    ensures { result ≡ short_of_lines (decode table.entry.bytes.now) numbers }
 {
-    let n = parts::process_count(table);
+    let n = table.process_count();
     numbers < n * n
 }
 
 // The line of a set: the table's checks, 12.
-pub fn set_refusal(table: &[u8], set: u32) -> u32
-    ensures { result ≡ first_caught (line_of_set_checks table.now set) }
+pub fn set_refusal(bytes: &[u8], set: u32) -> Result<RunTable<'_>, Refusal>
+    ensures refusal { refusal_in result ≡ first_caught (line_of_set_checks bytes.now set) }
+    ensures table { IfOk result (λ table. table.bytes.now ≡ bytes.now) }
 {
-    let refusal = check(table);
-    if refusal != 0 {
-        return refusal;
+    let table = check(bytes)?;
+    if has_high_bit(set, table.process_count()) {
+        return Err(Refusal::UnknownProcessInSet);
     }
-    if has_high_bit(set, parts::process_count(table)) {
-        return 12;
-    }
-    0
+    Ok(table)
 }
 
 // The line under ceilings: the table's checks, 17, 18.
-pub fn ceilings_refusal(table: &[u8], ceilings: &[u16]) -> u32
-    ensures { result ≡ first_caught (line_under_checks table.now ceilings.now) }
+pub fn ceilings_refusal<'a>(bytes: &'a [u8], ceilings: &[u16]) -> Result<RunTable<'a>, Refusal>
+    ensures refusal { refusal_in result ≡ first_caught (line_under_checks bytes.now ceilings.now) }
+    ensures table { IfOk result (λ table. table.bytes.now ≡ bytes.now) }
 {
-    let refusal = check(table);
-    if refusal != 0 {
-        return refusal;
+    let table = check(bytes)?;
+    if ceilings.len() != table.process_count() {
+        return Err(Refusal::WrongCeilingCount);
     }
-    if ceilings.len() != parts::process_count(table) {
-        return 17;
+    if above_counts(table.bytes, ceilings) {
+        return Err(Refusal::CeilingTooHigh);
     }
-    if above_counts(table, ceilings) {
-        return 18;
-    }
-    0
+    Ok(table)
 }
 
 // The line under ceilings by marking, given the length of the mark buffer: the table's checks, 17, 18, 19.
-pub fn marking_refusal(table: &[u8], ceilings: &[u16], bytes: usize) -> u32
-    ensures { result ≡ first_caught (marked_line_checks table.now ceilings.now bytes) }
+pub fn marking_refusal<'a>(
+    bytes: &'a [u8],
+    ceilings: &[u16],
+    marks: usize,
+) -> Result<RunTable<'a>, Refusal>
+    ensures refusal { refusal_in result
+        ≡ first_caught (marked_line_checks bytes.now ceilings.now marks) }
+    ensures table { IfOk result (λ table. table.bytes.now ≡ bytes.now) }
 {
-    let refusal = ceilings_refusal(table, ceilings);
-    if refusal != 0 {
-        return refusal;
+    let table = ceilings_refusal(bytes, ceilings)?;
+    if marks < marks_size(table.bytes) {
+        return Err(Refusal::MarksTooShort);
     }
-    if bytes < marks_size(table) {
-        return 19;
-    }
-    0
+    Ok(table)
 }
 
 // Named checkpoints that stand together: the table's checks, 20, 21, 22.
-pub fn names_refusal(table: &[u8], processes: &[u16], states: &[u16]) -> u32
-    ensures { result ≡ first_caught
-        (stand_together_checks table.now processes.now states.now) }
+pub fn names_refusal<'a>(
+    bytes: &'a [u8],
+    processes: &[u16],
+    states: &[u16],
+) -> Result<RunTable<'a>, Refusal>
+    ensures refusal { refusal_in result ≡ first_caught
+        (stand_together_checks bytes.now processes.now states.now) }
+    ensures table { IfOk result (λ table. table.bytes.now ≡ bytes.now) }
 {
-    let refusal = check(table);
-    if refusal != 0 {
-        return refusal;
-    }
+    let table = check(bytes)?;
     if processes.len() != states.len() {
-        return 20;
+        return Err(Refusal::UnequalLists);
     }
-    if unknown_process(table, processes) {
-        return 21;
+    if unknown_process(table.bytes, processes) || not_rising(processes) {
+        return Err(Refusal::BadNamedProcess);
     }
-    if not_rising(processes) {
-        return 21;
+    if not_below_counts(table.bytes, processes, states) {
+        return Err(Refusal::NamedStateTooHigh);
     }
-    if not_below_counts(table, processes, states) {
-        return 22;
-    }
-    0
+    Ok(table)
 }
 
 // A send: the table's checks, 10, 11, 14.
-pub fn send_refusal(table: &[u8], from: u16, to: u16) -> u32
-    ensures { result ≡ first_caught (send_call_checks table.now from to) }
+pub fn send_refusal(bytes: &[u8], from: u16, to: u16) -> Result<RunTable<'_>, Refusal>
+    ensures refusal { refusal_in result ≡ first_caught (send_call_checks bytes.now from to) }
+    ensures table { IfOk result (λ table. table.bytes.now ≡ bytes.now) }
 {
-    let refusal = check(table);
-    if refusal != 0 {
-        return refusal;
-    }
-    if unknown(table, from) {
-        return 10;
-    }
-    if unknown(table, to) {
-        return 10;
+    let table = check(bytes)?;
+    if unknown(table, from) || unknown(table, to) {
+        return Err(Refusal::UnknownProcess);
     }
     if from == to {
-        return 11;
+        return Err(Refusal::SendToItself);
     }
     if full_of_messages(table) {
-        return 14;
+        return Err(Refusal::TableFull);
     }
-    0
+    Ok(table)
 }
 
 // A receipt: the table's checks, 10, 13, 24.
-pub fn receipt_refusal(table: &[u8], process: u16, list: &[u16]) -> u32
-    ensures { result ≡ first_caught (receipt_call_checks table.now process list.now) }
+pub fn receipt_refusal<'a>(
+    bytes: &'a [u8],
+    process: u16,
+    list: &[u16],
+) -> Result<RunTable<'a>, Refusal>
+    ensures refusal { refusal_in result
+        ≡ first_caught (receipt_call_checks bytes.now process list.now) }
+    ensures table { IfOk result (λ table. table.bytes.now ≡ bytes.now) }
 {
-    let refusal = check(table);
-    if refusal != 0 {
-        return refusal;
-    }
+    let table = check(bytes)?;
     if unknown(table, process) {
-        return 10;
+        return Err(Refusal::UnknownProcess);
     }
-    if bad_position(table, process, list) {
-        return 13;
+    if bad_position(table.bytes, process, list) || not_rising(list) {
+        return Err(Refusal::BadList);
     }
-    if not_rising(list) {
-        return 13;
+    if passes_over(table.bytes, process, list) {
+        return Err(Refusal::MessagePassedOver);
     }
-    if passes_over(table, process, list) {
-        return 24;
-    }
-    0
+    Ok(table)
 }
 
 // A checkpoint: the table's checks, 10, 13, 24, 14.
-pub fn checkpoint_refusal(table: &[u8], process: u16, list: &[u16]) -> u32
-    ensures { result ≡ first_caught (checkpoint_call_checks table.now process list.now) }
+pub fn checkpoint_refusal<'a>(
+    bytes: &'a [u8],
+    process: u16,
+    list: &[u16],
+) -> Result<RunTable<'a>, Refusal>
+    ensures refusal { refusal_in result
+        ≡ first_caught (checkpoint_call_checks bytes.now process list.now) }
+    ensures table { IfOk result (λ table. table.bytes.now ≡ bytes.now) }
 {
-    let refusal = receipt_refusal(table, process, list);
-    if refusal != 0 {
-        return refusal;
-    }
+    let table = receipt_refusal(bytes, process, list)?;
     if full_of_checkpoints(table, process) {
-        return 14;
+        return Err(Refusal::TableFull);
     }
-    0
+    Ok(table)
 }
 
 // The keep sheet, given the length of the scratch: the table's checks, 15.
-pub fn sheet_refusal(table: &[u8], numbers: usize) -> u32
-    ensures { result ≡ first_caught (keep_sheet_checks table.now numbers) }
+pub fn sheet_refusal(bytes: &[u8], numbers: usize) -> Result<RunTable<'_>, Refusal>
+    ensures refusal { refusal_in result ≡ first_caught (keep_sheet_checks bytes.now numbers) }
+    ensures table { IfOk result (λ table. table.bytes.now ≡ bytes.now) }
 {
-    let refusal = check(table);
-    if refusal != 0 {
-        return refusal;
-    }
+    let table = check(bytes)?;
     if short_of_lines(table, numbers) {
-        return 15;
+        return Err(Refusal::ScratchTooShort);
     }
-    0
+    Ok(table)
 }

@@ -9,9 +9,12 @@ use Prim.Native.Nat.{ℕ, ◌-◌, ◌*◌, ◌<◌, ◌≤◌}
 use native.Mathlib.Omega.{arith}
 use borrow.Author.Tests.{leb-false, lt-ltb, le-ltb, eq-eqb, ne_eqb}
 use lib.Dec.{leb, ltb}
-use lib.ListN.{length, get_or, take, drop}
-use Rattle.run_table.proofs.FaultLaws.{none_caught, number-there, quiet_at}
+use lib.ListN.{length, take, drop}
+use Rattle.run_table.proofs.FaultLaws.{none_caught, number-there, number_at, place_within, quiet_at}
 use Rattle.run_table.specs.EntryChecks.{FirstMessage, MessageCheck, above_at, bad_count_at, checks_below, first_place, message_checks, not_below_at, no_fault}
+use Rattle.run_table.specs.EntryChecks.{refusal_at}
+use Rattle.tables.specs.Refusals.{refusal_number}
+use Rattle.tables.specs.declared.refusal.Refusal.{Refusal}
 use Rattle.run_table.specs.EntryChecks.{parts_refusal, to_itself_at, unknown_at}
 use Rattle.tables.proofs.CheckLaws.{append_passed, are_refusals, length_checked, messages_checked, not_short, passed, processes_checked, quiet_none, stopped}
 use Rattle.tables.proofs.FormatLaws.{ReadSizes, decode_count, decode_message, decode-messages, decode-processes}
@@ -144,26 +147,23 @@ module _ (n m : ℕ) (counts sends receipts : List ℕ) where
     abbrev checks : List MessageCheck
     checks = message_checks n counts sends receipts
 
-    -- no message is caught
-    pub refused_nothing : k ≡ m → 0 ≡ parts_refusal n m counts sends receipts
-    unfolding are_refusals
-    refused_nothing all =
-        let none = none_caught messages (first.quiet ∙ ap (λ (j : ℕ). first_place (checks_below checks j)) all) in
-        let whole = sym (ap (λ (j : ℕ). broken_below j (message_at sends receipts)) all) ∙ first.in_turn in
-        sym (passed _ (messages ++ (turn ∷ [])) _ quiet (append_passed messages (turn ∷ []) refl none ∙ passed _ _ _ whole quiet_none))
-
     -- message k is: by a check of messages, or else it is out of turn
-    module _ (some : k ≡ m → ⊥) where
-      broken : first_place messages ≡ no_fault → broken_below m (message_at sends receipts) ≡ true
-      broken none =
-          let below : k < m = omega (arith, first.within, some) in
-          broken_on (message_at sends receipts) below (first.caught below (quiet_at checks below none))
+    broken : k < m → first_place messages ≡ no_fault → broken_below m (message_at sends receipts) ≡ true
+    broken below none = broken_on (message_at sends receipts) below (first.caught below (quiet_at checks below none))
 
-      pub refused_message : {fault : ℕ} → fault ≡ first_place messages
-          → get_or (6 ∷ 6 ∷ 7 ∷ 8 ∷ 9 ∷ 23 ∷ []) fault 0 ≡ parts_refusal n m counts sends receipts
-      refused_message is-fault =
-          ap (λ (place : ℕ). get_or (6 ∷ 6 ∷ 7 ∷ 8 ∷ 9 ∷ 23 ∷ []) place 0) is-fault
-          ∙ sym (passed _ (messages ++ (turn ∷ [])) _ quiet (number-there messages turn broken))
+    pub refused_message : k < m → {refusal : Refusal} → refusal ≡ refusal_at (first_place messages)
+        → refusal_number refusal ≡ parts_refusal n m counts sends receipts
+    refused_message below is =
+        ap refusal_number is ∙ number_at (first_place messages) (place_within messages)
+        ∙ sym (passed _ (messages ++ (turn ∷ [])) _ quiet (number-there messages turn (broken below)))
+
+  -- no message is caught
+  pub refused_nothing : any_below n (bad_count_at counts) ≡ false
+      → FirstMessage (message_checks n counts sends receipts) (message_at sends receipts) m m → 0 ≡ parts_refusal n m counts sends receipts
+  unfolding are_refusals
+  refused_nothing quiet first =
+      sym (passed _ (messages ++ (turn ∷ [])) _ quiet (append_passed messages (turn ∷ []) refl (none_caught messages first.quiet)
+      ∙ passed _ _ _ first.in_turn quiet_none))
 
 -- ---- the refusal of bytes, in the code's course
 pub refused_short : (bytes : List ℕ) → length bytes < 4 → 1 ≡ table_refusal bytes

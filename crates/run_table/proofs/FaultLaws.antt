@@ -1,53 +1,31 @@
--- Checks of messages, as one loop over the messages finds them. It keeps the smallest place of a check that catches: places are in
--- checking order, whatever the numbers are.
---     Past, past_none .. past_all    one check after another: the place of the first that catches
+-- Checks of messages, as one loop over the messages finds them. It keeps the refusal at the smallest place of a check that catches: places are
+-- in checking order, whatever the numbers are.
 --     none_caught, quiet_at          where none catches
 --     place_within, number-there     it is no further than the list's end, and the refusal is the number that stands there, with one that
 --                                    catches behind the last
---     Looked, looked_none .. looked_all    the loop over the messages
+--     smaller, number_at             the refusal at a place: the smaller of two, its number
+--     faulted, unfaulted             whether there is one
+--     nothing_below, place_next, fault_joined, fault_passed    the loops over the messages
 -- Assumes nothing.
 use mathlib.Core.Bool.{Bool, true, false, cond, ◌||◌}
 use mathlib.Core.List.{List, [], ◌∷◌, ◌++◌, map}
 use mathlib.Core.Path.{◌≡◌, refl, sym, ap, ap₂, ◌∙◌}
-use Prim.Native.Nat.{ℕ, suc, min, ◌+◌, ◌≤◌, ◌<◌, zero-le}
-use native.Mathlib.Nat.{le_antisymm}
+use Prim.Native.Nat.{ℕ, zero, suc, min, ◌+◌, ◌≤◌, ◌<◌, zero-le}
 use native.Mathlib.Numerals.{add-one}
 use native.Mathlib.Omega.{arith}
-use lib.ListN.{length, drop, get_or, length-map}
-use lib.Seq.{drop-drop}
+use lib.ListN.{length, get_or, length-map}
 use Rattle.tables.specs.Checks.{Check, first_caught}
 use Rattle.tables.specs.Lists.{any_below}
 use Rattle.tables.proofs.ListLaws.{none_below}
-use Rattle.run_table.specs.EntryChecks.{MessageCheck, checks_at, checks_below, first_place}
-
--- ---- one check after another
--- The first i of a list's checks catch nothing.
-pub record Past (checks : List Check) (i : ℕ) : Type 0 where
-  pub place : first_place checks ≡ first_place (drop i checks) + i
-
-module _ {checks : List Check} where
-  pub past_none : Past checks 0
-  past_none = record { place = omega arith }
-
-  module _ {i : ℕ} (past : Past checks i) where
-    pub past_all : drop i checks ≡ [] → i ≡ first_place checks
-    unfolding first_place
-    past_all none = omega (arith, past.place, ap first_place none)
-
-    -- check i
-    module _ {c : Check} {rest : List Check} (here : drop i checks ≡ c ∷ rest) where
-      pub past_stops : c.caught ≡ true → i ≡ first_place checks
-      unfolding first_place
-      past_stops e =
-          let stops : first_place (drop i checks) ≡ 0 = rw (here, e) in
-          omega (arith, past.place)
-
-      pub past_more : c.caught ≡ false → Past checks (i + 1)
-      unfolding first_place
-      past_more e =
-          let next : drop (i + 1) checks ≡ rest = sym (drop-drop 1 i checks) ∙ ap (drop 1) here in
-          let passes : first_place (drop i checks) ≡ suc (first_place rest) = rw (here, e) in
-          record { place = omega (arith, past.place, passes, ap first_place next) }
+use Rattle.run_table.specs.EntryChecks.{MessageCheck, checks_at, checks_below, first_place, message_refusals, no_fault, refusal_at}
+use Rattle.std.proofs.Common.{None, Option, Some, slice_get}
+use Rattle.std.proofs.lemmas.Option.{get_or_from_slice_get}
+use Rattle.std.specs.Option.{is_some}
+use Rattle.std.specs.Ordering.{ord_min}
+use Rattle.tables.specs.contracts.refusal.RefusalOrd.TheImpl.{cmp-value}
+use Rattle.tables.specs.declared.refusal.Refusal.{Refusal}
+use Rattle.tables.specs.declared.refusal.Refusal.TheVariants.{ChannelOutOfOrder}
+use Rattle.tables.specs.Refusals.{refusal_number}
 
 -- ---- the refusal, by the place of the first check that catches
 pub place_within : (checks : List Check) → first_place checks ≤ length checks
@@ -98,6 +76,47 @@ quiet_at (c ∷ rest) {m} {k} l e = go (any_below m c.catches) refl e (quiet_at 
     go true is e later = absurd (omega arith)
     go false is e later = rw (none_below c.catches m is k l) (ap suc (later (omega (arith, e))))
 
+-- ---- the refusal by the check of messages at a place
+up_to_five : (P : ℕ → Type 0) → P 0 → P 1 → P 2 → P 3 → P 4 → P 5 → (place : ℕ) → place ≤ 5 → P place
+up_to_five P p0 p1 p2 p3 p4 p5 zero l = p0
+up_to_five P p0 p1 p2 p3 p4 p5 (suc zero) l = p1
+up_to_five P p0 p1 p2 p3 p4 p5 (suc (suc zero)) l = p2
+up_to_five P p0 p1 p2 p3 p4 p5 (suc (suc (suc zero))) l = p3
+up_to_five P p0 p1 p2 p3 p4 p5 (suc (suc (suc (suc zero)))) l = p4
+up_to_five P p0 p1 p2 p3 p4 p5 (suc (suc (suc (suc (suc zero))))) l = p5
+up_to_five P p0 p1 p2 p3 p4 p5 (suc (suc (suc (suc (suc (suc k)))))) l = absurd (omega (arith, l))
+
+-- the smaller of two refusals is that at the smaller place
+abbrev Smaller : ℕ → ℕ → Type 0
+Smaller p q = ord_min cmp-value.it (refusal_at p) (refusal_at q) ≡ refusal_at (min p q)
+
+pub smaller : (p : ℕ) → p ≤ 5 → (q : ℕ) → q ≤ 5 → Smaller p q
+smaller =
+    up_to_five (λ p. (q : ℕ) → q ≤ 5 → Smaller p q)
+    (up_to_five (Smaller 0) refl refl refl refl refl refl)
+    (up_to_five (Smaller 1) refl refl refl refl refl refl)
+    (up_to_five (Smaller 2) refl refl refl refl refl refl)
+    (up_to_five (Smaller 3) refl refl refl refl refl refl)
+    (up_to_five (Smaller 4) refl refl refl refl refl refl)
+    (up_to_five (Smaller 5) refl refl refl refl refl refl)
+
+-- its number
+pub number_at : (place : ℕ) → place ≤ 5 → refusal_number (refusal_at place) ≡ get_or (6 ∷ 6 ∷ 7 ∷ 8 ∷ 9 ∷ 23 ∷ []) place 0
+number_at =
+    up_to_five (λ place. refusal_number (refusal_at place) ≡ get_or (6 ∷ 6 ∷ 7 ∷ 8 ∷ 9 ∷ 23 ∷ []) place 0) refl refl refl refl refl refl
+
+-- whether there is one
+module _ (place : ℕ) {fault : Option Refusal} (is-fault : fault ≡ slice_get message_refusals place) where
+  pub faulted : is_some fault ≡ true → place ≡ no_fault → ⊥
+  faulted some none =
+      let nothing : fault ≡ None = is-fault ∙ ap (slice_get message_refusals) none in
+      cc
+
+  pub unfaulted : is_some fault ≡ false → place ≤ no_fault → place ≡ no_fault
+  unfaulted none within =
+      up_to_five (λ p. is_some (slice_get message_refusals p) ≡ false → p ≡ no_fault) (λ e. cc) (λ e. cc) (λ e. cc) (λ e. cc) (λ e. cc) (λ e. refl) place
+      within (rw is-fault at none)
+
 -- ---- checks that catch one thing or another
 abbrev pick : (MessageCheck → Bool) → List MessageCheck → ℕ
 pick g checks = first_place (map (λ c. record { caught = g c; number = c.number }) checks)
@@ -114,38 +133,42 @@ pick_or g h (c ∷ rest) = go (g c) (h c) (pick_or g h rest)
     go false true e = omega arith
     go false false e = omega arith
 
--- ---- the loop
--- The loop has looked at the first k messages.
-pub record Looked (checks : List MessageCheck) (m k first : ℕ) : Type 0 where
-  pub within : k ≤ m
-  pub found : first ≡ first_place (checks_below checks k)
-
-nothing_below : (checks : List MessageCheck) → length checks ≡ first_place (checks_below checks 0)
+-- ---- over the messages: where the checks catch nothing yet; behind message k
+pub nothing_below : (checks : List MessageCheck) → length checks ≡ first_place (checks_below checks 0)
 unfolding first_place any_below
 nothing_below [] = refl
 nothing_below (c ∷ rest) = ap suc (nothing_below rest)
 
-module _ {checks : List MessageCheck} {m : ℕ} where
-  pub looked_none : Looked checks m 0 (length checks)
-  looked_none = record { within = zero-le; found = nothing_below checks }
+pub place_next : (checks : List MessageCheck) (k : ℕ)
+    → min (first_place (checks_below checks k)) (first_place (checks_at checks k)) ≡ first_place (checks_below checks (k + 1))
+unfolding any_below
+place_next checks k =
+    sym (pick_or (λ c. c.catches k) (λ c. any_below k c.catches) checks) ∙ ap (λ (j : ℕ). first_place (checks_below checks j)) (sym (add-one k))
 
-  module _ {k first : ℕ} (w : Looked checks m k first) where
-    pub looked_all : m ≤ k → first ≡ first_place (checks_below checks m)
-    looked_all l = w.found ∙ ap (λ (j : ℕ). first_place (checks_below checks j)) (le_antisymm w.within l)
+-- `first` is the refusal by the first check that catches one of the first k messages; `fault` is that of message k
+module _ (checks : List MessageCheck) (few : length checks ≤ no_fault) (k : ℕ)
+    {first : Refusal} (is-first : first ≡ refusal_at (first_place (checks_below checks k)))
+    {fault : Option Refusal} (is-fault : fault ≡ slice_get message_refusals (first_place (checks_at checks k))) where
+  within_below : first_place (checks_below checks k) ≤ 5
+  within_below =
+      omega (arith, few, place_within (checks_below checks k), length-map {B = Check} checks (λ c. record { caught = any_below k c.catches; number = c.number }))
 
-    -- message k, and the place of the first check that catches it
-    module _ (l : k < m) {fault : ℕ} (is-fault : fault ≡ first_place (checks_at checks k)) where
-      pub looked_more : {next : ℕ} → next ≡ min first fault → Looked checks m (k + 1) next
-      unfolding any_below
-      looked_more is-next = record {
-        within = omega arith;
-        found =
-            is-next ∙ ap₂ min w.found is-fault ∙ sym (pick_or (λ c. c.catches k) (λ c. any_below k c.catches) checks)
-            ∙ ap (λ (j : ℕ). first_place (checks_below checks j)) (sym (add-one k));
-      }
+  within_at : first_place (checks_at checks k) ≤ 5
+  within_at =
+      omega (arith, few, place_within (checks_at checks k), length-map {B = Check} checks (λ c. record { caught = c.catches k; number = c.number }))
 
-      -- none catches it
-      pub looked_past : fault ≡ length checks → Looked checks m (k + 1) first
-      looked_past none =
-          let whole = length-map {B = Check} checks (λ c. record { caught = any_below k c.catches; number = c.number }) in
-          looked_more (omega (arith, w.found, place_within (checks_below checks k), whole))
+  -- it is caught
+  pub fault_joined : {here next : Refusal} → fault ≡ Some here → next ≡ ord_min cmp-value.it first here
+      → next ≡ refusal_at (first_place (checks_below checks (k + 1)))
+  fault_joined {here} is-here is-next =
+      let at-place : refusal_at (first_place (checks_at checks k)) ≡ here =
+      get_or_from_slice_get message_refusals (first_place (checks_at checks k)) here ChannelOutOfOrder (sym is-fault ∙ is-here) in
+      is-next ∙ ap₂ (ord_min cmp-value.it) is-first (sym at-place)
+      ∙ smaller (first_place (checks_below checks k)) within_below (first_place (checks_at checks k)) within_at ∙ ap refusal_at (place_next checks k)
+
+  -- it is not
+  pub fault_passed : is_some fault ≡ false → first ≡ refusal_at (first_place (checks_below checks (k + 1)))
+  fault_passed none =
+      let behind : first_place (checks_at checks k) ≡ no_fault = unfaulted _ is-fault none within_at in
+      let same : first_place (checks_below checks k) ≡ first_place (checks_below checks (k + 1)) = omega (arith, behind, within_below, place_next checks k) in
+      is-first ∙ ap refusal_at same

@@ -1,11 +1,15 @@
 -- Of the code: what the loops of the checks read off a part of a table's bytes, entry by entry. The laws join these to
 -- the checks of the table. Assumes nothing.
 use Rattle.std.specs.Prelude.{Bool, true, false, cond, List, [], ◌∷◌, ◌++◌, map, ◌≡◌, ℕ, suc, ◌+◌}
-use Rattle.std.specs.Prelude.{◌*◌, ◌≤◌, ◌<◌, eqb, leb, ltb, length}
+use Rattle.std.specs.Prelude.{◌*◌, ◌≤◌, ◌<◌, eqb, leb, ltb, length, get_or}
 use Rattle.tables.specs.Checks.{Check, bad_count, broken_below, first_caught}
 use Rattle.tables.specs.Format.{checkpoint_at, count_at, message_at, process_at}
 use Rattle.tables.specs.Lists.{any_below}
 use Rattle.tables.specs.Table.{Message, most_messages, most_processes}
+use Rattle.tables.specs.declared.refusal.Refusal.{Refusal}
+use Rattle.tables.specs.declared.refusal.Refusal.TheVariants.{ChannelOutOfOrder, MessageToItsSender}
+use Rattle.tables.specs.declared.refusal.Refusal.TheVariants.{ReceiptNumberTooHigh, SendNumberTooHigh}
+use Rattle.tables.specs.declared.refusal.Refusal.TheVariants.{UnknownProcessInMessage}
 
 -- Entry p of a part of counts is 0 or above 4,096.
 unfoldable pub bad_count_at : List ℕ → ℕ → Bool
@@ -41,6 +45,16 @@ message_checks n counts sends receipts =
     ∷ record { catches = not_below_at counts sends; number = 8 }
     ∷ record { catches = above_at counts receipts; number = 9 }
     ∷ []
+
+-- Their refusals.
+abbrev pub message_refusals : List Refusal
+message_refusals =
+    UnknownProcessInMessage ∷ UnknownProcessInMessage ∷ MessageToItsSender ∷ SendNumberTooHigh ∷ ReceiptNumberTooHigh
+    ∷ []
+
+-- The refusal by the check at a place; behind the last stands that of a message out of turn.
+abbrev pub refusal_at : ℕ → Refusal
+refusal_at place = get_or message_refusals place ChannelOutOfOrder
 
 -- The place behind the last of them: none catches.
 abbrev pub no_fault : ℕ

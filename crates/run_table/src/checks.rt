@@ -1,40 +1,32 @@
 // The checks of a run table, in checking order (docs/MANUAL.md, "Refusals"). Each covers the whole table
 // before the next begins.
-ghost use Rattle.std.specs.Prelude.{◌≡◌, false, ◌+◌, ◌*◌, ◌<◌, length};
+ghost use Rattle.std.specs.Prelude.{◌≡◌, false, ◌+◌, ◌*◌, ◌<◌, length, slice_get, IfOk, MatchOption};
 ghost use Rattle.tables.specs.Checks.{table_refusal};
 ghost use Rattle.tables.specs.Format.{count_at, message_at, process_at};
 ghost use Rattle.tables.specs.Lists.{any_below};
+ghost use Rattle.tables.specs.Refusals.{refusal_in};
 ghost use Rattle.run_table.specs.EntryChecks.{FirstMessage, Sized, bad_count_at, checks_at, checks_below};
-ghost use Rattle.run_table.specs.EntryChecks.{first_place, message_checks, parts_refusal, to_itself_at, unknown_at};
+ghost use Rattle.run_table.specs.EntryChecks.{first_place, message_checks, message_refusals, parts_refusal};
+ghost use Rattle.run_table.specs.EntryChecks.{refusal_at, to_itself_at, unknown_at};
 
 use channels::behind_neighbour;
+use tables::accepted::RunTable;
 use tables::format::{
     COUNTS_AT, MOST_CHECKPOINTS, MOST_MESSAGES, MOST_PROCESSES, receipts_at, sends_at, table_length,
 };
 use tables::numbers::u16_at;
-
-// The place behind the checks of a message: none of them catches it.
-const NO_FAULT: usize = 5;
-
-// The numbers of the checks of a message, in checking order; behind the last, where none catches, that of a
-// message out of turn.
-const FAULTS: [u32; NO_FAULT + 1] = [6, 6, 7, 8, 9, 23];
+use tables::refusal::Refusal;
 
 // Whether one of the n counts of a part is 0 or above 4,096 (check 5).
 fn bad_count(counts: &[u8], n: usize) -> bool
     requires { length counts.now ≡ 2 * n }
     ensures { result ≡ any_below n (bad_count_at counts.now) }
 {
-    let mut p = 0;
-    while p < n {
+    for p in 0..n {
         let count = u16_at(counts, 2 * p);
-        if count == 0 {
+        if count == 0 || MOST_CHECKPOINTS < count {
             return true;
         }
-        if MOST_CHECKPOINTS < count {
-            return true;
-        }
-        p += 1;
     }
     false
 }
@@ -44,8 +36,7 @@ fn unknown_at(part: &[u8], n: usize, k: usize) -> bool
     requires { 4 * k + 1 < length part.now }
     ensures { result ≡ unknown_at n part.now k }
 {
-    let process = u16_at(part, 4 * k) as usize;
-    n <= process
+    n <= u16_at(part, 4 * k) as usize
 }
 
 // Whether message k has the same sender and receiver.
@@ -54,9 +45,7 @@ fn to_itself_at(sends: &[u8], receipts: &[u8], k: usize) -> bool
     requires k_in_bounds_2 { 4 * k + 1 < length receipts.now }
     ensures { result ≡ to_itself_at sends.now receipts.now k }
 {
-    let sender = u16_at(sends, 4 * k);
-    let receiver = u16_at(receipts, 4 * k);
-    sender == receiver
+    u16_at(sends, 4 * k) == u16_at(receipts, 4 * k)
 }
 
 // The count of the process of entry k of a part, where it has one.
@@ -70,60 +59,57 @@ fn count_for(counts: &[u8], part: &[u8], n: usize, k: usize) -> u16
     u16_at(counts, 2 * process)
 }
 
-// The place, among the checks of a message, of the first that catches message k; NO_FAULT where none
-// does. A process is known before its count is read.
-fn fault_at(counts: &[u8], sends: &[u8], receipts: &[u8], n: usize, k: usize) -> usize
+// The refusal of message k, by the first check of messages that catches it. A process is known before its count
+// is read.
+fn fault_at(counts: &[u8], sends: &[u8], receipts: &[u8], n: usize, k: usize) -> Option<Refusal>
     requires counts_len { length counts.now ≡ 2 * n }
     requires k_in_bounds { 4 * k + 3 < length sends.now }
     requires k_in_bounds_2 { 4 * k + 3 < length receipts.now }
-    ensures { result ≡ first_place (checks_at
-        (message_checks n counts.now sends.now receipts.now) k) }
+    ensures { result ≡ slice_get message_refusals (first_place (checks_at
+        (message_checks n counts.now sends.now receipts.now) k)) }
 {
-    if unknown_at(sends, n, k) {
-        return 0;
-    }
-    if unknown_at(receipts, n, k) {
-        return 1;
+    if unknown_at(sends, n, k) || unknown_at(receipts, n, k) {
+        return Some(Refusal::UnknownProcessInMessage);
     }
     if to_itself_at(sends, receipts, k) {
-        return 2;
+        return Some(Refusal::MessageToItsSender);
     }
     let sent = u16_at(sends, 4 * k + 2);
     if count_for(counts, sends, n, k) <= sent {
-        return 3;
+        return Some(Refusal::SendNumberTooHigh);
     }
     let received = u16_at(receipts, 4 * k + 2);
     if count_for(counts, receipts, n, k) < received {
-        return 4;
+        return Some(Refusal::ReceiptNumberTooHigh);
     }
-    NO_FAULT
+    None
 }
 
-// The first of m messages that a check catches or that is out of turn, or m. An accepted table, the usual
-// case, is gone through here alone.
-fn first_caught(counts: &[u8], sends: &[u8], receipts: &[u8], n: usize, m: usize) -> usize
+// The first of m messages that a check catches or that is out of turn. An accepted table, the usual case, is
+// gone through here alone.
+fn first_caught(counts: &[u8], sends: &[u8], receipts: &[u8], n: usize, m: usize) -> Option<usize>
     requires { Sized n m counts.now sends.now receipts.now }
-    ensures { FirstMessage
-        (message_checks n counts.now sends.now receipts.now)
-        (message_at sends.now receipts.now) m result }
+    ensures { MatchOption result
+        (FirstMessage (message_checks n counts.now sends.now receipts.now)
+        (message_at sends.now receipts.now) m m)
+        (λ k. (k < m) × FirstMessage (message_checks n counts.now sends.now receipts.now)
+        (message_at sends.now receipts.now) m k) }
 {
     let mut last = [0u16; 1024];
-    let mut k = 0;
-    while k < m {
-        if fault_at(counts, sends, receipts, n, k) != NO_FAULT {
-            return k;
+    for k in 0..m {
+        if fault_at(counts, sends, receipts, n, k).is_some() {
+            return Some(k);
         }
         if behind_neighbour(&mut last, sends, receipts, k) {
-            return k;
+            return Some(k);
         }
-        k += 1;
     }
-    k
+    None
 }
 
-// The place of the first check that catches one of m messages, where none catches one below `from`;
-// NO_FAULT where none does. One look at each message is enough: the smallest of their places is that of the check
-// that comes first.
+// The refusal of m messages, of which the first that is caught or out of turn is message `from`: by the first
+// check of messages that catches one of them, or else of one that is out of turn. One look at each message is enough:
+// refusals compare by the checking order.
 fn first_fault(
     counts: &[u8],
     sends: &[u8],
@@ -131,67 +117,66 @@ fn first_fault(
     n: usize,
     m: usize,
     from: usize,
-) -> usize
+) -> Refusal
     requires sized { Sized n m counts.now sends.now receipts.now }
     requires first_message { FirstMessage (message_checks n counts.now sends.now receipts.now)
         (message_at sends.now receipts.now) m from }
-    ensures { result ≡ first_place (checks_below
-        (message_checks n counts.now sends.now receipts.now) m) }
+    ensures { result ≡ refusal_at (first_place (checks_below
+        (message_checks n counts.now sends.now receipts.now) m)) }
 {
-    let mut first = NO_FAULT;
-    let mut k = from;
-    while k < m {
-        let fault = fault_at(counts, sends, receipts, n, k);
-        k += 1;
-        if first <= fault {
-            continue;
+    let mut first = Refusal::ChannelOutOfOrder;
+    for k in from..m {
+        if let Some(fault) = fault_at(counts, sends, receipts, n, k) {
+            first = first.min(fault);
         }
-        first = fault;
     }
     first
 }
 
-// The refusal of a table's bytes: the number of the first of its checks that catches, or 0.
-pub fn check(table: &[u8]) -> u32
-    ensures { result ≡ table_refusal table.now }
+// Bytes as an accepted table, or their refusal by the first of a table's checks that catches.
+pub fn check(bytes: &[u8]) -> Result<RunTable<'_>, Refusal>
+    ensures refusal { refusal_in result ≡ table_refusal bytes.now }
+    ensures table { IfOk result (λ table. table.bytes.now ≡ bytes.now) }
 {
-    if table.len() < 4 {
-        return 1;
+    if bytes.len() < 4 {
+        return Err(Refusal::TableTooShort);
     }
-    let n = u16_at(table, 0) as usize;
-    let m = u16_at(table, 2) as usize;
-    if n == 0 {
-        return 2;
-    }
-    if MOST_PROCESSES < n {
-        return 2;
+    let n = u16_at(bytes, 0) as usize;
+    let m = u16_at(bytes, 2) as usize;
+    if n == 0 || MOST_PROCESSES < n {
+        return Err(Refusal::ProcessesOutOfRange);
     }
     if MOST_MESSAGES < m {
-        return 3;
+        return Err(Refusal::TooManyMessages);
     }
-    if table.len() != table_length(n, m) {
-        return 4;
+    if bytes.len() != table_length(n, m) {
+        return Err(Refusal::WrongLength);
     }
     let sends_start = sends_at(n);
     let receipts_start = receipts_at(n, m);
-    let counts = &table[COUNTS_AT..sends_start];
-    let sends = &table[sends_start..receipts_start];
-    let receipts = &table[receipts_start..];
-    entry_checks(counts, sends, receipts, n, m)
+    let counts = &bytes[COUNTS_AT..sends_start];
+    let sends = &bytes[sends_start..receipts_start];
+    let receipts = &bytes[receipts_start..];
+    entry_checks(counts, sends, receipts, n, m)?;
+    Ok(RunTable { bytes })
 }
 
 // Checks 5 to 9 and 23, on the three parts of a table whose sizes and length are right.
-fn entry_checks(counts: &[u8], sends: &[u8], receipts: &[u8], n: usize, m: usize) -> u32
+fn entry_checks(
+    counts: &[u8],
+    sends: &[u8],
+    receipts: &[u8],
+    n: usize,
+    m: usize,
+) -> Result<(), Refusal>
     requires { Sized n m counts.now sends.now receipts.now }
-    ensures { result ≡ parts_refusal n m counts.now sends.now receipts.now }
+    ensures { refusal_in result ≡ parts_refusal n m counts.now sends.now receipts.now }
 {
     if bad_count(counts, n) {
-        return 5;
+        return Err(Refusal::CountOutOfRange);
     }
-    let caught = first_caught(counts, sends, receipts, n, m);
-    if caught == m {
-        return 0;
+    match first_caught(counts, sends, receipts, n, m) {
+        Some(caught) => Err(first_fault(counts, sends, receipts, n, m, caught)),
+        None => Ok(()),
     }
-    let fault = first_fault(counts, sends, receipts, n, m, caught);
-    FAULTS[fault]
 }

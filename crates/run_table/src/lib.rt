@@ -17,7 +17,10 @@ use tables::{lookups, numbers};
 pub extern "C" fn run_table_check(table: &[u8]) -> u32
     ensures { result ≡ table_refusal table.now }
 {
-    checks::check(table)
+    match checks::check(table) {
+        Ok(_) => 0,
+        Err(refusal) => u32::from(refusal),
+    }
 }
 
 // N, the number of processes. This and the lookups below read any bytes, accepted or not: what

@@ -2,35 +2,39 @@
 // them judges an accepted table.
 #![tactic(auto)]
 
-ghost use Rattle.std.specs.Prelude.{◌≡◌};
+ghost use Rattle.std.specs.Prelude.{◌≡◌, IfOk};
 ghost use Rattle.call_checks.specs.CallChecks.{lines_of_sets_checks};
 ghost use Rattle.tables.specs.Checks.{first_caught};
+ghost use Rattle.tables.specs.Refusals.{refusal_in};
 
 use process_set::some_high_bit;
 use refusals::short_of_lines;
 use run_table::checks::check;
-use tables::parts;
+use tables::accepted::RunTable;
+use tables::refusal::Refusal;
 
 // The most sets that one call takes.
 pub const MOST_SETS: usize = 256;
 
 // The lines of many sets, given the length of the scratch: the table's checks, 25, 12, 15.
-pub fn sets_refusal(table: &[u8], sets: &[u32], numbers: usize) -> u32
-    ensures { result ≡ first_caught
-        (lines_of_sets_checks table.now sets.now numbers) }
+pub fn sets_refusal<'a>(
+    bytes: &'a [u8],
+    sets: &[u32],
+    numbers: usize,
+) -> Result<RunTable<'a>, Refusal>
+    ensures refusal { refusal_in result ≡ first_caught
+        (lines_of_sets_checks bytes.now sets.now numbers) }
+    ensures table { IfOk result (λ table. table.bytes.now ≡ bytes.now) }
 {
-    let refusal = check(table);
-    if refusal != 0 {
-        return refusal;
-    }
+    let table = check(bytes)?;
     if MOST_SETS < sets.len() {
-        return 25;
+        return Err(Refusal::TooManySets);
     }
-    if some_high_bit(sets, parts::process_count(table)) {
-        return 12;
+    if some_high_bit(sets, table.process_count()) {
+        return Err(Refusal::UnknownProcessInSet);
     }
     if short_of_lines(table, numbers) {
-        return 15;
+        return Err(Refusal::ScratchTooShort);
     }
-    0
+    Ok(table)
 }

@@ -10,6 +10,7 @@
 --     TurnLaws      channels that deliver in turn
 --     AcceptLaws    an accepted table's facts
 --     ReadLaws      what the code knows of an accepted table once it has read N and M
+--     RefusedLaws   refusals and their numbers; a refusal that is passed on
 pub mod AcceptLaws
 pub mod ArrayLaws
 pub mod CheckLaws
@@ -18,6 +19,7 @@ pub mod FormatLaws
 pub mod ListLaws
 pub mod NumberLaws
 pub mod ReadLaws
+pub mod RefusedLaws
 pub mod SearchedLaws
 pub mod SelectLaws
 pub mod TurnLaws

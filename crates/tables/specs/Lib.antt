@@ -7,6 +7,7 @@
 --     Fields     the numbers of a message, by name
 --     Arrays     numbers of processes, as an array of the code; a list that is filled from the front
 --     Parts      what the code may assume of the parts of an accepted table
+--     Refusals   the refusals by name, their numbers, and that of a result
 pub mod Arrays
 pub mod Checks
 pub mod Fields
@@ -14,4 +15,5 @@ pub mod Format
 pub mod Lists
 pub mod Numbers
 pub mod Parts
+pub mod Refusals
 pub mod Table

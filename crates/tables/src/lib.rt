@@ -3,8 +3,10 @@
 // `run_table`.
 #![tactic(auto)]
 
+pub mod accepted;
 pub mod format;
 pub mod lookups;
 pub mod messages;
 pub mod numbers;
 pub mod parts;
+pub mod refusal;

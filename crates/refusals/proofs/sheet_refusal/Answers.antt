@@ -1,0 +1,21 @@
+-- The checks, one after another.
+use Rattle.call_checks.proofs.RefusalLaws.{catches, first_of, more_left, neither, next, none_left, own_left, quiet_receive, quiet_under, second_of}
+use Rattle.call_checks.specs.CallChecks.{keep_sheet_checks}
+use Rattle.refusals.proofs.ExitLaws.{front_exit, table_exit}
+use Rattle.refusals.proofs.sheet_refusal.Goals as goal
+use Rattle.std.proofs.Common.{ap, sym, ◌∙◌}
+
+pub returns-in_err-table-clause-refusal : goal.returns-in_err-table-clause-refusal
+unfolding keep_sheet_checks
+returns-in_err-table-clause-refusal c =
+    table_exit c.from_residual.result _ c.from_residual.ensures.1 _ _ c.in_err-table.ensures.refusal
+
+pub returns-then-short_of_lines-clause-refusal : goal.returns-then-short_of_lines-clause-refusal
+unfolding keep_sheet_checks
+returns-then-short_of_lines-clause-refusal c =
+    catches (own_left _ _ (sym c.in_ok-table.ensures.refusal)) (cc c.in_ok-table.ensures.table)
+
+pub returns-clause-refusal : goal.returns-clause-refusal
+unfolding keep_sheet_checks
+returns-clause-refusal c =
+    none_left (next (own_left _ _ (sym c.in_ok-table.ensures.refusal)) (cc c.in_ok-table.ensures.table))
