@@ -24,8 +24,7 @@ fn mark(marks: &mut [u8], b: usize)
     requires { b / 8 < length marks.old }
     ensures { marks.new ≡ with_bit marks.old b }
 {
-    let at = b / 8;
-    marks[at] = marks[at] | (1 << (b % 8));
+    marks[b / 8] |= 1 << (b % 8);
 }
 
 // Sets the bits from one on, before an end. Behind one that is set they all are, so it stops there.
@@ -34,13 +33,11 @@ pub fn mark_from(marks: &mut [u8], from: usize, end: usize)
     requires onwards { Onwards from end marks.old }
     ensures { SetFrom from end marks.old marks.new }
 {
-    let mut b = from;
-    while b < end {
+    for b in from..end {
         if is_marked(marks, b) {
             return;
         }
         mark(marks, b);
-        b += 1;
     }
 }
 
@@ -50,12 +47,8 @@ pub fn first_bits(table: &[u8]) -> [usize; 33]
     ensures { result ≡ tabulate 33 (first_bit (decode table.now).counts) }
 {
     let mut first = [0usize; 33];
-    let mut bits = 0;
-    let mut p = 0;
-    while p < 32 {
-        bits += 1 + (lookups::count(table, p) as usize);
-        p += 1;
-        first[p] = bits;
+    for p in 0..32 {
+        first[p + 1] = first[p] + 1 + usize::from(lookups::count(table, p));
     }
     first
 }
@@ -65,8 +58,7 @@ pub fn state_bit(first: &[usize], p: usize, y: u16) -> usize
     requires { (p < length first.now) × (get_or first.now p 0 ≤ most_bits) }
     ensures { result ≡ get_or first.now p 0 + y }
 {
-    let start = first[p];
-    start + (y as usize)
+    first[p] + usize::from(y)
 }
 
 // The end of the bits of process p, by the array of first bits.
@@ -84,8 +76,7 @@ pub fn marks_size(table: &[u8]) -> usize
 {
     let n = parts::process_count(table);
     let first = first_bits(table);
-    let bits = first[n];
-    (bits + 7) / 8
+    first[n].div_ceil(8)
 }
 
 // Clears the first bytes.
@@ -93,9 +84,5 @@ pub fn clear(marks: &mut [u8], size: usize)
     requires { size ≤ length marks.old }
     ensures { marks.new ≡ cleared size marks.old }
 {
-    let mut k = 0;
-    while k < size {
-        marks[k] = 0;
-        k += 1;
-    }
+    marks[..size].fill(0);
 }
