@@ -7,7 +7,6 @@
 --     IsMarked, marks_in_lem, marks_are, marks_bit    the marks that a buffer holds, by its bits
 --     reached_all                        where no message leads to anything new, all that is reachable is marked
 --     Growing, passes_more, passes_end   the invariant of the passes, one pass more, the last one
---     at_root, by_bit                    whether a state is its root or is marked
 -- Assumes nothing.
 use mathlib.Core.Bool.{Bool, true, false, ◌||◌, false≢true, true≢false}
 use mathlib.Core.List.{List}
@@ -17,7 +16,7 @@ use Prim.Native.Nat.{ℕ, suc, ◌+◌, ◌-◌, ◌*◌, ◌/◌, ◌≤◌, �
 use native.Mathlib.Decide.{dec_le, ℕ_discrete}
 use native.Mathlib.Nat.{le_refl}
 use native.Mathlib.Omega.{arith}
-use borrow.Author.Tests.{eq-eqb, eqb-true, le-leb, leb-true, lt-ltb, ltb-true, ne_eqb}
+use borrow.Author.Tests.{eq-eqb, eqb-true, le-leb, leb-true, lt-ltb, ltb-true}
 use lib.Dec.{eqb, leb, ltb}
 use lib.ListN.{get_or, length}
 use Rattle.checkpoint_graph.proofs.GraphLaws.{leads_carry, leads_to}
@@ -27,7 +26,7 @@ use Rattle.marked_line.proofs.MarkRowLaws.{bit_in, first_read, first-there, kept
 use Rattle.marked_line.proofs.MarkRowLaws.{row_here, row_kept, row_onwards, row_other, row_room, row_stay}
 use Rattle.marked_line.specs.Marking.{BitThere, Closed, MarksGrown, Lent, PassMade, Reached, Ready, RestsAt, marked_in, marks_in}
 use Rattle.marking.proofs.ReachLaws.{reach_edge, reach_root, reach_up}
-use Rattle.marking.specs.Procedure.{Reachable, root}
+use Rattle.marking.specs.Procedure.{Reachable}
 use Rattle.marks.proofs.BitLaws.{unset_falls, unset_fewer}
 use Rattle.marks.proofs.LayoutLaws.{first_apart}
 use Rattle.marks.specs.Bits.{Onwards, SetFrom, bit_at, first_bit, unset}
@@ -481,12 +480,3 @@ module _ {table first roots start buffer after : List ℕ} {marked : Bool} (w : 
   pub passes_end : marked ≡ false → Reached (decode table) roots start after
   passes_end e =
       reached_all (decode table) (facts table w.lent.accepted).well_formed roots after p.ready (p.at_rest e) (grown_both w.grown p.grown)
-
--- ---- whether a state is at its root or marked
-pub at_root : {y root : ℕ} (b : Bool) → y ≡ root → true ≡ (eqb y root || b)
-at_root {y} {root} b e = sym (ap (λ (x : Bool). x || b) (eq-eqb y root e))
-
-pub by_bit : (y root start : ℕ) (marks : List ℕ) {bit : ℕ} {found : Bool} → (y ≡ root → ⊥) → bit ≡ start + y → found ≡ bit_at marks bit
-    → found ≡ (eqb y root || bit_at marks (start + y))
-by_bit y root start marks other bit_is found-is =
-    found-is ∙ ap (bit_at marks) bit_is ∙ sym (ap (λ (x : Bool). x || bit_at marks (start + y)) (ne_eqb y root other))

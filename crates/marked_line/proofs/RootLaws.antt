@@ -3,8 +3,8 @@
 --     Over, over_none, over_more, over_known .. row_there    what each loop over the processes carries, and what it asks of a process
 --     Behind, behind_begins .. behind_ends         the invariant of the loop that marks the states behind the roots
 --     behind_ready, behind_reachable               these marks are ready for a marking, and of reachable states alone
---     root_marked, RootsAsked, asked_more, asked_found, asked_none    the invariant of the loop that looks for a marked root
---     Descending, descends_from, descends, lands   the invariant of the loop that looks for an unmarked state
+--     root_there, root_marked, asked_all           whether a root is marked
+--     latest_found                                 the latest unmarked state of a process
 --     Giving, giving_none, start_few, start_in, start_unset, giving_more, giving_all    the invariant of the loop over the roots
 -- Assumes nothing.
 use mathlib.Core.Bool.{Bool, true, false, false≢true}
@@ -24,13 +24,16 @@ use Rattle.tables.proofs.FormatLaws.{message_in}
 use Rattle.checkpoint_graph.specs.Graph.{received, state}
 use Rattle.marked_line.proofs.MarkRowLaws.{bit_in, first_few, first_read, first-there, kept_both, kept_none, lent_kept, process_few, row_below}
 use Rattle.marked_line.proofs.MarkRowLaws.{row_end, row_here, row_kept, row_other, row_room}
-use Rattle.marked_line.specs.Marking.{GaveWay, Kept, LatestUnset, Lent, OnlyBehind, Ready, Unmarked, ZeroUnmarked, marked_in}
+use Rattle.marked_line.specs.Marking.{BitThere, GaveWay, Kept, LatestUnset, Lent, OnlyBehind, Ready, Unmarked, ZeroUnmarked, marked_in}
 use Rattle.marking.proofs.ReachLaws.{reach_root}
 use Rattle.marking.specs.Procedure.{Reachable}
 use Rattle.marks.proofs.LayoutLaws.{first_more, first_small}
 use Rattle.marks.specs.Bits.{Onwards, SetFrom, bit_at, first_bit, most_bits}
+use Rattle.std.specs.Option.{IfSome, MatchOption, unwrap_or}
+use Rattle.std.specs.declared.option.Option.{Option}
+use Rattle.std.specs.declared.option.Option.TheVariants.{None, Some}
+use Rattle.tables.proofs.ListLaws.{any_below_found, any_below_none}
 use Rattle.tables.proofs.ReadLaws.{processes_few}
-use Rattle.tables.proofs.SearchedLaws.{Searched, searched_all, searched_here, searched_more}
 use Rattle.tables.specs.Checks.{WellFormed}
 use Rattle.tables.specs.Format.{decode}
 use Rattle.tables.specs.Lists.{any_below}
@@ -56,6 +59,20 @@ module _ {table first roots marks : List ℕ} (lent : Lent table first roots mar
           first_small table lent.accepted (suc p),
           process_few lent p known,
         )
+
+-- what asking for the mark of a root asks
+pub root_there : {table first roots marks : List ℕ} {n p : ℕ} → Lent table first roots marks → n ≡ process_count (decode table) → p < n
+    → BitThere first roots marks p (get_or roots p 0)
+root_there {table = table} {roots = roots} {p = p} lent n_is l =
+    let known : p < process_count (decode table) = omega arith in
+    let few = process_few lent p known in
+    record {
+      few = few;
+      in_first = (first-there lent p (omega (arith, few))).0;
+      in_roots = omega (arith, few, lent.for_each);
+      small = (first-there lent p (omega (arith, few))).1;
+      inside = bit_in lent p known (get_or roots p 0) (lent.roots-there p known);
+    }
 
 -- ---- a loop over the processes
 -- It stands before process p of n.
@@ -195,60 +212,34 @@ module _ (t : Table) (wf : WellFormed t) (roots buffer : List ℕ) (only : OnlyB
 abbrev pub root_marked : Table → List ℕ → List ℕ → ℕ → Bool
 root_marked t roots buffer p = marked_in t buffer p (get_or roots p 0)
 
-pub record RootsAsked (table first roots marks : List ℕ) (n p : ℕ) : Type 0 where
-  pub over : Over table first roots marks n p
-  pub searched : Searched (process_count (decode table)) (root_marked (decode table) roots marks) p
+-- the code asks for the mark of each root until one is marked
+module _ {table first roots marks : List ℕ} {n : ℕ} (lent : Lent table first roots marks) (n_is : n ≡ process_count (decode table)) where
+  asked : (p : ℕ) → p < process_count (decode table) → bit_at marks (get_or first p 0 + get_or roots p 0) ≡ root_marked (decode table) roots marks p
+  unfolding marked_in
+  asked p known = ap (bit_at marks) (root_bit lent known refl)
 
-module _ {table first roots marks : List ℕ} {n p : ℕ} (w : RootsAsked table first roots marks n p) where
-  pub asked_none : n ≤ p → false ≡ any_below (process_count (decode table)) (root_marked (decode table) roots marks)
-  asked_none l = searched_all w.searched (omega (arith, w.over.n_is))
-
-  module _ (more : p < n) {b : ℕ} (b-is : b ≡ get_or first p 0 + get_or roots p 0) where
-    asked : bit_at marks b ≡ root_marked (decode table) roots marks p
-    unfolding marked_in
-    asked = ap (bit_at marks) (root_bit w.over.lent (over_known w.over more) b-is)
-
-    pub asked_found : bit_at marks b ≡ true → true ≡ any_below (process_count (decode table)) (root_marked (decode table) roots marks)
-    asked_found e = searched_here w.searched (over_known w.over more) (sym asked ∙ e)
-
-    pub asked_more : bit_at marks b ≡ false → RootsAsked table first roots marks n (p + 1)
-    asked_more e =
-        record { over = over_more w.over more kept_none; searched = searched_more w.searched (over_known w.over more) (sym asked ∙ e) }
+  pub asked_all : (r : Bool) → (r ≡ true → (p : ℕ) × (p < n) × (bit_at marks (get_or first p 0 + get_or roots p 0) ≡ true))
+      → (r ≡ false → (p : ℕ) → p < n → bit_at marks (get_or first p 0 + get_or roots p 0) ≡ false)
+      → r ≡ any_below (process_count (decode table)) (root_marked (decode table) roots marks)
+  asked_all true some none =
+      let (p, below, set) = some refl in
+      let known : p < process_count (decode table) = omega arith in
+      sym (any_below_found (root_marked (decode table) roots marks) (process_count (decode table)) p known (sym (asked p known) ∙ set))
+  asked_all false some none =
+      sym (any_below_none (root_marked (decode table) roots marks) (process_count (decode table))
+      (λ p known. sym (asked p known) ∙ none refl p (omega arith)))
 
 -- ---- the latest unmarked state of one process
-pub record Descending (marks : List ℕ) (start root y : ℕ) : Type 0 where
-  pub few : start ≤ most_bits
-  pub inside : (start + root) / 8 < length marks
-  pub zero-unset : bit_at marks start ≡ false
-  pub no-later : y ≤ root
-  pub set_behind : (y' : ℕ) → y < y' → y' ≤ root → bit_at marks (start + y') ≡ true
-
-module _ {marks : List ℕ} {start root y : ℕ} (w : Descending marks start root y) where
-  pub lands : bit_at marks (start + y) ≡ false → LatestUnset marks start root y
-  lands e = record { no-later = w.no-later; not_set = e; set_behind = w.set_behind }
-
-  module _ (set : bit_at marks (start + y) ≡ true) where
-    pub descends_from : 0 < y
-    descends_from = go (dec_lt 0 y)
-      where
-        go : Dec (0 < y) → 0 < y
-        go (yes l) = l
-        go (no l) =
-            let place : start + y ≡ start = omega arith in
-            absurd (false≢true (sym w.zero-unset ∙ ap (bit_at marks) (sym place) ∙ set))
-
-    pub descends : Descending marks start root (y - 1)
-    descends = record {
-      few = w.few;
-      inside = w.inside;
-      zero-unset = w.zero-unset;
-      no-later = omega (arith, w.no-later);
-      set_behind = λ y' l l'. by_place y' l l' (ℕ_discrete y' y);
-    }
-      where
-        by_place : (y' : ℕ) → y - 1 < y' → y' ≤ root → Dec (y' ≡ y) → bit_at marks (start + y') ≡ true
-        by_place y' l l' (yes same) = subst⁻¹ (λ (x : ℕ). bit_at marks (start + x) ≡ true) same set
-        by_place y' l l' (no other) = w.set_behind y' (omega (arith, descends_from)) l'
+-- the code looks for one above state 0, from the root down
+pub latest_found : {marks : List ℕ} {start root : ℕ} (r : Option ℕ) → bit_at marks start ≡ false
+    → IfSome r (λ y. (y ≤ root) × (bit_at marks (start + y) ≡ false))
+    → ((y : ℕ) → 0 < y → y ≤ root → MatchOption r (bit_at marks (start + y) ≡ true) (λ y'. y' < y → bit_at marks (start + y) ≡ true))
+    → LatestUnset marks start root (unwrap_or r 0)
+latest_found {marks} {start} None none found set =
+    let place : start + 0 ≡ start = omega arith in
+    record { no-later = omega arith; not_set = ap (bit_at marks) place ∙ none; set_behind = set }
+latest_found (Some y) none found set =
+    record { no-later = found.0; not_set = found.1; set_behind = λ y' l l'. set y' (omega arith) l' l }
 
 -- ---- of all of them
 abbrev Latest : List ℕ → List ℕ → List ℕ → ℕ → ℕ → Type 0

@@ -3,7 +3,7 @@
 --     given_few, given_roots, starts_lent, starts_unmarked, starts_ready, running_starts    the start of the procedure
 --     gave_lent, gave_ready            what the roots that gave way are lent, and that a marking may begin with the marks
 --     running_since, running_more, running_falls, running_ends    a round, with which the roots fall; the end
---     end_fits, end_cleared, end_length            the marks are cleared again, and no byte beyond them was changed
+--     end_fits, end_cleared            the marks are cleared again, and no byte beyond them was changed
 -- Assumes nothing.
 use mathlib.Core.Bool.{true, false, false≢true}
 use mathlib.Core.List.{List}
@@ -285,9 +285,6 @@ module _ {t : Table} {start buffer : List ℕ} (k : Kept t start buffer) (fits :
   module _ {after : List ℕ} (after_is : after ≡ cleared size buffer) where
     pub end_cleared : after ≡ cleared (marks_size t) start
     end_cleared = after_is ∙ ap (λ (n : ℕ). cleared n buffer) size_is ∙ cleared_again (marks_size t) start buffer k.same_length k.beyond
-
-    pub end_length : length after ≡ length start
-    end_length = ap length end_cleared ∙ cleared-length (marks_size t) start fits
 
 -- the roots that were read off the ceilings
 pub given_roots : {table ceilings first roots start : List ℕ} → Given table ceilings first (array_of ceilings) start → roots ≡ array_of ceilings

@@ -31,12 +31,9 @@ fn mark_behind(table: &[u8], first: &[usize], roots: &[u16], marks: &mut [u8])
     ensures only_behind { OnlyBehind (decode table.now) roots.now marks.new }
 {
     let n = parts::process_count(table);
-    let mut p = 0;
-    while p < n {
+    for p in 0..n {
         let root = state_bit(first, p, roots[p]);
-        let end = row_end(first, p);
-        mark_from(marks, root + 1, end);
-        p += 1;
+        mark_from(marks, root + 1, row_end(first, p));
     }
 }
 
@@ -46,10 +43,7 @@ fn is_root_or_marked(first: &[usize], roots: &[u16], marks: &[u8], p: usize, y: 
     ensures { result ≡ (eqb y (get_or roots.now p 0)
         || bit_at marks.now (get_or first.now p 0 + y)) }
 {
-    if y == roots[p] {
-        return true;
-    }
-    is_marked(marks, state_bit(first, p, y))
+    y == roots[p] || is_marked(marks, state_bit(first, p, y))
 }
 
 // A pass over the messages, from the last to the first: where a message was sent from a root or from a marked
@@ -63,25 +57,22 @@ fn pass(table: &[u8], first: &[usize], roots: &[u16], marks: &mut [u8]) -> bool
     let sends = parts::sends(table);
     let receipts = parts::receipts(table);
     let mut marked = false;
-    let mut k = m;
-    while 0 < k {
-        k -= 1;
+    for k in (0..m).rev() {
         let received = u16_at(receipts, 4 * k + 2);
         if received == 0 {
             continue;
         }
-        let receiver = u16_at(receipts, 4 * k) as usize;
+        let receiver = usize::from(u16_at(receipts, 4 * k));
         let receipt = state_bit(first, receiver, received);
         if is_marked(marks, receipt) {
             continue;
         }
-        let sender = u16_at(sends, 4 * k) as usize;
+        let sender = usize::from(u16_at(sends, 4 * k));
         let sent = u16_at(sends, 4 * k + 2);
         if !is_root_or_marked(first, roots, marks, sender, sent) {
             continue;
         }
-        let end = row_end(first, receiver);
-        mark_from(marks, receipt, end);
+        mark_from(marks, receipt, row_end(first, receiver));
         marked = true;
     }
     marked
@@ -93,11 +84,7 @@ fn mark_reachable(table: &[u8], first: &[usize], roots: &[u16], marks: &mut [u8]
     requires ready { Ready (decode table.now) roots.now marks.old }
     ensures { Reached (decode table.now) roots.now marks.old marks.new }
 {
-    loop {
-        if !pass(table, first, roots, marks) {
-            return;
-        }
-    }
+    while pass(table, first, roots, marks) {}
 }
 
 // Whether a root is marked.
@@ -107,14 +94,7 @@ fn root_marked(table: &[u8], first: &[usize], roots: &[u16], marks: &[u8]) -> bo
         (λ p. marked_in (decode table.now) marks.now p (get_or roots.now p 0)) }
 {
     let n = parts::process_count(table);
-    let mut p = 0;
-    while p < n {
-        if is_marked(marks, state_bit(first, p, roots[p])) {
-            return true;
-        }
-        p += 1;
-    }
-    false
+    (0..n).any(|p| is_marked(marks, state_bit(first, p, roots[p])))
 }
 
 // The latest unmarked state at or below a root, by the first bit of its process, which is not set.
@@ -123,13 +103,10 @@ fn latest_unmarked(marks: &[u8], start: usize, root: u16) -> u16
     requires start_value { bit_at marks.now start ≡ false }
     ensures { LatestUnset marks.now start root result }
 {
-    let mut y = root;
-    loop {
-        if !is_marked(marks, start + (y as usize)) {
-            return y;
-        }
-        y -= 1;
-    }
+    (1..=root)
+        .rev()
+        .find(|y| !is_marked(marks, start + usize::from(*y)))
+        .unwrap_or(0)
 }
 
 // The roots after each gave way to the latest unmarked state at or below it.
@@ -140,10 +117,8 @@ fn give_way(table: &[u8], first: &[usize], roots: &[u16], marks: &[u8]) -> [u16;
 {
     let n = parts::process_count(table);
     let mut next = [0u16; 32];
-    let mut p = 0;
-    while p < n {
+    for p in 0..n {
         next[p] = latest_unmarked(marks, state_bit(first, p, 0), roots[p]);
-        p += 1;
     }
     next
 }
