@@ -6,7 +6,7 @@
 --     first_small                     of an accepted table the first bits are small
 --     firsts_none, firsts_here, firsts_more    the loop that finds them
 --     first_at, first_last            one of them, in the array; behind the last process stands the number of all bits
---     few, all_bits, size_is    that, as the code reads it
+--     few, first_read, end_read, bit_small, size_is    that, as the code reads it
 -- Assumes nothing.
 use mathlib.Core.List.{List}
 use mathlib.Core.Path.{◌≡◌, refl, sym, ap, ◌∙◌}
@@ -14,7 +14,7 @@ use Prim.Native.Nat.{ℕ, zero, suc, ◌+◌, ◌*◌, ◌/◌, ◌≤◌, ◌<�
 use native.Mathlib.Decide.{dec_lt, ℕ_discrete}
 use native.Mathlib.Omega.{arith}
 use lib.ListN.{get_or, length, replicate, set}
-use Rattle.marks.specs.Bits.{first_bit}
+use Rattle.marks.specs.Bits.{first_bit, most_bits}
 use Rattle.marks.specs.Room.{marks_size}
 use Rattle.tables.proofs.AcceptLaws.{facts}
 use Rattle.tables.proofs.ArrayLaws.{filled_more, filled_none}
@@ -114,14 +114,29 @@ pub first_last : (t : Table) → first_bit t.counts (process_count t) ≡ checkp
 unfolding process_count checkpoint_total
 first_last t = first-all t.counts
 
-module _ (table : List ℕ) (accepted : table_refusal table ≡ 0) {first : List ℕ} {n : ℕ} (are : first ≡ tabulate 33 (first_bit (decode table).counts))
-    (n_is : n ≡ process_count (decode table)) where
-  pub few : n ≤ 32
-  few = omega (arith, n_is, processes_few table accepted)
+-- as the code reads them
+module _ (table : List ℕ) (accepted : table_refusal table ≡ 0) where
+  pub few : {p : ℕ} → p ≤ process_count (decode table) → p ≤ 32
+  few known = omega (arith, processes_few table accepted)
 
-  pub all_bits : get_or first n 0 ≡ checkpoint_total (decode table) + process_count (decode table)
-  all_bits = first_at (decode table) are n few ∙ ap (first_bit (decode table).counts) n_is ∙ first_last (decode table)
+  module _ {first : List ℕ} (are : first ≡ tabulate 33 (first_bit (decode table).counts)) where
+    pub first_read : {p : ℕ} → p ≤ process_count (decode table) → get_or first p 0 ≡ first_bit (decode table).counts p
+    first_read {p} known = first_at (decode table) are p (few known)
 
-  pub size_is : (get_or first n 0 + 7) / 8 ≡ marks_size (decode table)
-  unfolding marks_size
-  size_is = ap (λ (b : ℕ). (b + 7) / 8) all_bits
+    pub end_read : {p : ℕ} → p < process_count (decode table) → get_or first (p + 1) 0 ≡ first_bit (decode table).counts (suc p)
+    end_read {p} known =
+        let next : p + 1 ≤ process_count (decode table) = omega arith in
+        let place : p + 1 ≡ suc p = omega arith in
+        first_read next ∙ ap (first_bit (decode table).counts) place
+
+    pub bit_small : {p y : ℕ} → p < process_count (decode table) → y ≤ count_of (decode table) p + 1 → get_or first p 0 + y ≤ most_bits
+    unfolding count_of
+    bit_small {p} known there =
+        let below : p ≤ process_count (decode table) = omega arith in
+        omega (arith, first_read below, first_more (decode table).counts p, first_small table accepted (suc p), processes_few table accepted)
+
+    pub size_is : {n : ℕ} → n ≡ process_count (decode table) → (get_or first n 0 + 7) / 8 ≡ marks_size (decode table)
+    unfolding marks_size
+    size_is {n} n_is =
+        let last : n ≤ process_count (decode table) = omega arith in
+        ap (λ (b : ℕ). (b + 7) / 8) (first_read last ∙ ap (first_bit (decode table).counts) n_is ∙ first_last (decode table))
