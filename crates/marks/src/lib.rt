@@ -2,7 +2,7 @@
 #![tactic(auto)]
 
 ghost use Rattle.std.specs.Prelude.{suc, ◌≡◌, ◌+◌, ◌*◌, ◌/◌, ◌≤◌, ◌<◌, length};
-ghost use Rattle.marks.specs.Bits.{Onwards, SetFrom, bit_at, first_bit, with_bit};
+ghost use Rattle.marks.specs.Bits.{Onwards, SetFrom, bit_at, first_bit, marked_in, with_bit};
 ghost use Rattle.marks.specs.Room.{cleared, marks_size};
 ghost use Rattle.tables.specs.Checks.{table_refusal};
 ghost use Rattle.tables.specs.Format.{decode};
@@ -113,7 +113,7 @@ impl<'a> Layout<'a> {
         requires known { p < process_count (decode self.now.table.now) }
         requires there { y ≤ count_of (decode self.now.table.now) p }
         requires room { marks_size (decode self.now.table.now) ≤ length marks.now }
-        ensures { result ≡ bit_at marks.now (first_bit (decode self.now.table.now).counts p + y) }
+        ensures { result ≡ marked_in (decode self.now.table.now) marks.now p y }
     {
         is_set(marks, self.bit(p, usize::from(y)))
     }

@@ -1,5 +1,6 @@
 -- `mark_reachable` meets its contract: what is marked is reachable, and the last pass marked nothing.
 use Rattle.marked_line.proofs.MarkPassLaws.{grown_none, passes_end, passes_more}
+use Rattle.tables.proofs.AcceptLaws.{facts}
 use Rattle.marked_line.proofs.mark_reachable.Goals as goal
 
 pub loop-init : goal.loop-init
@@ -15,4 +16,4 @@ pub loop-preserved : goal.loop-preserved
 loop-preserved c = passes_more c.loop.invariant c.pass.ensures
 
 pub returns : goal.returns
-returns c = passes_end c.loop.invariant c.pass.ensures c.loop-test.false
+returns c = passes_end c.loop.invariant c.pass.ensures (facts _ c.args.layout.now.accepted).well_formed c.loop-test.false
