@@ -2,35 +2,34 @@
 --     grown_none, grown_both             nothing marked; one pass after another
 --     MarkPassing, pass_begins, pass_ends    the invariant of one pass, how it begins and how it ends
 --     AtReceipt, AtSend                  the pass at its next message: the receipt was read; the send was, too
---     receiver_few, receipt_in, send-there, end_in, row_ready    what the code asks of that message and of its row
+--     receiver_known, received-there, sender_known, sent_there, row_ready    what the code asks of that message and of its row
 --     skips_undelivered, skips_marked, skips_unreached, pass_marks    what its tests say of it
 --     IsMarked, marks_in_lem, marks_are, marks_bit    the marks that a buffer holds, by its bits
 --     reached_all                        where no message leads to anything new, all that is reachable is marked
 --     Growing, passes_more, passes_end   the invariant of the passes, one pass more, the last one
---     at_root, by_bit                    whether a state is its root or is marked
 -- Assumes nothing.
 use mathlib.Core.Bool.{Bool, true, false, ◌||◌, false≢true, true≢false}
 use mathlib.Core.List.{List}
 use mathlib.Core.Logic.{◌⊎◌, inl, inr, ⊎_elim}
 use mathlib.Core.Path.{◌≡◌, refl, sym, ap, ap₂, ◌∙◌, subst, subst⁻¹}
-use Prim.Native.Nat.{ℕ, suc, ◌+◌, ◌-◌, ◌*◌, ◌/◌, ◌≤◌, ◌<◌}
+use Prim.Native.Nat.{ℕ, suc, ◌+◌, ◌-◌, ◌*◌, ◌≤◌, ◌<◌}
 use native.Mathlib.Decide.{dec_le, ℕ_discrete}
 use native.Mathlib.Nat.{le_refl}
 use native.Mathlib.Omega.{arith}
-use borrow.Author.Tests.{eq-eqb, eqb-true, le-leb, leb-true, lt-ltb, ltb-true, ne_eqb}
+use borrow.Author.Tests.{eq-eqb, eqb-true, le-leb, leb-true, lt-ltb, ltb-true}
 use lib.Dec.{eqb, leb, ltb}
-use lib.ListN.{get_or, length}
+use lib.ListN.{get_or}
 use Rattle.checkpoint_graph.proofs.GraphLaws.{leads_carry, leads_to}
 use Rattle.tables.proofs.FormatLaws.{message_in}
 use Rattle.checkpoint_graph.specs.Graph.{Edge, Leads, State, received, state, to_next}
-use Rattle.marked_line.proofs.MarkRowLaws.{bit_in, first_read, first-there, kept_both, kept_none, lent_kept, process_few, row_below, row_end}
-use Rattle.marked_line.proofs.MarkRowLaws.{row_here, row_kept, row_onwards, row_other, row_room, row_stay}
-use Rattle.marked_line.specs.Marking.{BitThere, Closed, MarksGrown, Lent, PassMade, Reached, Ready, RestsAt, marked_in, marks_in}
+use Rattle.marked_line.proofs.MarkRowLaws.{kept_both, kept_none, lent_kept, row_below}
+use Rattle.marked_line.proofs.MarkRowLaws.{row_here, row_kept, row_onwards, row_other, row_stay}
+use Rattle.marked_line.specs.Marking.{Closed, MarksGrown, Lent, PassMade, Reached, Ready, RestsAt, marks_in}
 use Rattle.marking.proofs.ReachLaws.{reach_edge, reach_root, reach_up}
-use Rattle.marking.specs.Procedure.{Reachable, root}
+use Rattle.marking.specs.Procedure.{Reachable}
 use Rattle.marks.proofs.BitLaws.{unset_falls, unset_fewer}
 use Rattle.marks.proofs.LayoutLaws.{first_apart}
-use Rattle.marks.specs.Bits.{Onwards, SetFrom, bit_at, first_bit, unset}
+use Rattle.marks.specs.Bits.{Onwards, SetFrom, first_bit, marked_in, unset}
 use Rattle.tables.proofs.AcceptLaws.{facts}
 use Rattle.tables.proofs.ListLaws.{and_left, and_right, or_false_left, or_false_right}
 use Rattle.tables.proofs.ReadLaws.{ReadMessages, good, received_is, receiver_is, sender_is, sent_is}
@@ -120,17 +119,17 @@ module _ (t : Table) (wf : WellFormed t) (roots : List ℕ) (i : ℕ) (known : i
 -- ---- one pass
 -- The pass stands before message k. It has marked reachable states alone; until it marks, no message that it went over leads to
 -- anything new, and once it has, fewer states are unmarked.
-pub record MarkPassing (table first roots start buffer : List ℕ) (marked : Bool) (m : ℕ) (sends receipts : List ℕ) (k : ℕ) : Type 0 where
+pub record MarkPassing (table roots start buffer : List ℕ) (marked : Bool) (m : ℕ) (sends receipts : List ℕ) (k : ℕ) : Type 0 where
   pub read : ReadMessages table m sends receipts
-  pub lent : Lent table first roots buffer
+  pub lent : Lent (decode table) roots buffer
   pub within : k ≤ m
   pub grown : MarksGrown (decode table) roots start buffer
   pub ready : Ready (decode table) roots buffer
   pub at_rest : marked ≡ false → (j : ℕ) → k ≤ j → j < m → RestsAt (decode table) roots buffer j
   pub falls : marked ≡ true → unset buffer (bits (decode table)) < unset start (bits (decode table))
 
-pub pass_begins : {table first roots start : List ℕ} {m : ℕ} {sends receipts : List ℕ} → ReadMessages table m sends receipts
-    → Lent table first roots start → Ready (decode table) roots start → MarkPassing table first roots start start false m sends receipts m
+pub pass_begins : {table roots start : List ℕ} {m : ℕ} {sends receipts : List ℕ} → ReadMessages table m sends receipts
+    → Lent (decode table) roots start → Ready (decode table) roots start → MarkPassing table roots start start false m sends receipts m
 pass_begins {m = m} read lent up = record {
   read = read;
   lent = lent;
@@ -141,8 +140,8 @@ pass_begins {m = m} read lent up = record {
   falls = λ e. absurd (false≢true e);
 }
 
-module _ {table first roots start buffer : List ℕ} {marked : Bool} {m : ℕ} {sends receipts : List ℕ} {k : ℕ}
-    (w : MarkPassing table first roots start buffer marked m sends receipts k) where
+module _ {table roots start buffer : List ℕ} {marked : Bool} {m : ℕ} {sends receipts : List ℕ} {k : ℕ}
+    (w : MarkPassing table roots start buffer marked m sends receipts k) where
   abbrev t : Table
   t = decode table
 
@@ -167,7 +166,7 @@ module _ {table first roots start buffer : List ℕ} {marked : Bool} {m : ℕ} {
 
     -- it leads to nothing new, and the pass goes on
     abbrev Skipped : Type 0
-    Skipped = MarkPassing table first roots start buffer marked m sends receipts (k - 1)
+    Skipped = MarkPassing table roots start buffer marked m sends receipts (k - 1)
 
     skips : RestsAt t roots buffer (k - 1) → Skipped
     skips rests = record {
@@ -190,14 +189,14 @@ module _ {table first roots start buffer : List ℕ} {marked : Bool} {m : ℕ} {
 
 -- ---- its receipt
 -- The pass is at message k - 1, and the two numbers of its receipt were read. A prime marks the names above, of this message again.
-pub record AtReceipt (table first roots start buffer : List ℕ) (marked : Bool) (m : ℕ) (sends receipts : List ℕ) (k i r : ℕ) : Type 0 where
-  pub passing : MarkPassing table first roots start buffer marked m sends receipts k
+pub record AtReceipt (table roots start buffer : List ℕ) (marked : Bool) (m : ℕ) (sends receipts : List ℕ) (k i r : ℕ) : Type 0 where
+  pub passing : MarkPassing table roots start buffer marked m sends receipts k
   pub more : 0 < k
   pub receiver_read : i ≡ u16_at receipts (4 * (k - 1))
   pub received_read : r ≡ u16_at receipts (4 * (k - 1) + 2)
 
-module _ {table first roots start buffer : List ℕ} {marked : Bool} {m : ℕ} {sends receipts : List ℕ} {k i r : ℕ}
-    (x : AtReceipt table first roots start buffer marked m sends receipts k i r) where
+module _ {table roots start buffer : List ℕ} {marked : Bool} {m : ℕ} {sends receipts : List ℕ} {k i r : ℕ}
+    (x : AtReceipt table roots start buffer marked m sends receipts k i r) where
   abbrev t' : Table
   t' = decode table
 
@@ -219,47 +218,35 @@ module _ {table first roots start buffer : List ℕ} {marked : Bool} {m : ℕ} {
   pub receiver_known : i < process_count t'
   receiver_known = omega (arith, i_is, good_here'.receiver_known)
 
-  pub receiver_few : i < 32
-  receiver_few = process_few x.passing.lent i receiver_known
-
-  received-there : r ≤ count_of t' i
+  pub received-there : r ≤ count_of t' i
   received-there = omega (arith, r_is, ap (count_of t') i_is, good_here'.received-within)
 
-  -- the bit of its receipt
-  module _ {b : ℕ} (b-is : b ≡ get_or first i 0 + r) where
-    pub receipt_in : b / 8 < length buffer
-    receipt_in = subst⁻¹ (λ (x : ℕ). x / 8 < length buffer) b-is (bit_in x.passing.lent i receiver_known r received-there)
+  -- the mark of its receipt
+  receipt_mark : marked_in t' buffer here'.receiver here'.received ≡ marked_in t' buffer i r
+  receipt_mark = ap₂ (marked_in t' buffer) (sym i_is) (sym r_is)
 
-    bit_is : b ≡ first_bit t'.counts i + r
-    bit_is = b-is ∙ ap (λ (x : ℕ). x + r) (first_read x.passing.lent i (omega (arith, receiver_few)))
-
-    receipt_mark : marked_in t' buffer here'.receiver here'.received ≡ bit_at buffer b
-    unfolding marked_in
-    receipt_mark = ap₂ (λ (p y : ℕ). bit_at buffer (first_bit t'.counts p + y)) (sym i_is) (sym r_is) ∙ ap (bit_at buffer) (sym bit_is)
-
-    pub skips_marked : bit_at buffer b ≡ true → MarkPassing table first roots start buffer marked m sends receipts (k - 1)
-    unfolding RestsAt
-    skips_marked e = skips x.passing x.more (λ _ _. receipt_mark ∙ e)
+  pub skips_marked : marked_in t' buffer i r ≡ true → MarkPassing table roots start buffer marked m sends receipts (k - 1)
+  unfolding RestsAt
+  skips_marked e = skips x.passing x.more (λ _ _. receipt_mark ∙ e)
 
 -- ---- its send
 -- It was delivered, its receipt is not marked, and the two numbers of its send were read.
-pub record AtSend (table first roots start buffer : List ℕ) (marked : Bool) (m : ℕ) (sends receipts : List ℕ) (k i r b j y : ℕ) : Type 0 where
-  pub receipt : AtReceipt table first roots start buffer marked m sends receipts k i r
-  pub bit_read : b ≡ get_or first i 0 + r
+pub record AtSend (table roots start buffer : List ℕ) (marked : Bool) (m : ℕ) (sends receipts : List ℕ) (k i r j y : ℕ) : Type 0 where
+  pub receipt : AtReceipt table roots start buffer marked m sends receipts k i r
   pub delivered : r ≡ 0 → ⊥
-  pub unmarked : bit_at buffer b ≡ false
+  pub unmarked : marked_in (decode table) buffer i r ≡ false
   pub sender_read : j ≡ u16_at sends (4 * (k - 1))
   pub sent_read : y ≡ u16_at sends (4 * (k - 1) + 2)
 
-module _ {table first roots start buffer : List ℕ} {marked : Bool} {m : ℕ} {sends receipts : List ℕ} {k i r b j y : ℕ}
-    (x : AtSend table first roots start buffer marked m sends receipts k i r b j y) where
+module _ {table roots start buffer : List ℕ} {marked : Bool} {m : ℕ} {sends receipts : List ℕ} {k i r j y : ℕ}
+    (x : AtSend table roots start buffer marked m sends receipts k i r j y) where
   abbrev t'' : Table
   t'' = decode table
 
   abbrev here'' : Message
   here'' = message_of t'' (k - 1)
 
-  abbrev passing'' : MarkPassing table first roots start buffer marked m sends receipts k
+  abbrev passing'' : MarkPassing table roots start buffer marked m sends receipts k
   passing'' = x.receipt.passing
 
   good_here'' : GoodMessage t'' here''
@@ -271,40 +258,24 @@ module _ {table first roots start buffer : List ℕ} {marked : Bool} {m : ℕ} {
   y_is : y ≡ here''.sent
   y_is = sent_is passing''.read (there' x.receipt) x.sent_read
 
-  sender_known : j < process_count t''
+  pub sender_known : j < process_count t''
   sender_known = omega (arith, j_is, good_here''.sender_known)
 
-  sent_there : y < count_of t'' j
+  pub sent_there : y < count_of t'' j
   sent_there = omega (arith, y_is, ap (count_of t'') j_is, good_here''.sent_below)
 
-  pub send-there : BitThere first roots buffer j y
-  send-there =
-      let few = process_few passing''.lent j sender_known in
-      record {
-        few = few;
-        in_first = (first-there passing''.lent j (omega (arith, few))).0;
-        in_roots = omega (arith, few, passing''.lent.for_each);
-        small = (first-there passing''.lent j (omega (arith, few))).1;
-        inside = bit_in passing''.lent j sender_known y (omega (arith, sent_there));
-      }
-
   abbrev reached : Bool
-  reached = eqb y (get_or roots j 0) || bit_at buffer (get_or first j 0 + y)
+  reached = eqb y (get_or roots j 0) || marked_in t'' buffer j y
 
-  -- the mark of its send
-  sent_mark : bit_at buffer (get_or first j 0 + y) ≡ marked_in t'' buffer j y
-  unfolding marked_in
-  sent_mark = ap (λ (x : ℕ). bit_at buffer (x + y)) (first_read passing''.lent j (omega (arith, process_few passing''.lent j sender_known)))
-
-  pub skips_unreached : reached ≡ false → MarkPassing table first roots start buffer marked m sends receipts (k - 1)
+  pub skips_unreached : reached ≡ false → MarkPassing table roots start buffer marked m sends receipts (k - 1)
   unfolding RestsAt
   skips_unreached e = skips passing'' x.receipt.more (λ _. ⊎_elim from_root is_marked)
     where
       not_root : eqb y (get_or roots j 0) ≡ false
-      not_root = or_false_left (eqb y (get_or roots j 0)) (bit_at buffer (get_or first j 0 + y)) e
+      not_root = or_false_left (eqb y (get_or roots j 0)) (marked_in t'' buffer j y) e
 
       not_marked : marked_in t'' buffer j y ≡ false
-      not_marked = sym sent_mark ∙ or_false_right (eqb y (get_or roots j 0)) (bit_at buffer (get_or first j 0 + y)) e
+      not_marked = or_false_right (eqb y (get_or roots j 0)) (marked_in t'' buffer j y) e
 
       from_root : here''.sent ≡ get_or roots here''.sender 0 → marked_in t'' buffer here''.receiver here''.received ≡ true
       from_root h = absurd (false≢true (sym not_root ∙ eq-eqb y (get_or roots j 0) (y_is ∙ h ∙ ap (λ (p : ℕ). get_or roots p 0) (sym j_is))))
@@ -320,7 +291,7 @@ module _ {table first roots start buffer : List ℕ} {marked : Bool} {m : ℕ} {
     message_reachable : Reachable t'' roots (state here''.receiver here''.received)
     message_reachable = by_root (eqb y (get_or roots j 0)) refl from-there
       where
-        by_root : (a : Bool) → eqb y (get_or roots j 0) ≡ a → (a || bit_at buffer (get_or first j 0 + y)) ≡ true
+        by_root : (a : Bool) → eqb y (get_or roots j 0) ≡ a → (a || marked_in t'' buffer j y) ≡ true
             → Reachable t'' roots (state here''.receiver here''.received)
         by_root true e _ =
             let at : here''.sent ≡ get_or roots here''.sender 0 = sym y_is ∙ eqb-true y (get_or roots j 0) e ∙ ap (λ (p : ℕ). get_or roots p 0) j_is in
@@ -329,32 +300,27 @@ module _ {table first roots start buffer : List ℕ} {marked : Bool} {m : ℕ} {
         by_root false _ e =
             ⊎_elim
             (λ (h : marked_in t'' buffer here''.receiver here''.received ≡ true).
-            absurd (false≢true (sym (receipt_mark x.receipt x.bit_read ∙ x.unmarked) ∙ h)))
+            absurd (false≢true (sym (receipt_mark x.receipt ∙ x.unmarked) ∙ h)))
             (λ (h : Reachable t'' roots (state here''.receiver here''.received)). h)
-            (passing''.ready.follows (k - 1) received_here (sym (ap₂ (marked_in t'' buffer) j_is y_is) ∙ sym sent_mark ∙ e))
+            (passing''.ready.follows (k - 1) received_here (sym (ap₂ (marked_in t'' buffer) j_is y_is) ∙ e))
 
     receipt_reachable : Reachable t'' roots (state i r)
     receipt_reachable =
         subst⁻¹ (λ (p : ℕ). Reachable t'' roots (state p r)) (i_is x.receipt)
         (subst⁻¹ (λ (n : ℕ). Reachable t'' roots (state here''.receiver n)) (r_is x.receipt) message_reachable)
 
-    module _ {e : ℕ} (e-is : e ≡ get_or first (i + 1) 0) where
-      abbrev known : i < process_count t''
-      known = receiver_known x.receipt
+    abbrev known : i < process_count t''
+    known = receiver_known x.receipt
 
-      end_is : e ≡ first_bit t''.counts (suc i)
-      end_is = omega (arith, e-is, row_end passing''.lent i known)
-
-      pub end_in : e ≤ 8 * length buffer
-      end_in = omega (arith, e-is, row_room passing''.lent i known)
-
-      pub row_ready : Onwards b e buffer
+    -- its receipt is marked, and the states behind it; n is its number, as the code hands it on
+    module _ {n : ℕ} (n_is : n ≡ r) where
+      pub row_ready : Onwards (first_bit t''.counts i + n) (first_bit t''.counts (suc i)) buffer
       row_ready =
-          subst⁻¹ (λ (x : ℕ). Onwards x e buffer) (bit_is x.receipt x.bit_read)
-          (subst⁻¹ (λ (x : ℕ). Onwards (first_bit t''.counts i + r) x buffer) end_is (row_onwards t'' i known r passing''.ready))
+          subst⁻¹ (λ (x : ℕ). Onwards (first_bit t''.counts i + x) (first_bit t''.counts (suc i)) buffer) n_is
+          (row_onwards t'' i known r passing''.ready)
 
-      -- its receipt is marked, and the states behind it
-      pub pass_marks : {after : List ℕ} → SetFrom b e buffer after → MarkPassing table first roots start after true m sends receipts (k - 1)
+      pub pass_marks : {after : List ℕ} → SetFrom (first_bit t''.counts i + n) (first_bit t''.counts (suc i)) buffer after
+          → MarkPassing table roots start after true m sends receipts (k - 1)
       unfolding marked_in count_of
       pass_marks {after} raw = record {
         read = passing''.read;
@@ -366,26 +332,22 @@ module _ {table first roots start buffer : List ℕ} {marked : Bool} {m : ℕ} {
         falls = λ _. omega (arith, step, unset_fewer start buffer (bits t'') (λ x _. passing''.grown.stay x));
       }
         where
-          wf : WellFormed t''
-          wf = (facts table passing''.lent.accepted).well_formed
-
           row : SetFrom (first_bit t''.counts i + r) (first_bit t''.counts (suc i)) buffer after
-          row =
-              subst (λ (x : ℕ). SetFrom x (first_bit t''.counts (suc i)) buffer after) (bit_is x.receipt x.bit_read)
-              (subst (λ (x : ℕ). SetFrom b x buffer after) end_is raw)
+          row = subst (λ (x : ℕ). SetFrom (first_bit t''.counts i + x) (first_bit t''.counts (suc i)) buffer after) n_is raw
+
+          wf : WellFormed t''
+          wf = (facts table passing''.read.accepted).well_formed
 
           grows : MarksGrown t'' roots buffer after
           grows = row_grows t'' wf roots i known r row receipt_reachable
 
-          now_set : bit_at after b ≡ true
-          now_set = ap (bit_at after) (bit_is x.receipt x.bit_read) ∙ row_here t'' i known r row r (le_refl r) (received-there x.receipt)
-
-          in_bits : b < bits t''
-          in_bits =
-              omega (arith, bit_is x.receipt x.bit_read, first_apart t''.counts i (process_count t'') known, received-there x.receipt)
+          in_bits : first_bit t''.counts i + r < bits t''
+          in_bits = omega (arith, first_apart t''.counts i (process_count t'') known, received-there x.receipt)
 
           step : unset after (bits t'') < unset buffer (bits t'')
-          step = unset_falls buffer after (bits t'') (λ x _. row_stay t'' i known r row x) b in_bits x.unmarked now_set
+          step =
+              unset_falls buffer after (bits t'') (λ x _. row_stay t'' i known r row x) (first_bit t''.counts i + r) in_bits x.unmarked
+              (row_here t'' i known r row r (le_refl r) (received-there x.receipt))
 
 -- ---- the marks that a buffer holds
 module _ (t : Table) (buffer : List ℕ) where
@@ -468,25 +430,15 @@ module _ (t : Table) (wf : WellFormed t) (roots : List ℕ) (buffer : List ℕ) 
   }
 
 -- the invariant of the passes
-pub record Growing (table first roots start buffer : List ℕ) : Type 0 where
-  pub lent : Lent table first roots buffer
-  pub grown : MarksGrown (decode table) roots start buffer
-  pub ready : Ready (decode table) roots buffer
+pub record Growing (t : Table) (roots start buffer : List ℕ) : Type 0 where
+  pub lent : Lent t roots buffer
+  pub grown : MarksGrown t roots start buffer
+  pub ready : Ready t roots buffer
 
-module _ {table first roots start buffer after : List ℕ} {marked : Bool} (w : Growing table first roots start buffer)
-    (p : PassMade (decode table) roots buffer after marked) where
-  pub passes_more : Growing table first roots start after
+module _ {t : Table} {roots start buffer after : List ℕ} {marked : Bool} (w : Growing t roots start buffer)
+    (p : PassMade t roots buffer after marked) where
+  pub passes_more : Growing t roots start after
   passes_more = record { lent = lent_kept w.lent p.grown.kept; grown = grown_both w.grown p.grown; ready = p.ready }
 
-  pub passes_end : marked ≡ false → Reached (decode table) roots start after
-  passes_end e =
-      reached_all (decode table) (facts table w.lent.accepted).well_formed roots after p.ready (p.at_rest e) (grown_both w.grown p.grown)
-
--- ---- whether a state is at its root or marked
-pub at_root : {y root : ℕ} (b : Bool) → y ≡ root → true ≡ (eqb y root || b)
-at_root {y} {root} b e = sym (ap (λ (x : Bool). x || b) (eq-eqb y root e))
-
-pub by_bit : (y root start : ℕ) (marks : List ℕ) {bit : ℕ} {found : Bool} → (y ≡ root → ⊥) → bit ≡ start + y → found ≡ bit_at marks bit
-    → found ≡ (eqb y root || bit_at marks (start + y))
-by_bit y root start marks other bit_is found-is =
-    found-is ∙ ap (bit_at marks) bit_is ∙ sym (ap (λ (x : Bool). x || bit_at marks (start + y)) (ne_eqb y root other))
+  pub passes_end : WellFormed t → marked ≡ false → Reached t roots start after
+  passes_end wf e = reached_all t wf roots after p.ready (p.at_rest e) (grown_both w.grown p.grown)

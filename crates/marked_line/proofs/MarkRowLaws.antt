@@ -1,6 +1,4 @@
 -- The bits of a process in a lent buffer, and a row of them that is set.
---     first_read, first_few, first-there, process_few, bit_in, row_end, row_room    the first bits as the code reads them; what it asks for and
---         sets is in the buffer
 --     row_onwards                       in the row of a process, behind a set bit all are set
 --     row_here, row_below, row_other    the states whose bits were set, and the others
 --     row_stay, row_kept                what was set stays so, and no byte beyond the marks is changed
@@ -8,56 +6,14 @@
 -- Assumes nothing.
 use mathlib.Core.Bool.{true}
 use mathlib.Core.List.{List}
-use mathlib.Core.Path.{◌≡◌, refl, ap, ◌∙◌, subst, subst⁻¹}
-use Prim.Native.Nat.{ℕ, suc, ◌+◌, ◌-◌, ◌*◌, ◌/◌, ◌≤◌, ◌<◌}
+use mathlib.Core.Path.{◌≡◌, refl, ◌∙◌, subst, subst⁻¹}
+use Prim.Native.Nat.{ℕ, suc, ◌+◌, ◌-◌, ◌≤◌, ◌<◌}
 use native.Mathlib.Decide.{dec_le, dec_lt}
 use native.Mathlib.Omega.{arith}
-use lib.ListN.{get_or, length}
-use Rattle.marked_line.specs.Marking.{Kept, Lent, Ready, marked_in}
-use Rattle.marks.proofs.LayoutLaws.{first_apart, first_at, first_more, first_small, process_inside, state_inside}
-use Rattle.marks.specs.Bits.{Onwards, SetFrom, bit_at, first_bit, most_bits}
-use Rattle.marks.specs.Room.{marks_size}
-use Rattle.tables.proofs.ListLaws.{length-tabulate}
-use Rattle.tables.proofs.ReadLaws.{processes_few}
-use Rattle.tables.specs.Format.{decode}
+use Rattle.marked_line.specs.Marking.{Kept, Lent, Ready}
+use Rattle.marks.proofs.LayoutLaws.{first_apart, first_more, process_inside}
+use Rattle.marks.specs.Bits.{Onwards, SetFrom, bit_at, first_bit, marked_in}
 use Rattle.tables.specs.Table.{Table, count_of, process_count}
-
--- ---- as the code reads them
-module _ {table first roots marks : List ℕ} (lent : Lent table first roots marks) where
-  abbrev t : Table
-  t = decode table
-
-  pub first_read : (p : ℕ) → p ≤ 32 → get_or first p 0 ≡ first_bit t.counts p
-  first_read p l = first_at t lent.first_are p l
-
-  first_size : length first ≡ 33
-  first_size = ap length lent.first_are ∙ length-tabulate 33 (first_bit t.counts)
-
-  pub first_few : (p : ℕ) → p ≤ 32 → get_or first p 0 ≤ most_bits
-  first_few p l = omega (arith, first_read p l, first_small table lent.accepted p)
-
-  -- what a look at the first bits asks
-  pub first-there : (p : ℕ) → p ≤ 32 → (p < length first) × (get_or first p 0 ≤ most_bits)
-  first-there p l = (omega (arith, first_size), first_few p l)
-
-  module _ (p : ℕ) (known : p < process_count t) where
-    pub process_few : p < 32
-    process_few = omega (arith, processes_few table lent.accepted)
-
-    pub bit_in : (y : ℕ) → y ≤ count_of t p → (get_or first p 0 + y) / 8 < length marks
-    bit_in y l =
-        let inside : (get_or first p 0 + y) / 8 < marks_size t =
-        subst⁻¹ (λ (b : ℕ). (b + y) / 8 < marks_size t) (first_read p (omega (arith, process_few))) (state_inside t p known y l) in
-        omega (arith, lent.room)
-
-    -- where the row of a process ends
-    pub row_end : get_or first (p + 1) 0 ≡ first_bit t.counts (suc p)
-    row_end =
-        let place : p + 1 ≡ suc p = omega arith in
-        first_read (p + 1) (omega (arith, process_few)) ∙ ap (first_bit t.counts) place
-
-    pub row_room : get_or first (p + 1) 0 ≤ 8 * length marks
-    row_room = omega (arith, row_end, process_inside t p known, lent.room)
 
 -- ---- a row that is set
 module _ (t : Table) (p : ℕ) (known : p < process_count t) (r : ℕ) where
@@ -117,12 +73,5 @@ pub kept_both : {t : Table} {a b c : List ℕ} → Kept t a b → Kept t b c →
 kept_both k k' = record { same_length = k'.same_length ∙ k.same_length; beyond = λ i l. k'.beyond i l ∙ k.beyond i l }
 
 -- a buffer that was kept has room still
-pub lent_kept : {table first roots before after : List ℕ} → Lent table first roots before → Kept (decode table) before after
-    → Lent table first roots after
-lent_kept lent k = record {
-  accepted = lent.accepted;
-  first_are = lent.first_are;
-  for_each = lent.for_each;
-  roots-there = lent.roots-there;
-  room = omega (arith, lent.room, k.same_length);
-}
+pub lent_kept : {t : Table} {roots before after : List ℕ} → Lent t roots before → Kept t before after → Lent t roots after
+lent_kept lent k = record { for_each = lent.for_each; roots-there = lent.roots-there; room = omega (arith, lent.room, k.same_length) }

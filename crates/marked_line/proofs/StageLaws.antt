@@ -1,9 +1,9 @@
 -- What the code holds is a stage of the procedure: its roots are the first N of the array, its marks those that the buffer holds.
 --     cleared_unmarked                 a cleared buffer has no marks
---     given_few, given_roots, starts_lent, starts_unmarked, starts_ready, running_starts    the start of the procedure
+--     given_few, starts_lent, starts_unmarked, starts_ready, running_starts    the start of the procedure
 --     gave_lent, gave_ready            what the roots that gave way are lent, and that a marking may begin with the marks
 --     running_since, running_more, running_falls, running_ends    a round, with which the roots fall; the end
---     end_fits, end_cleared, end_length            the marks are cleared again, and no byte beyond them was changed
+--     end_fits, end_cleared            the marks are cleared again, and no byte beyond them was changed
 -- Assumes nothing.
 use mathlib.Core.Bool.{true, false, false≢true}
 use mathlib.Core.List.{List}
@@ -20,20 +20,17 @@ use Rattle.marked_line.proofs.MarkPassLaws.{marks_are, marks_bit}
 use Rattle.marked_line.proofs.RootLaws.{behind_reachable, behind_ready, root_marked}
 use Rattle.marked_line.proofs.MarkRowLaws.{kept_both, kept_none, lent_kept}
 use Rattle.marked_line.specs.Marking.{Closed, GaveWay, Given, Kept, Lent, OnlyBehind, Reached, Ready}
-use Rattle.marked_line.specs.Marking.{RoundMade, Running, RoundReady, Unmarked, ZeroUnmarked, marked_in, marks_in, stage_of}
+use Rattle.marked_line.specs.Marking.{RoundMade, Running, RoundReady, Unmarked, ZeroUnmarked, marks_in, stage_of}
 use Rattle.marking.proofs.RoundLaws.{round_falls, zero_unmarked}
 use Rattle.marking.specs.Procedure.{After, EndsWith, LatestUnmarked, Marks, MarksReachable, NoneMarked, Reachable, Round, Starts, root}
 use Rattle.marks.proofs.BitLaws.{cleared_again, cleared_beyond, cleared_bit, cleared-length}
 use Rattle.marks.proofs.LayoutLaws.{state_inside}
-use Rattle.marks.specs.Bits.{bit_at, first_bit}
+use Rattle.marks.specs.Bits.{bit_at, first_bit, marked_in}
 use Rattle.marks.specs.Room.{cleared, marks_size}
-use Rattle.tables.proofs.AcceptLaws.{facts}
 use Rattle.tables.proofs.ArrayLaws.{array_at, array_front, array_length}
 use Rattle.tables.proofs.ListLaws.{found_below, none_below}
-use Rattle.tables.proofs.ReadLaws.{processes_few}
 use Rattle.tables.specs.Arrays.{array_of}
-use Rattle.tables.specs.Checks.{table_refusal}
-use Rattle.tables.specs.Format.{decode}
+use Rattle.tables.specs.Checks.{WellFormed}
 use Rattle.tables.specs.Lists.{any_below, sum}
 use Rattle.tables.specs.Table.{Table, count_of, process_count}
 
@@ -71,97 +68,87 @@ module _ (t : Table) (roots : List ℕ) where
   }
 
 -- in none of them is a state 0 marked
-stage_zero : (table ceilings : List ℕ) (rounds : ℕ) (roots buffer : List ℕ) → table_refusal table ≡ 0 → Ceiling (decode table) ceilings
-    → After (decode table) ceilings rounds (stage_of (decode table) roots buffer) → ZeroUnmarked (decode table) buffer
+stage_zero : (t : Table) → WellFormed t → (ceilings : List ℕ) (rounds : ℕ) (roots buffer : List ℕ) → Ceiling t ceilings
+    → After t ceilings rounds (stage_of t roots buffer) → ZeroUnmarked t buffer
 unfolding ZeroUnmarked stage_of
-stage_zero table ceilings rounds roots buffer accepted ceiling after p known =
-    sym (marks_bit (decode table) buffer p 0 known (omega arith))
-    ∙ zero_unmarked (decode table) ceilings ceiling (facts table accepted).well_formed rounds (stage_of (decode table) roots buffer) after p
+stage_zero t wf ceilings rounds roots buffer ceiling after p known =
+    sym (marks_bit t buffer p 0 known (omega arith)) ∙ zero_unmarked t ceilings ceiling wf rounds (stage_of t roots buffer) after p
 
 -- ---- the start
 kept-cleared : (t : Table) (buffer : List ℕ) → marks_size t ≤ length buffer → Kept t buffer (cleared (marks_size t) buffer)
 kept-cleared t buffer fits = record { same_length = cleared-length (marks_size t) buffer fits; beyond = cleared_beyond (marks_size t) buffer fits }
 
-pub given_few : {table ceilings first roots start : List ℕ} → Given table ceilings first roots start → length ceilings ≤ 32
-given_few {table} g = omega (arith, g.ceiling.for_each, processes_few table g.accepted)
+module _ {t : Table} (few : process_count t ≤ 32) {ceilings start : List ℕ} (g : Given t ceilings start) where
+  pub given_few : length ceilings ≤ 32
+  given_few = omega (arith, few, g.ceiling.for_each)
 
-module _ {table ceilings first roots start : List ℕ} (g : Given table ceilings first roots start) where
-  abbrev t : Table
-  t = decode table
+  module _ {roots : List ℕ} (roots_are : roots ≡ array_of ceilings) where
+    at_ceiling : (p : ℕ) → get_or roots p 0 ≡ get_or ceilings p 0
+    at_ceiling p = ap (λ (l : List ℕ). get_or l p 0) roots_are ∙ array_at ceilings given_few p
 
-  at_ceiling : (p : ℕ) → get_or roots p 0 ≡ get_or ceilings p 0
-  at_ceiling p = ap (λ (l : List ℕ). get_or l p 0) g.roots_are ∙ array_at ceilings (given_few g) p
+    -- the marks are cleared
+    module _ {size : ℕ} {blank : List ℕ} (size_is : size ≡ marks_size t) (blank-is : blank ≡ cleared size start) where
+      cleared_is : blank ≡ cleared (marks_size t) start
+      cleared_is = blank-is ∙ ap (λ (n : ℕ). cleared n start) size_is
 
-  -- the marks are cleared
-  module _ {size : ℕ} {blank : List ℕ} (size_is : size ≡ marks_size t) (blank-is : blank ≡ cleared size start) where
-    cleared_is : blank ≡ cleared (marks_size t) start
-    cleared_is = blank-is ∙ ap (λ (n : ℕ). cleared n start) size_is
+      kept_blank : Kept t start blank
+      kept_blank = subst⁻¹ (Kept t start) cleared_is (kept-cleared t start g.room)
 
-    kept_blank : Kept t start blank
-    kept_blank = subst⁻¹ (Kept t start) cleared_is (kept-cleared t start g.room)
-
-    pub starts_lent : Lent table first roots blank
-    starts_lent = record {
-      accepted = g.accepted;
-      first_are = g.first_are;
-      for_each = ap length g.roots_are ∙ array_length ceilings;
-      roots-there = λ p known. omega (arith, at_ceiling p, g.ceiling.within p);
-      room = omega (arith, g.room, kept_blank.same_length);
-    }
-
-    pub starts_unmarked : Unmarked t blank
-    starts_unmarked = subst⁻¹ (Unmarked t) cleared_is (cleared_unmarked t start g.room)
-
-    -- and then the states behind the ceilings
-    module _ {behind : List ℕ} (kept : Kept t blank behind) (only : OnlyBehind t roots behind) where
-      pub starts_ready : Lent table first roots behind × Ready t roots behind
-      starts_ready = (lent_kept starts_lent kept, behind_ready t (facts table g.accepted).well_formed roots behind only)
-
-      pub running_starts : {marked : List ℕ} → Reached t roots behind marked → Running table ceilings first roots start marked
-      unfolding After stage_of
-      running_starts {marked} reached = record {
-        ceiling = g.ceiling;
-        stands = record {
-          lent = lent_kept starts_ready.0 reached.kept;
-          ready = reached.ready;
-          closed = reached.closed;
-          zero_unmarked = stage_zero table ceilings 0 roots marked g.accepted g.ceiling starting;
-        };
-        kept = kept_both (kept_both kept_blank kept) reached.kept;
-        rounds = 0;
-        after = starting;
+      pub starts_lent : Lent t roots blank
+      starts_lent = record {
+        for_each = ap length roots_are ∙ array_length ceilings;
+        roots-there = λ p known. omega (arith, at_ceiling p, g.ceiling.within p);
+        room = omega (arith, g.room, kept_blank.same_length);
       }
-        where
-          all : MarksReachable t (take (process_count t) roots) (marks_in t behind) (marks_in t marked)
-          all = marking-first t roots reached.marking
 
-          by_mark : (s : State) → marks_in t behind s ≡ true → Reachable t (take (process_count t) roots) s
-          by_mark s e =
-              let is = marks_are t behind s e in
-              to_first t roots (behind_reachable t (facts table g.accepted).well_formed roots behind only s.process s.number is.known is.there
-              is.set)
+      pub starts_unmarked : Unmarked t blank
+      starts_unmarked = subst⁻¹ (Unmarked t) cleared_is (cleared_unmarked t start g.room)
 
-          from_none : MarksReachable t (take (process_count t) roots) (λ _. false) (marks_in t marked)
-          from_none = record {
-            stay = λ s e. absurd (false≢true e);
-            reached = all.reached;
-            no_others = λ s e. inr (⊎_elim (by_mark s) (λ r. r) (all.no_others s e));
-          }
+      -- and then the states behind the ceilings
+      module _ (wf : WellFormed t) {behind : List ℕ} (kept : Kept t blank behind) (only : OnlyBehind t roots behind) where
+        pub starts_ready : Lent t roots behind × Ready t roots behind
+        starts_ready = (lent_kept starts_lent kept, behind_ready t wf roots behind only)
 
-          starting : Starts t ceilings (stage_of t roots marked)
-          starting = record {
-            at_ceilings = array_front ceilings roots (process_count t) g.roots_are (sym g.ceiling.for_each)
-                (given_few g);
-            marking = from_none;
-          }
+        pub running_starts : {marked : List ℕ} → Reached t roots behind marked → Running t ceilings roots start marked
+        unfolding After stage_of
+        running_starts {marked} reached = record {
+          ceiling = g.ceiling;
+          stands = record {
+            lent = lent_kept starts_ready.0 reached.kept;
+            ready = reached.ready;
+            closed = reached.closed;
+            zero_unmarked = stage_zero t wf ceilings 0 roots marked g.ceiling starting;
+          };
+          kept = kept_both (kept_both kept_blank kept) reached.kept;
+          rounds = 0;
+          after = starting;
+        }
+          where
+            all : MarksReachable t (take (process_count t) roots) (marks_in t behind) (marks_in t marked)
+            all = marking-first t roots reached.marking
+
+            by_mark : (s : State) → marks_in t behind s ≡ true → Reachable t (take (process_count t) roots) s
+            by_mark s e =
+                let is = marks_are t behind s e in
+                to_first t roots (behind_reachable t wf roots behind only s.process s.number is.known is.there is.set)
+
+            from_none : MarksReachable t (take (process_count t) roots) (λ _. false) (marks_in t marked)
+            from_none = record {
+              stay = λ s e. absurd (false≢true e);
+              reached = all.reached;
+              no_others = λ s e. inr (⊎_elim (by_mark s) (λ r. r) (all.no_others s e));
+            }
+
+            starting : Starts t ceilings (stage_of t roots marked)
+            starting = record {
+              at_ceilings = array_front ceilings roots (process_count t) roots_are (sym g.ceiling.for_each) given_few;
+              marking = from_none;
+            }
 
 -- ---- roots that gave way
-module _ {table first roots buffer next : List ℕ} (w : RoundReady table first roots buffer) (gave : GaveWay (decode table) roots buffer next) where
-  abbrev t' : Table
-  t' = decode table
-
+module _ {t : Table} {roots buffer next : List ℕ} (w : RoundReady t roots buffer) (gave : GaveWay t roots buffer next) where
   -- an unmarked root stays
-  stays_there : (p : ℕ) → p < process_count t' → root_marked t' roots buffer p ≡ false → get_or next p 0 ≡ get_or roots p 0
+  stays_there : (p : ℕ) → p < process_count t → root_marked t roots buffer p ≡ false → get_or next p 0 ≡ get_or roots p 0
   unfolding marked_in
   stays_there p known e = go (dec_lt (get_or next p 0) (get_or roots p 0))
     where
@@ -169,102 +156,90 @@ module _ {table first roots buffer next : List ℕ} (w : RoundReady table first 
       go (yes l) = absurd (false≢true (sym e ∙ (gave.each p known).set_behind (get_or roots p 0) l (omega arith)))
       go (no l) = omega (arith, (gave.each p known).no-later)
 
-  next_there : (p : ℕ) → p < process_count t' → get_or next p 0 ≤ count_of t' p
+  next_there : (p : ℕ) → p < process_count t → get_or next p 0 ≤ count_of t p
   next_there p known = omega (arith, (gave.each p known).no-later, w.lent.roots-there p known)
 
   -- the states behind the new roots are marked
-  behind_next : (p y : ℕ) → p < process_count t' → get_or next p 0 < y → y ≤ count_of t' p → marked_in t' buffer p y ≡ true
+  behind_next : (p y : ℕ) → p < process_count t → get_or next p 0 < y → y ≤ count_of t p → marked_in t buffer p y ≡ true
   unfolding marked_in
   behind_next p y known l there = go (dec_le y (get_or roots p 0))
     where
-      go : Dec (y ≤ get_or roots p 0) → bit_at buffer (first_bit t'.counts p + y) ≡ true
+      go : Dec (y ≤ get_or roots p 0) → bit_at buffer (first_bit t.counts p + y) ≡ true
       go (yes l') = (gave.each p known).set_behind y l l'
       go (no l') = w.ready.behind_roots p y known (omega arith) there
 
-  pub gave_lent : Lent table first next buffer
-  gave_lent = record {
-    accepted = w.lent.accepted;
-    first_are = w.lent.first_are;
-    for_each = gave.for_each;
-    roots-there = next_there;
-    room = w.lent.room;
-  }
+  pub gave_lent : Lent t next buffer
+  gave_lent = record { for_each = gave.for_each; roots-there = next_there; room = w.lent.room }
 
-  pub gave_ready : Ready t' next buffer
+  pub gave_ready : Ready t next buffer
   unfolding Closed
   gave_ready = record { behind_roots = behind_next; behind_marked = w.ready.behind_marked; follows = λ k d e. inl (w.closed k d e) }
 
-  latest : (p : ℕ) → p < process_count t' → LatestUnmarked t' (marks_in t' buffer) p (get_or next p 0)
+  latest : (p : ℕ) → p < process_count t → LatestUnmarked t (marks_in t buffer) p (get_or next p 0)
   unfolding marked_in
   latest p known = record {
     there = next_there p known;
-    unmarked = marks_bit t' buffer p (get_or next p 0) known (next_there p known) ∙ (gave.each p known).not_set;
-    later = λ y l inside. marks_bit t' buffer p y known inside ∙ behind_next p y known l inside;
+    unmarked = marks_bit t buffer p (get_or next p 0) known (next_there p known) ∙ (gave.each p known).not_set;
+    later = λ y l inside. marks_bit t buffer p y known inside ∙ behind_next p y known l inside;
   }
 
 -- ---- the rounds
-module _ {table ceilings first roots start buffer : List ℕ} (w : Running table ceilings first roots start buffer) where
-  abbrev t'' : Table
-  t'' = decode table
-
-  abbrev lent : Lent table first roots buffer
+module _ {t : Table} {ceilings roots start buffer : List ℕ} (w : Running t ceilings roots start buffer) where
+  abbrev lent : Lent t roots buffer
   lent = w.stands.lent
 
   -- a root's mark in the stage is its bit
-  root_mark : (p : ℕ) → p < process_count t'' → marks_in t'' buffer (root (take (process_count t'') roots) p) ≡ root_marked t'' roots buffer p
+  root_mark : (p : ℕ) → p < process_count t → marks_in t buffer (root (take (process_count t) roots) p) ≡ root_marked t roots buffer p
   root_mark p known =
-      ap (λ (y : ℕ). marks_in t'' buffer (state p y)) (root_of t'' roots p known)
-      ∙ marks_bit t'' buffer p (get_or roots p 0) known (lent.roots-there p known)
+      ap (λ (y : ℕ). marks_in t buffer (state p y)) (root_of t roots p known)
+      ∙ marks_bit t buffer p (get_or roots p 0) known (lent.roots-there p known)
 
-  pub running_ends : false ≡ any_below (process_count t'') (root_marked t'' roots buffer) → EndsWith t'' ceilings (take (process_count t'') roots)
+  pub running_ends : false ≡ any_below (process_count t) (root_marked t roots buffer) → EndsWith t ceilings (take (process_count t) roots)
   unfolding NoneMarked stage_of
   running_ends none = record {
     rounds = w.rounds;
-    last = stage_of t'' roots buffer;
+    last = stage_of t roots buffer;
     after = w.after;
-    none_marked = λ p known. root_mark p known ∙ none_below (root_marked t'' roots buffer) (process_count t'') (sym none) p known;
+    none_marked = λ p known. root_mark p known ∙ none_below (root_marked t roots buffer) (process_count t) (sym none) p known;
     last_roots = refl;
   }
 
-  module _ (marked : true ≡ any_below (process_count t'') (root_marked t'' roots buffer)) {next after : List ℕ}
-      (made : RoundMade t'' roots buffer next after) where
-    found : (p : ℕ) × (p < process_count t'') × (root_marked t'' roots buffer p ≡ true)
-    found = found_below (root_marked t'' roots buffer) (process_count t'') (sym marked)
+  module _ (few_processes : process_count t ≤ 32) (marked : true ≡ any_below (process_count t) (root_marked t roots buffer)) {next after : List ℕ}
+      (made : RoundMade t roots buffer next after) where
+    found : (p : ℕ) × (p < process_count t) × (root_marked t roots buffer p ≡ true)
+    found = found_below (root_marked t roots buffer) (process_count t) (sym marked)
 
-    few_processes : process_count t'' ≤ 32
-    few_processes = processes_few table lent.accepted
+    first-length : (l : List ℕ) → length l ≡ 32 → length (take (process_count t) l) ≡ process_count t
+    first-length l e = length-take-le (process_count t) l (omega (arith, few_processes))
 
-    first-length : (l : List ℕ) → length l ≡ 32 → length (take (process_count t'') l) ≡ process_count t''
-    first-length l e = length-take-le (process_count t'') l (omega (arith, few_processes))
-
-    round : Round t'' (stage_of t'' roots buffer) (stage_of t'' next after)
+    round : Round t (stage_of t roots buffer) (stage_of t next after)
     unfolding stage_of
     round = record {
       some_marked = (found.0, found.1, root_mark found.0 found.1 ∙ found.2);
       for_each = first-length next made.gave.for_each ∙ sym (first-length roots lent.for_each);
       gives_way = λ p known e.
-          subst⁻¹ (LatestUnmarked t'' (marks_in t'' buffer) p) (root_of t'' next p known) (latest w.stands made.gave p known);
+          subst⁻¹ (LatestUnmarked t (marks_in t buffer) p) (root_of t next p known) (latest w.stands made.gave p known);
       stays = λ p known e.
-          root_of t'' next p known ∙ stays_there w.stands made.gave p known (sym (root_mark p known) ∙ e) ∙ sym (root_of t'' roots p known);
-      marking = marking-first t'' next made.reached.marking;
+          root_of t next p known ∙ stays_there w.stands made.gave p known (sym (root_mark p known) ∙ e) ∙ sym (root_of t roots p known);
+      marking = marking-first t next made.reached.marking;
     }
 
-    next_after : After t'' ceilings (suc w.rounds) (stage_of t'' next after)
+    next_after : After t ceilings (suc w.rounds) (stage_of t next after)
     unfolding After
-    next_after = (stage_of t'' roots buffer, w.after, round)
+    next_after = (stage_of t roots buffer, w.after, round)
 
-    pub running_falls : sum (take (process_count t'') next) < sum (take (process_count t'') roots)
+    pub running_falls : sum (take (process_count t) next) < sum (take (process_count t) roots)
     unfolding stage_of
-    running_falls = round_falls t'' ceilings w.ceiling w.rounds (stage_of t'' roots buffer) (stage_of t'' next after) w.after round
+    running_falls = round_falls t ceilings w.ceiling w.rounds (stage_of t roots buffer) (stage_of t next after) w.after round
 
-    pub running_more : Running table ceilings first next start after
-    running_more = record {
+    pub running_more : WellFormed t → Running t ceilings next start after
+    running_more wf = record {
       ceiling = w.ceiling;
       stands = record {
         lent = lent_kept (gave_lent w.stands made.gave) made.reached.kept;
         ready = made.reached.ready;
         closed = made.reached.closed;
-        zero_unmarked = stage_zero table ceilings (suc w.rounds) next after lent.accepted w.ceiling next_after;
+        zero_unmarked = stage_zero t wf ceilings (suc w.rounds) next after w.ceiling next_after;
       };
       kept = kept_both w.kept made.reached.kept;
       rounds = suc w.rounds;
@@ -272,8 +247,8 @@ module _ {table ceilings first roots start buffer : List ℕ} (w : Running table
     }
 
 -- what was kept since, whatever was changed before
-pub running_since : {table ceilings first roots start buffer : List ℕ} → Running table ceilings first roots start buffer
-    → Running table ceilings first roots buffer buffer
+pub running_since : {t : Table} {ceilings roots start buffer : List ℕ} → Running t ceilings roots start buffer
+    → Running t ceilings roots buffer buffer
 running_since w = record { ceiling = w.ceiling; stands = w.stands; kept = kept_none; rounds = w.rounds; after = w.after }
 
 -- ---- the end: the marks are cleared again, and no byte beyond them was changed
@@ -285,11 +260,3 @@ module _ {t : Table} {start buffer : List ℕ} (k : Kept t start buffer) (fits :
   module _ {after : List ℕ} (after_is : after ≡ cleared size buffer) where
     pub end_cleared : after ≡ cleared (marks_size t) start
     end_cleared = after_is ∙ ap (λ (n : ℕ). cleared n buffer) size_is ∙ cleared_again (marks_size t) start buffer k.same_length k.beyond
-
-    pub end_length : length after ≡ length start
-    end_length = ap length end_cleared ∙ cleared-length (marks_size t) start fits
-
--- the roots that were read off the ceilings
-pub given_roots : {table ceilings first roots start : List ℕ} → Given table ceilings first (array_of ceilings) start → roots ≡ array_of ceilings
-    → Given table ceilings first roots start
-given_roots g e = record { accepted = g.accepted; ceiling = g.ceiling; first_are = g.first_are; roots_are = e; room = g.room }

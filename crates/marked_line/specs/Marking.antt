@@ -1,22 +1,14 @@
 -- Of the code: the marks of a run in a lent buffer, and what the functions that set them leave. The laws join this to
 -- the procedure. Assumes nothing.
-use Rattle.std.specs.Prelude.{Bool, false, true, ◌&&◌, List, ◌⊎◌, ◌≡◌, ℕ, suc, ◌+◌, ◌/◌}
+use Rattle.std.specs.Prelude.{Bool, false, true, ◌&&◌, List, ◌⊎◌, ◌≡◌, ℕ, suc, ◌+◌}
 use Rattle.std.specs.Prelude.{◌≤◌, ◌<◌, leb, ltb, get_or, length, take}
 use Rattle.checkpoint_graph.specs.Graph.{state}
 use Rattle.consistency.specs.Ceilings.{Ceiling}
 use Rattle.marking.specs.Procedure.{After, EndsWith, Marks, MarksReachable, Reachable, Stage}
-use Rattle.marks.specs.Bits.{bit_at, first_bit, most_bits, unset}
+use Rattle.marks.specs.Bits.{bit_at, first_bit, marked_in, unset}
 use Rattle.marks.specs.Room.{marks_size}
-use Rattle.tables.specs.Arrays.{array_of}
-use Rattle.tables.specs.Checks.{table_refusal}
-use Rattle.tables.specs.Format.{decode}
-use Rattle.tables.specs.Lists.{tabulate}
 use Rattle.tables.specs.Numbers.{put_at, u16s}
 use Rattle.tables.specs.Table.{Table, count_of, message_count, message_of, process_count}
-
--- The bit of state y of process p is set.
-unfoldable pub marked_in : Table → List ℕ → ℕ → ℕ → Bool
-marked_in t buffer p y = bit_at buffer (first_bit t.counts p + y)
 
 -- The marks that a buffer holds: of the states of the run, those whose bits are set.
 unfoldable pub marks_in : Table → List ℕ → Marks
@@ -28,21 +20,11 @@ marks_in t buffer s =
 unfoldable pub Unmarked : Table → List ℕ → Type 0
 Unmarked t buffer = (p y : ℕ) → p < process_count t → y ≤ count_of t p → marked_in t buffer p y ≡ false
 
--- What each function is lent: an accepted table, its first bits, a root for each process, and a buffer with room.
-pub record Lent (table first roots buffer : List ℕ) : Type 0 where
-  pub accepted : table_refusal table ≡ 0
-  pub first_are : first ≡ tabulate 33 (first_bit (decode table).counts)
+-- What each function is lent: a root for each process, and a buffer with room.
+pub record Lent (t : Table) (roots buffer : List ℕ) : Type 0 where
   pub for_each : length roots ≡ 32
-  pub roots-there : (p : ℕ) → p < process_count (decode table) → get_or roots p 0 ≤ count_of (decode table) p
-  pub room : marks_size (decode table) ≤ length buffer
-
--- State y of process p, of which a function asks: its process has a first bit and a root, and its bit is in the buffer.
-pub record BitThere (first roots buffer : List ℕ) (p y : ℕ) : Type 0 where
-  pub few : p < 32
-  pub in_first : p < length first
-  pub in_roots : p < length roots
-  pub small : get_or first p 0 ≤ most_bits
-  pub inside : (get_or first p 0 + y) / 8 < length buffer
+  pub roots-there : (p : ℕ) → p < process_count t → get_or roots p 0 ≤ count_of t p
+  pub room : marks_size t ≤ length buffer
 
 -- No byte beyond the marks is changed.
 pub record Kept (t : Table) (before after : List ℕ) : Type 0 where
@@ -122,21 +104,18 @@ pub record GaveWay (t : Table) (roots buffer next : List ℕ) : Type 0 where
       → LatestUnset buffer (first_bit t.counts p) (get_or roots p 0) (get_or next p 0)
 
 -- ---- the procedure
--- What it is given: an accepted table and its first bits, ceilings as the first roots, and a buffer with room.
-pub record Given (table ceilings first roots buffer : List ℕ) : Type 0 where
-  pub accepted : table_refusal table ≡ 0
-  pub ceiling : Ceiling (decode table) ceilings
-  pub first_are : first ≡ tabulate 33 (first_bit (decode table).counts)
-  pub roots_are : roots ≡ array_of ceilings
-  pub room : marks_size (decode table) ≤ length buffer
+-- What it is given: ceilings, and a buffer with room.
+pub record Given (t : Table) (ceilings buffer : List ℕ) : Type 0 where
+  pub ceiling : Ceiling t ceilings
+  pub room : marks_size t ≤ length buffer
 
 -- What a round may begin with: the states behind the roots are marked, what is marked is closed under edges, and no
 -- state 0 is marked.
-pub record RoundReady (table first roots buffer : List ℕ) : Type 0 where
-  pub lent : Lent table first roots buffer
-  pub ready : Ready (decode table) roots buffer
-  pub closed : Closed (decode table) buffer
-  pub zero_unmarked : ZeroUnmarked (decode table) buffer
+pub record RoundReady (t : Table) (roots buffer : List ℕ) : Type 0 where
+  pub lent : Lent t roots buffer
+  pub ready : Ready t roots buffer
+  pub closed : Closed t buffer
+  pub zero_unmarked : ZeroUnmarked t buffer
 
 -- A round was made: the roots gave way, and all that is reachable from the new ones is marked.
 pub record RoundMade (t : Table) (roots before next after : List ℕ) : Type 0 where
@@ -148,12 +127,12 @@ unfoldable pub stage_of : Table → List ℕ → List ℕ → Stage
 stage_of t roots buffer = record { roots = take (process_count t) roots; marks = marks_in t buffer }
 
 -- After some rounds it is one that the procedure may have, and no byte beyond the marks is changed.
-pub record Running (table ceilings first roots start buffer : List ℕ) : Type 0 where
-  pub ceiling : Ceiling (decode table) ceilings
-  pub stands : RoundReady table first roots buffer
-  pub kept : Kept (decode table) start buffer
+pub record Running (t : Table) (ceilings roots start buffer : List ℕ) : Type 0 where
+  pub ceiling : Ceiling t ceilings
+  pub stands : RoundReady t roots buffer
+  pub kept : Kept t start buffer
   pub rounds : ℕ
-  pub after : After (decode table) ceilings rounds (stage_of (decode table) roots buffer)
+  pub after : After t ceilings rounds (stage_of t roots buffer)
 
 -- The last roots stand at the front of the answer's buffer.
 pub record PutByMarking (t : Table) (ceilings before after : List ℕ) : Type 0 where

@@ -17,14 +17,13 @@ use native.Mathlib.Omega.{arith}
 use borrow.Author.Tests.{eq-eqb, ne_eqb}
 use lib.Bits.{bit_and, bit_or, or_shr, or_step}
 use lib.Dec.{eqb, lit<}
-use lib.ListN.{drop, get_or, length, length-append, length-drop, length-replicate, length-set, replicate, set, get_or-replicate, get_or-append}
-use lib.Seq.{ext_get_or, get_or-append-add, get_or-drop, get_or-set_other, get_or-set_same}
+use lib.ListN.{drop, get_or, length, length-append, length-drop, length-replicate, length-set, replicate, set, take, get_or-replicate, get_or-append}
+use lib.Seq.{ext_get_or, get_or-append-add, get_or-drop, get_or-set_other, get_or-set_same, length-take-le}
 use Rattle.marks.specs.Bits.{Onwards, SetFrom, bit_at, unset, with_bit}
 use Rattle.marks.specs.Room.{cleared}
 use Rattle.process_set.proofs.SetLaws.{mask_is_member, member_one, no-member_from, one_shifted}
 use Rattle.process_set.specs.Sets.{member}
 use Rattle.tables.proofs.ListLaws.{or_none}
-use Rattle.tables.specs.Arrays.{Filled}
 
 -- ---- one bit
 -- the value of bit b of its byte, as the code shifts it
@@ -204,15 +203,10 @@ module _ (size : ℕ) (buffer : List ℕ) (fits : size ≤ length buffer) where
   unfolding bit_at
   cleared_bit b l = ap (λ (x : ℕ). member x (b % 8)) (cleared_front (b / 8) l) ∙ no-member_from 0 0 (b % 8) (omega arith) (omega arith)
 
--- what a loop has cleared
-pub filled_cleared : {size : ℕ} {before after : List ℕ} → Filled (λ _. 0) size before after → size ≤ length before → after ≡ cleared size before
-filled_cleared {size} {before} {after} f fits =
-    ext_get_or 0 after (cleared size before) (f.same_length ∙ sym (cleared-length size before fits))
-    (λ i l. by_place i (omega (arith, f.same_length)) (dec_lt i size))
-  where
-    by_place : (i : ℕ) → i < length before → Dec (i < size) → get_or after i 0 ≡ get_or (cleared size before) i 0
-    by_place i l (yes m) = f.front i m l ∙ sym (cleared_front size before fits i m)
-    by_place i l (no m) = f.rest i (omega arith) ∙ sym (cleared_beyond size before fits i (omega arith))
+  -- as the code fills its front
+  pub filled_cleared : {front : List ℕ} → front ≡ replicate (length (take size buffer)) 0 → front ++ drop size buffer ≡ cleared size buffer
+  unfolding cleared
+  filled_cleared e = ap (λ (l : List ℕ). l ++ drop size buffer) (e ∙ ap zeros (length-take-le size buffer fits))
 
 -- a buffer that differs in the first bytes alone
 pub cleared_again : (size : ℕ) (before after : List ℕ) → length after ≡ length before → ((i : ℕ) → size ≤ i

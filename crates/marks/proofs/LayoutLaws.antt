@@ -4,12 +4,12 @@
 --     first-all                 all states together
 --     state_inside, process_inside    the bits of a state and of a process are in the buffer
 --     first_small                     of an accepted table the first bits are small
---     Firsts, firsts_none .. firsts_all    the invariant of the loop that finds them
+--     firsts_none, firsts_here, firsts_more    the loop that finds them
 --     first_at, first_last            one of them, in the array; behind the last process stands the number of all bits
---     few, all_bits, all_small, size_is    that, as the code reads it
+--     few, first_read, end_read, bit_small, size_is    that, as the code reads it
 -- Assumes nothing.
 use mathlib.Core.List.{List}
-use mathlib.Core.Path.{◌≡◌, refl, sym, ap, ◌∙◌, subst⁻¹}
+use mathlib.Core.Path.{◌≡◌, refl, sym, ap, ◌∙◌}
 use Prim.Native.Nat.{ℕ, zero, suc, ◌+◌, ◌*◌, ◌/◌, ◌≤◌, ◌<◌}
 use native.Mathlib.Decide.{dec_lt, ℕ_discrete}
 use native.Mathlib.Omega.{arith}
@@ -17,7 +17,7 @@ use lib.ListN.{get_or, length, replicate, set}
 use Rattle.marks.specs.Bits.{first_bit, most_bits}
 use Rattle.marks.specs.Room.{marks_size}
 use Rattle.tables.proofs.AcceptLaws.{facts}
-use Rattle.tables.proofs.ArrayLaws.{filled_list, filled_more}
+use Rattle.tables.proofs.ArrayLaws.{filled_more, filled_none}
 use Rattle.tables.proofs.FormatLaws.{count_beyond}
 use Rattle.tables.proofs.ListLaws.{get_or_tabulate, sum_more, tabulate-get_or}
 use Rattle.tables.proofs.ReadLaws.{processes_few}
@@ -31,6 +31,9 @@ module _ (counts : List ℕ) where
   pub first_none : first_bit counts 0 ≡ 0
   unfolding first_bit sum tabulate
   first_none = refl
+
+  pub firsts_none : Filled (first_bit counts) 1 (replicate 33 0) (replicate 33 0)
+  firsts_none = filled_more filled_none (sym first_none) refl
 
   pub first_more : (p : ℕ) → first_bit counts (suc p) ≡ first_bit counts p + suc (get_or counts p 0)
   unfolding first_bit
@@ -87,50 +90,20 @@ module _ (table : List ℕ) (accepted : table_refusal table ≡ 0) where
   first_small zero = omega (arith, first_none counts)
   first_small (suc p) = omega (arith, first_small p, first_more counts p, count_small p)
 
--- Those of processes 0 to p are found, and the last of them again.
-pub record Firsts (table first : List ℕ) (bits p : ℕ) : Type 0 where
-  pub accepted : table_refusal table ≡ 0
-  pub within : p ≤ 32
-  pub last : bits ≡ first_bit (decode table).counts p
-  pub small : bits ≤ 4097 * p
-  pub filled : Filled (first_bit (decode table).counts) (p + 1) (replicate 33 0) first
+-- Those of processes 0 to p are found.
+module _ (table : List ℕ) {first : List ℕ} {p : ℕ} (f : Filled (first_bit (decode table).counts) (p + 1) (replicate 33 0) first) (more : p < 32) where
+  pub firsts_here : get_or first p 0 ≡ first_bit (decode table).counts p
+  firsts_here = f.front p (omega arith) (omega arith)
 
-pub firsts_none : {table : List ℕ} → table_refusal table ≡ 0 → Firsts table (replicate 33 0) 0 0
-firsts_none {table} accepted = record {
-  accepted = accepted;
-  within = omega arith;
-  last = sym (first_none (decode table).counts);
-  small = omega arith;
-  filled = record {
-    same_length = refl;
-    front = λ i l inside.
-        let first : i ≡ 0 = omega arith in
-        subst⁻¹ (λ (x : ℕ). get_or (replicate 33 0) x 0 ≡ first_bit (decode table).counts x) first (sym (first_none (decode table).counts));
-    rest = λ i l. refl;
-  };
-}
-
-module _ {table first : List ℕ} {bits p : ℕ} (f : Firsts table first bits p) where
-  pub firsts_more : p < 32 → {count bits' : ℕ} → count ≡ count_of (decode table) p → bits' ≡ bits + (1 + count)
-      → Firsts table (set first (p + 1) bits') bits' (p + 1)
+  pub firsts_more : {count : ℕ} → count ≡ count_of (decode table) p
+      → Filled (first_bit (decode table).counts) (p + 1 + 1) (replicate 33 0) (set first (p + 1) (get_or first p 0 + 1 + count))
   unfolding count_of
-  firsts_more l {count} {bits'} e e' = record {
-    accepted = f.accepted;
-    within = omega arith;
-    last = next;
-    small = omega (arith, next, first_small table f.accepted (p + 1));
-    filled = filled_more f.filled next refl;
-  }
+  firsts_more {count} e = filled_more f next refl
     where
-      next : bits' ≡ first_bit (decode table).counts (p + 1)
+      next : get_or first p 0 + 1 + count ≡ first_bit (decode table).counts (p + 1)
       next =
           let place : p + 1 ≡ suc p = omega arith in
-          let more : first_bit (decode table).counts (p + 1) ≡ first_bit (decode table).counts p + suc (get_or (decode table).counts p 0) =
-          ap (first_bit (decode table).counts) place ∙ first_more (decode table).counts p in
-          omega (arith, e, e', f.last, more)
-
-  pub firsts_all : 32 ≤ p → first ≡ tabulate 33 (first_bit (decode table).counts)
-  firsts_all l = filled_list f.filled (λ i m inside. absurd (omega arith))
+          omega (arith, e, firsts_here, ap (first_bit (decode table).counts) place, first_more (decode table).counts p)
 
 -- an entry of the array; behind the last process stands the number of all bits
 pub first_at : (t : Table) {first : List ℕ} → first ≡ tabulate 33 (first_bit t.counts) → (p : ℕ) → p ≤ 32
@@ -141,17 +114,29 @@ pub first_last : (t : Table) → first_bit t.counts (process_count t) ≡ checkp
 unfolding process_count checkpoint_total
 first_last t = first-all t.counts
 
-module _ (table : List ℕ) (accepted : table_refusal table ≡ 0) {first : List ℕ} {n : ℕ} (are : first ≡ tabulate 33 (first_bit (decode table).counts))
-    (n_is : n ≡ process_count (decode table)) where
-  pub few : n ≤ 32
-  few = omega (arith, n_is, processes_few table accepted)
+-- as the code reads them
+module _ (table : List ℕ) (accepted : table_refusal table ≡ 0) where
+  pub few : {p : ℕ} → p ≤ process_count (decode table) → p ≤ 32
+  few known = omega (arith, processes_few table accepted)
 
-  pub all_bits : get_or first n 0 ≡ checkpoint_total (decode table) + process_count (decode table)
-  all_bits = first_at (decode table) are n few ∙ ap (first_bit (decode table).counts) n_is ∙ first_last (decode table)
+  module _ {first : List ℕ} (are : first ≡ tabulate 33 (first_bit (decode table).counts)) where
+    pub first_read : {p : ℕ} → p ≤ process_count (decode table) → get_or first p 0 ≡ first_bit (decode table).counts p
+    first_read {p} known = first_at (decode table) are p (few known)
 
-  pub all_small : get_or first n 0 ≤ most_bits
-  all_small = omega (arith, first_at (decode table) are n few, first_small table accepted n, few)
+    pub end_read : {p : ℕ} → p < process_count (decode table) → get_or first (p + 1) 0 ≡ first_bit (decode table).counts (suc p)
+    end_read {p} known =
+        let next : p + 1 ≤ process_count (decode table) = omega arith in
+        let place : p + 1 ≡ suc p = omega arith in
+        first_read next ∙ ap (first_bit (decode table).counts) place
 
-  pub size_is : (get_or first n 0 + 7) / 8 ≡ marks_size (decode table)
-  unfolding marks_size
-  size_is = ap (λ (b : ℕ). (b + 7) / 8) all_bits
+    pub bit_small : {p y : ℕ} → p < process_count (decode table) → y ≤ count_of (decode table) p + 1 → get_or first p 0 + y ≤ most_bits
+    unfolding count_of
+    bit_small {p} known there =
+        let below : p ≤ process_count (decode table) = omega arith in
+        omega (arith, first_read below, first_more (decode table).counts p, first_small table accepted (suc p), processes_few table accepted)
+
+    pub size_is : {n : ℕ} → n ≡ process_count (decode table) → (get_or first n 0 + 7) / 8 ≡ marks_size (decode table)
+    unfolding marks_size
+    size_is {n} n_is =
+        let last : n ≤ process_count (decode table) = omega arith in
+        ap (λ (b : ℕ). (b + 7) / 8) (first_read last ∙ ap (first_bit (decode table).counts) n_is ∙ first_last (decode table))

@@ -5,7 +5,7 @@ use Rattle.std.specs.Prelude.{◌^◌, ◌≤◌, ◌<◌, get_or, length, set}
 use Rattle.std.specs.Int.Bits.{bit_or}
 use Rattle.process_set.specs.Sets.{member}
 use Rattle.tables.specs.Lists.{sum, tabulate}
-use Rattle.tables.specs.Table.{most_checkpoints, most_processes}
+use Rattle.tables.specs.Table.{Table, most_checkpoints, most_processes}
 
 -- The first bit of process p, by the counts: each process before it has its checkpoints and its new state.
 unfoldable pub first_bit : List ℕ → ℕ → ℕ
@@ -18,6 +18,10 @@ most_bits = most_processes * (most_checkpoints + 1)
 -- Bit b of a buffer is set.
 unfoldable pub bit_at : List ℕ → ℕ → Bool
 bit_at buffer b = member (get_or buffer (b / 8) 0) (b % 8)
+
+-- The bit of state y of process p is set.
+unfoldable pub marked_in : Table → List ℕ → ℕ → ℕ → Bool
+marked_in t buffer p y = bit_at buffer (first_bit t.counts p + y)
 
 -- How many of the first n bits are not set.
 unfoldable pub unset : List ℕ → ℕ → ℕ

@@ -1,18 +1,18 @@
-// Marks of states as bits of a lent buffer, set and asked for in place: state y of process p has bit
-// first[p] + y, and bit b stands in byte b / 8.
+// Marks of states as bits of a lent buffer, set and asked for in place.
 #![tactic(auto)]
 
-ghost use Rattle.std.specs.Prelude.{◌≡◌, ◌+◌, ◌*◌, ◌/◌, ◌≤◌, ◌<◌, get_or, length};
-ghost use Rattle.marks.specs.Bits.{Onwards, SetFrom, bit_at, first_bit, most_bits, with_bit};
+ghost use Rattle.std.specs.Prelude.{suc, ◌≡◌, ◌+◌, ◌*◌, ◌/◌, ◌≤◌, ◌<◌, length};
+ghost use Rattle.marks.specs.Bits.{Onwards, SetFrom, bit_at, first_bit, marked_in, with_bit};
 ghost use Rattle.marks.specs.Room.{cleared, marks_size};
 ghost use Rattle.tables.specs.Checks.{table_refusal};
 ghost use Rattle.tables.specs.Format.{decode};
 ghost use Rattle.tables.specs.Lists.{tabulate};
+ghost use Rattle.tables.specs.Table.{count_of, process_count};
 
 use tables::{lookups, parts};
 
 // Whether bit b is set.
-pub fn is_marked(marks: &[u8], b: usize) -> bool
+fn is_set(marks: &[u8], b: usize) -> bool
     requires { b / 8 < length marks.now }
     ensures { result ≡ bit_at marks.now b }
 {
@@ -20,72 +20,25 @@ pub fn is_marked(marks: &[u8], b: usize) -> bool
 }
 
 // Sets bit b.
-fn mark(marks: &mut [u8], b: usize)
+fn set_bit(marks: &mut [u8], b: usize)
     requires { b / 8 < length marks.old }
     ensures { marks.new ≡ with_bit marks.old b }
 {
-    let at = b / 8;
-    marks[at] = marks[at] | (1 << (b % 8));
+    marks[b / 8] |= 1 << (b % 8);
 }
 
 // Sets the bits from one on, before an end. Behind one that is set they all are, so it stops there.
-pub fn mark_from(marks: &mut [u8], from: usize, end: usize)
+fn set_from(marks: &mut [u8], from: usize, end: usize)
     requires end_bound { end ≤ 8 * length marks.old }
     requires onwards { Onwards from end marks.old }
     ensures { SetFrom from end marks.old marks.new }
 {
-    let mut b = from;
-    while b < end {
-        if is_marked(marks, b) {
+    for b in from..end {
+        if is_set(marks, b) {
             return;
         }
-        mark(marks, b);
-        b += 1;
+        set_bit(marks, b);
     }
-}
-
-// The first bit of each process of an accepted table, and behind the last one the number of all bits.
-pub fn first_bits(table: &[u8]) -> [usize; 33]
-    requires { table_refusal table.now ≡ 0 }
-    ensures { result ≡ tabulate 33 (first_bit (decode table.now).counts) }
-{
-    let mut first = [0usize; 33];
-    let mut bits = 0;
-    let mut p = 0;
-    while p < 32 {
-        bits += 1 + (lookups::count(table, p) as usize);
-        p += 1;
-        first[p] = bits;
-    }
-    first
-}
-
-// The bit of state y of process p, by the array of first bits.
-pub fn state_bit(first: &[usize], p: usize, y: u16) -> usize
-    requires { (p < length first.now) × (get_or first.now p 0 ≤ most_bits) }
-    ensures { result ≡ get_or first.now p 0 + y }
-{
-    let start = first[p];
-    start + (y as usize)
-}
-
-// The end of the bits of process p, by the array of first bits.
-pub fn row_end(first: &[usize], p: usize) -> usize
-    requires { p + 1 < length first.now }
-    ensures { result ≡ get_or first.now (p + 1) 0 }
-{
-    first[p + 1]
-}
-
-// The bytes that the marks of an accepted table take.
-pub fn marks_size(table: &[u8]) -> usize
-    requires { table_refusal table.now ≡ 0 }
-    ensures { result ≡ marks_size (decode table.now) }
-{
-    let n = parts::process_count(table);
-    let first = first_bits(table);
-    let bits = first[n];
-    (bits + 7) / 8
 }
 
 // Clears the first bytes.
@@ -93,9 +46,96 @@ pub fn clear(marks: &mut [u8], size: usize)
     requires { size ≤ length marks.old }
     ensures { marks.new ≡ cleared size marks.old }
 {
-    let mut k = 0;
-    while k < size {
-        marks[k] = 0;
-        k += 1;
+    marks[..size].fill(0);
+}
+
+// The first bit of each process of an accepted table, and behind the last one the number of all bits.
+fn first_bits(table: &[u8]) -> [usize; 33]
+    requires { table_refusal table.now ≡ 0 }
+    ensures { result ≡ tabulate 33 (first_bit (decode table.now).counts) }
+{
+    let mut first = [0usize; 33];
+    for p in 0..32 {
+        first[p + 1] = first[p] + 1 + usize::from(lookups::count(table, p));
     }
+    first
+}
+
+// Where the marks of the states of an accepted table stand: state y of process p has bit first[p] + y, and bit b
+// stands in byte b / 8.
+#[derive(Clone, Copy)]
+pub struct Layout<'a> {
+    pub table: &'a [u8],
+    first: [usize; 33],
+    pub ghost accepted: { table_refusal table.now ≡ 0 },
+    ghost first_are: { first ≡ tabulate 33 (first_bit (decode table.now).counts) },
+}
+
+impl<'a> Layout<'a> {
+    // That of a table.
+    pub fn of(table: &'a [u8]) -> Self
+        requires { table_refusal table.now ≡ 0 }
+        ensures { result.table.now ≡ table.now }
+    {
+        Layout {
+            table,
+            first: first_bits(table),
+        }
+    }
+
+    // The bytes that the marks take.
+    pub fn size(&self) -> usize
+        ensures { result ≡ marks_size (decode self.now.table.now) }
+    {
+        let n = parts::process_count(self.table);
+        self.first[n].div_ceil(8)
+    }
+
+    // The bit of state y of process p, and of the one behind its last.
+    fn bit(&self, p: usize, y: usize) -> usize
+        requires known { p < process_count (decode self.now.table.now) }
+        requires there { y ≤ count_of (decode self.now.table.now) p + 1 }
+        ensures { result ≡ first_bit (decode self.now.table.now).counts p + y }
+    {
+        self.first[p] + y
+    }
+
+    // Where the bits of process p end.
+    fn row_end(&self, p: usize) -> usize
+        requires { p < process_count (decode self.now.table.now) }
+        ensures { result ≡ first_bit (decode self.now.table.now).counts (suc p) }
+    {
+        self.first[p + 1]
+    }
+
+    // Whether state y of process p is marked.
+    pub fn is_marked(&self, marks: &[u8], p: usize, y: u16) -> bool
+        requires known { p < process_count (decode self.now.table.now) }
+        requires there { y ≤ count_of (decode self.now.table.now) p }
+        requires room { marks_size (decode self.now.table.now) ≤ length marks.now }
+        ensures { result ≡ marked_in (decode self.now.table.now) marks.now p y }
+    {
+        is_set(marks, self.bit(p, usize::from(y)))
+    }
+
+    // Marks the states of process p from y on. Behind one that is marked they all are.
+    pub fn mark_from(&self, marks: &mut [u8], p: usize, y: usize)
+        requires known { p < process_count (decode self.now.table.now) }
+        requires there { y ≤ count_of (decode self.now.table.now) p + 1 }
+        requires room { marks_size (decode self.now.table.now) ≤ length marks.old }
+        requires onwards { Onwards (first_bit (decode self.now.table.now).counts p + y)
+            (first_bit (decode self.now.table.now).counts (suc p)) marks.old }
+        ensures { SetFrom (first_bit (decode self.now.table.now).counts p + y)
+            (first_bit (decode self.now.table.now).counts (suc p)) marks.old marks.new }
+    {
+        set_from(marks, self.bit(p, y), self.row_end(p));
+    }
+}
+
+// The bytes that the marks of an accepted table take.
+pub fn marks_size(table: &[u8]) -> usize
+    requires { table_refusal table.now ≡ 0 }
+    ensures { result ≡ marks_size (decode table.now) }
+{
+    Layout::of(table).size()
 }

@@ -1,107 +1,83 @@
--- `pass` meets its contract. The invariant: all that is marked is reachable, and where nothing was marked no message from k on leads to an unmarked state
--- (`MarkPassing`). The measure is the number of messages not looked at.
+-- `pass` meets its contract. All that is marked is reachable, and where nothing was marked no message from k on leads to an unmarked state.
 use native.Mathlib.Omega.{arith}
 use mathlib.Core.Path.{sym, ◌∙◌}
-use Rattle.marked_line.proofs.MarkPassLaws.{AtReceipt, AtSend, end_in, pass_begins, pass_ends, pass_marks, receipt_in, receiver_few}
-use Rattle.marked_line.proofs.MarkPassLaws.{row_ready, send-there, skips_marked, skips_undelivered, skips_unreached}
-use Rattle.marked_line.proofs.MarkRowLaws.{first-there}
+use Rattle.marked_line.proofs.MarkPassLaws.{AtReceipt, AtSend, pass_begins, pass_ends, pass_marks, received-there, receiver_known}
+use Rattle.marked_line.proofs.MarkPassLaws.{row_ready, sender_known, sent_there, skips_marked, skips_undelivered, skips_unreached}
 use Rattle.tables.proofs.ReadLaws.{messages_read}
 use Rattle.marked_line.proofs.pass.Goals as goal
-use Rattle.marked_line.proofs.pass.Goals.{After-u16_at-receiver, After-u16_at-sent}
+use Rattle.marked_line.proofs.pass.Goals.{After-from-receiver, After-u16_at-sent}
 
 -- what is known of the next message: where its receipt was read, and where its send was
-at_receipt : (c : After-u16_at-receiver)
-    → AtReceipt c.args.table.now c.args.first.now c.args.roots.now c.args.marks.now c.loop-k.marks c.loop-k.marked c.message_count-m.result
-    c.sends-sends.result.now c.receipts-receipts.result.now c.loop-k.k c.u16_at-receiver.result c.u16_at-received.result
+at_receipt : (c : After-from-receiver)
+    → AtReceipt c.args.layout.now.table.now c.args.roots.now c.args.marks.now c.loop-k.marks c.loop-k.marked c.message_count-m.result
+    c.sends-sends.result.now c.receipts-receipts.result.now c.loop-k.k c.from-receiver.result c.u16_at-received.result
 at_receipt c = record {
   passing = c.loop-k.invariant;
   more = c.loop-k-test.true;
-  receiver_read = c.u16_at-receiver.ensures;
+  receiver_read = c.from-receiver.ensures ∙ c.u16_at.ensures;
   received_read = c.u16_at-received.ensures;
 }
 
 at_send : (c : After-u16_at-sent)
-    → AtSend c.args.table.now c.args.first.now c.args.roots.now c.args.marks.now c.loop-k.marks c.loop-k.marked c.message_count-m.result
-    c.sends-sends.result.now c.receipts-receipts.result.now c.loop-k.k c.u16_at-receiver.result c.u16_at-received.result
-    c.state_bit-receipt.result c.u16_at-sender.result c.u16_at-sent.result
+    → AtSend c.args.layout.now.table.now c.args.roots.now c.args.marks.now c.loop-k.marks c.loop-k.marked c.message_count-m.result
+    c.sends-sends.result.now c.receipts-receipts.result.now c.loop-k.k c.from-receiver.result c.u16_at-received.result
+    c.from-sender.result c.u16_at-sent.result
 at_send c = record {
   receipt = record {
     passing = c.loop-k.invariant;
     more = c.loop-k-test.true;
-    receiver_read = c.u16_at-receiver.ensures;
+    receiver_read = c.from-receiver.ensures ∙ c.u16_at.ensures;
     received_read = c.u16_at-received.ensures;
   };
-  bit_read = c.state_bit-receipt.ensures;
   delivered = c.if-received-eq0.false;
   unmarked = sym c.is_marked.ensures ∙ c.if-is_marked.false;
-  sender_read = c.u16_at-sender.ensures;
+  sender_read = c.from-sender.ensures ∙ c.u16_at-in-loop-k.ensures;
   sent_read = c.u16_at-sent.ensures;
 }
 
-pub message_count-m-requires : goal.message_count-m-requires
-message_count-m-requires c =
-    c.requires.lent.accepted
-
-pub sends-sends-requires : goal.sends-sends-requires
-sends-sends-requires c =
-    c.requires.lent.accepted
-
-pub receipts-receipts-requires : goal.receipts-receipts-requires
-receipts-receipts-requires c =
-    c.requires.lent.accepted
-
 pub loop-k-init : goal.loop-k-init
 loop-k-init c =
-    pass_begins (messages_read c.requires.lent.accepted c.message_count-m.ensures c.sends-sends.ensures c.receipts-receipts.ensures) c.requires.lent
-    c.requires.ready
+    pass_begins (messages_read c.args.layout.now.accepted c.message_count-m.ensures c.sends-sends.ensures c.receipts-receipts.ensures)
+    c.requires.lent c.requires.ready
 
 pub loop-k-preserved-then-received-eq0 : goal.loop-k-preserved-then-received-eq0
 loop-k-preserved-then-received-eq0 c =
     skips_undelivered c.loop-k.invariant c.loop-k-test.true c.u16_at-received.ensures c.if-received-eq0.true
 
-pub state_bit-receipt-requires : goal.state_bit-receipt-requires
-state_bit-receipt-requires c =
-    first-there c.loop-k.invariant.lent _ (omega (arith, receiver_few (at_receipt (goal.at.state_bit-receipt-requires c).After-u16_at-receiver)))
-
 pub is_marked-requires : goal.is_marked-requires
 is_marked-requires c =
-    receipt_in (at_receipt (goal.at.is_marked-requires c).After-u16_at-receiver) c.state_bit-receipt.ensures
+    let at = at_receipt (goal.at.is_marked-requires c).After-from-receiver in
+    record { known = receiver_known at; there = received-there at; room = c.loop-k.invariant.lent.room }
 
 pub loop-k-preserved-then-is_marked : goal.loop-k-preserved-then-is_marked
 loop-k-preserved-then-is_marked c =
-    skips_marked (at_receipt (goal.at.loop-k-preserved-then-is_marked c).After-u16_at-receiver) c.state_bit-receipt.ensures
-    (sym c.is_marked.ensures ∙ c.if-is_marked.true)
+    skips_marked (at_receipt (goal.at.loop-k-preserved-then-is_marked c).After-from-receiver) (sym c.is_marked.ensures ∙ c.if-is_marked.true)
 
 pub is_root_or_marked-requires : goal.is_root_or_marked-requires
 is_root_or_marked-requires c =
-    send-there (at_send (goal.at.is_root_or_marked-requires c).After-u16_at-sent)
+    let at = at_send (goal.at.is_root_or_marked-requires c).After-u16_at-sent in
+    record { lent = c.loop-k.invariant.lent; known = sender_known at; there = omega (arith, sent_there at) }
 
 pub loop-k-preserved-then-not-is_root_or_marked : goal.loop-k-preserved-then-not-is_root_or_marked
 loop-k-preserved-then-not-is_root_or_marked c =
     skips_unreached (at_send (goal.at.loop-k-preserved-then-not-is_root_or_marked c).After-u16_at-sent)
     (sym c.is_root_or_marked.ensures ∙ c.if-not-is_root_or_marked.true)
 
-pub row_end-end-requires : goal.row_end-end-requires
-row_end-end-requires c =
-    let at = (at_send (goal.at.row_end-end-requires c).After-u16_at-sent).receipt in
-    (first-there at.passing.lent _ (omega (arith, receiver_few at))).0
-
 pub mark_from-requires : goal.mark_from-requires
 mark_from-requires c =
     let at = at_send (goal.at.mark_from-requires c).After-u16_at-sent in
     let from-there = sym c.is_root_or_marked.ensures ∙ c.if-not-is_root_or_marked.false in
-    record { end_bound = end_in at from-there c.row_end-end.ensures; onwards = row_ready at from-there c.row_end-end.ensures }
+    record {
+      known = receiver_known at.receipt;
+      there = omega (arith, received-there at.receipt, c.from.ensures);
+      room = c.loop-k.invariant.lent.room;
+      onwards = row_ready at from-there c.from.ensures;
+    }
 
 pub loop-k-preserved : goal.loop-k-preserved
 loop-k-preserved c =
-    pass_marks (at_send (goal.at.loop-k-preserved c).After-u16_at-sent) (sym c.is_root_or_marked.ensures
-    ∙ c.if-not-is_root_or_marked.false) c.row_end-end.ensures
-    c.mark_from.ensures
-
-pub shape_of-marks : goal.shape_of-marks
-shape_of-marks c =
-    c.loop-k.invariant.grown.kept.same_length
+    pass_marks (at_send (goal.at.loop-k-preserved c).After-u16_at-sent) (sym c.is_root_or_marked.ensures ∙ c.if-not-is_root_or_marked.false)
+    c.from.ensures c.mark_from.ensures
 
 pub returns : goal.returns
-returns c =
-    pass_ends c.loop-k.invariant c.loop-k-test.false
+returns c = pass_ends c.loop-k.invariant c.loop-k-test.false

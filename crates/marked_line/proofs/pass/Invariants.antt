@@ -1,10 +1,7 @@
 -- `pass` meets its contract. The invariant: all that is marked is reachable, and where nothing was marked no message from k on leads to an unmarked state
--- (`MarkPassing`). The measure is the number of messages not looked at.
+-- (`MarkPassing`).
 use Rattle.marked_line.proofs.MarkPassLaws.{MarkPassing}
 use Rattle.marked_line.proofs.pass.Given as goal
 
 abbrev pub invariant-loop-k : goal.invariant-loop-k
-invariant-loop-k l = MarkPassing l.table l.first l.roots l.initial.marks l.marks l.marked l.m l.sends l.receipts l.k
-
-abbrev pub decreases-loop-k : goal.decreases-loop-k
-decreases-loop-k l = l.k
+invariant-loop-k l = MarkPassing l.layout.table.now l.roots l.initial.marks l.marks l.marked l.m l.sends l.receipts l.k
