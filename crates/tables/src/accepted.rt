@@ -5,6 +5,7 @@ ghost use Rattle.tables.specs.Checks.{table_refusal};
 ghost use Rattle.tables.specs.Format.{counts_part, decode, receipts_part, sends_part};
 ghost use Rattle.tables.specs.Table.{message_count, process_count};
 
+use crate::messages::MessageParts;
 use crate::parts;
 
 // An accepted table. Only bytes that pass the checks make one.
@@ -55,5 +56,14 @@ impl<'a> RunTable<'a> {
         ensures { result.now ≡ receipts_part self.entry.bytes.now }
     {
         parts::receipts(self.bytes)
+    }
+
+    // The messages: both parts, and how many they are.
+    pub fn messages(self) -> MessageParts<'a>
+        ensures count { result.count ≡ message_count (decode self.entry.bytes.now) }
+        ensures sends { result.sends.now ≡ sends_part self.entry.bytes.now }
+        ensures receipts { result.receipts.now ≡ receipts_part self.entry.bytes.now }
+    {
+        MessageParts::of(self.bytes)
     }
 }
