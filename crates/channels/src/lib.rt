@@ -48,6 +48,7 @@ fn out_of_turn(sends: &[u8], receipts: &[u8], q: usize, k: usize) -> bool
 // Whether message k is out of turn behind the one before it in its channel. What is known of a channel is
 // where its last message stands, one more than the position, or 0 where it has none yet; from now on
 // that is message k. `Option<u16>` takes four bytes: 2 KB more of stack and of zeroing for each table.
+#[tactic(auto, using(crate::proofs::ChannelLaws::channel_small))]
 pub fn behind_neighbour(last: &mut [u16], sends: &[u8], receipts: &[u8], k: usize) -> bool
     requires k_lt_most_messages { k < most_messages }
     requires message_there { MessageThere most_processes k sends.now receipts.now }

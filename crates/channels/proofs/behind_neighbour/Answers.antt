@@ -9,18 +9,6 @@ use Rattle.channels.proofs.behind_neighbour.Goals.{After-channel_at-channel}
 small : (c : After-channel_at-channel) → c.channel_at-channel.result < 1024
 small c = omega (arith, c.channel_at-channel.ensures, channel_small c.requires.message_there)
 
-pub offset_bounds-last-channel : goal.offset_bounds-last-channel
-offset_bounds-last-channel c = omega (arith, small (goal.at.offset_bounds-last-channel c).After-channel_at-channel)
-
-pub bounds-last-channel : goal.bounds-last-channel
-bounds-last-channel c = omega (arith, small (goal.at.bounds-last-channel c).After-channel_at-channel, c.requires.lasts.size)
-
-pub offset_bounds-last-channel-2 : goal.offset_bounds-last-channel-2
-offset_bounds-last-channel-2 c = omega (arith, small (goal.at.offset_bounds-last-channel-2 c).After-channel_at-channel)
-
-pub bounds-last-channel-2 : goal.bounds-last-channel-2
-bounds-last-channel-2 c = omega (arith, small (goal.at.bounds-last-channel-2 c).After-channel_at-channel, c.requires.lasts.size)
-
 -- there is one before it
 pub out_of_turn-requires : goal.out_of_turn-requires
 out_of_turn-requires c =

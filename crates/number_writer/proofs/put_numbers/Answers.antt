@@ -11,8 +11,5 @@ loop-k-init c = written_none _ _ _ _ _ (omega arith)
 pub loop-k-preserved : goal.loop-k-preserved
 loop-k-preserved c = numbers_more 2 _ c.loop-k.invariant c.loop-k-test.true c.put_u16.ensures
 
-pub shape_of-buffer : goal.shape_of-buffer
-shape_of-buffer c = c.loop-k.invariant.same_length
-
 pub returns : goal.returns
 returns c = numbers_all 2 _ c.loop-k.invariant c.loop-k-test.false ∙ ap (put_at _ _) (ap u16s (tabulate-get_or _ 0))
