@@ -20,7 +20,7 @@ pub fn few_passes(
 {
     let mut line = ceiling;
     'passes: for _ in 0..n / 4 + 2 {
-        // As in `passes::lower`, which the document wants as one nested loop, left by label.
+        // As in `passes::lower`, which stays one nested loop, left by label, as the document wants it.
         let mut lowered = false;
         for k in (0..messages.count).rev() {
             let sender = messages.sender(k);
