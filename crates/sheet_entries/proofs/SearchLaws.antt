@@ -2,7 +2,7 @@
 --     least_at_most, least_first      the least of n numbers
 --     lowest_found                    the lowest line
 --     select_next, select_last, tallied_next, tallied_last    from one number that passes a test to the next
---     received-before, sent_after, crossed    whether a message crosses a line
+--     received-before                 a message that crosses no line
 --     .. -kept                        whether a message is kept
 --     receiver_small, message_beside    message k, by its receiver
 --     keeps_at                        what a loop over the messages tests
@@ -15,7 +15,7 @@ use mathlib.Core.Path.{◌≡◌, refl, sym, ap, ap₂, ◌∙◌}
 use Prim.Native.Nat.{ℕ, zero, suc, ◌+◌, ◌*◌, ◌<◌, ◌≤◌, zero-le}
 use native.Mathlib.Nat.{eq-or-lt_of_le, le_of_suc-le-suc, le_refl, mul-le-mul}
 use native.Mathlib.Omega.{arith}
-use borrow.Author.Tests.{eqb-false, eqb-true, ne_eqb, lt-ltb, le-ltb}
+use borrow.Author.Tests.{eqb-false, eqb-true, ne_eqb, le-ltb}
 use lib.Dec.{eqb, ltb}
 use lib.ListN.{length, get_or, length-append, length-map}
 use Rattle.std.proofs.Common.{Option, Some, None, map, sum, unwrap_or}
@@ -32,7 +32,8 @@ use Rattle.tables.specs.Lists.{First, any_below, select, tabulate}
 use Rattle.tables.specs.Numbers.{u16_at}
 use Rattle.tables.specs.Parts.{MessageThere}
 use Rattle.tables.specs.Table.{Message, most_processes}
-use Rattle.sheet_entries.specs.Kept.{FirstBelow, MessageBeside, checkpoints_at, checkpoints_of, crosses_line, is_kept, kept_of, least_below, lowest_at, lowest_line, shows}
+use Rattle.sheet_entries.specs.Kept.{FirstBelow, MessageBeside, checkpoints_at, checkpoints_of, crosses_line, is_kept, kept_of, least_below, lowest_at}
+use Rattle.sheet_entries.specs.Kept.{lowest_line, shows}
 
 -- ---- the least of n numbers
 module _ (f : ℕ → ℕ) where
@@ -66,7 +67,8 @@ module _ (f : ℕ → ℕ) where
           omega (arith, least_at_most n there.0 there.1, eqb-true (f there.0) r there.2)
 
 -- the lowest line's number at process i, as it was found
-pub lowest_found : {n : ℕ} (line : ℕ → Line) {i v : ℕ} → i < n → (r : Option ℕ) → FirstBelow (shows n line i) 0 65535 r → v ≡ unwrap_or r 65535
+pub lowest_found : {n : ℕ} (line : ℕ → Line) {i v : ℕ} → i < n → (r : Option ℕ) → FirstBelow (shows n line i) 0 65535 r → v
+    ≡ unwrap_or r 65535
     → v ≡ get_or (tabulate n (lowest_at n line)) i 0
 unfolding shows lowest_at
 lowest_found {n} line {i} l r first e =
@@ -93,20 +95,10 @@ module _ {test : ℕ → Bool} {from limit : ℕ} where
     pub tallied_last : First test from limit limit → kept ≡ length (select test limit)
     tallied_last f = h.number ∙ ap length (sym (select_last f))
 
--- ---- whether a message crosses a line, by the numbers that the line has at its receiver and at its sender
-module _ (l : Line) (m : Message) where
-  module _ {x : ℕ} (of-receiver : x ≡ l m.receiver) where
-    pub received-before : m.received ≤ x → crosses l m ≡ false
-    unfolding crosses
-    received-before b = rw (le-ltb (l m.receiver) m.received (omega arith)) (and-false (ltb m.sent (l m.sender)))
-
-    pub crossed : {y : ℕ} → y ≡ l m.sender → m.sent < y → x < m.received → crosses l m ≡ true
-    unfolding crosses
-    crossed of-sender b b' = rw (lt-ltb m.sent (l m.sender) (omega arith), lt-ltb (l m.receiver) m.received (omega arith))
-
-  pub sent_after : {y : ℕ} → y ≡ l m.sender → y ≤ m.sent → crosses l m ≡ false
-  unfolding crosses
-  sent_after of-sender b = rw (le-ltb m.sent (l m.sender) (omega arith))
+-- ---- whether a message crosses a line, by the number that the line has at its receiver
+received-before : (l : Line) (m : Message) {x : ℕ} → x ≡ l m.receiver → m.received ≤ x → crosses l m ≡ false
+unfolding crosses
+received-before l m of-receiver b = rw (le-ltb (l m.receiver) m.received (omega arith)) (and-false (ltb m.sent (l m.sender)))
 
 -- ---- whether message k is kept, by the numbers that were read of its entries
 module _ {n lowest k : ℕ} {scratch sends receipts : List ℕ} (beside : MessageBeside n lowest k scratch sends receipts)
@@ -142,7 +134,8 @@ module _ {n k : ℕ} {scratch sends receipts : List ℕ} (holds : HoldsLines n s
   unfolding process_at
   receiver_small = omega (arith, there.receiver_known, holds.few)
 
-  pub message_beside : {lowest : List ℕ} → lowest ≡ lowest_line n (lines_in scratch n) → MessageBeside n (get_or lowest receiver 0) k scratch sends receipts
+  pub message_beside : {lowest : List ℕ} → lowest ≡ lowest_line n (lines_in scratch n)
+      → MessageBeside n (get_or lowest receiver 0) k scratch sends receipts
   unfolding lowest_line process_at
   message_beside lowest_is =
       let numbers = tabulate n (lowest_at n (lines_in scratch n)) in

@@ -1,6 +1,7 @@
 -- Of the code: what n lines say is kept, the line of holder k being `line k`. The laws join these to the keep sheet
 -- of a table. Assumes nothing.
-use Rattle.std.specs.Prelude.{Bool, ◌||◌, List, map, Option, Some, None, ◌≡◌, ℕ, zero, suc, ◌<◌, min, eqb}
+use Rattle.std.specs.Prelude.{Bool, ◌||◌, List, map, Option, Some, None}
+use Rattle.std.specs.Prelude.{◌≡◌, ℕ, zero, suc, ◌<◌, min, eqb}
 use Rattle.consistency.specs.Lines.{Line}
 use Rattle.holder_lines.specs.Scratch.{HoldsLines, lines_in}
 use Rattle.keep_sheet.specs.Sheet.{Checkpoint, crosses}

@@ -12,13 +12,16 @@ beside : (c : After-u16_at-receiver)
 beside c = message_beside c.args.lines.holds c.requires.there c.u16_at-receiver.ensures c.requires.lowest_is
 
 pub returns-then-received-eq0 : goal.returns-then-received-eq0
-returns-then-received-eq0 c = undelivered_kept (beside (goal.at.returns-then-received-eq0 c).After-u16_at-receiver) c.u16_at-received.ensures c.if-received-eq0.true
+returns-then-received-eq0 c =
+    undelivered_kept (beside (goal.at.returns-then-received-eq0 c).After-u16_at-receiver) c.u16_at-received.ensures c.if-received-eq0.true
 
 pub bounds-lowest-receiver : goal.bounds-lowest-receiver
 bounds-lowest-receiver c = receiver_small c.args.lines.holds c.requires.there c.u16_at-receiver.ensures
 
 pub returns-then-received-lowest : goal.returns-then-received-lowest
-returns-then-received-lowest c = old_kept (beside (goal.at.returns-then-received-lowest c).After-u16_at-receiver) c.u16_at-received.ensures c.if-received-eq0.false c.if-received-lowest.true
+returns-then-received-lowest c =
+    old_kept (beside (goal.at.returns-then-received-lowest c).After-u16_at-receiver) c.u16_at-received.ensures c.if-received-eq0.false
+    c.if-received-lowest.true
 
 pub crosses_line-requires-clause-sender_lt_n : goal.crosses_line-requires-clause-sender_lt_n
 unfolding process_at
@@ -30,5 +33,5 @@ crosses_line-requires-clause-receiver_lt_n c = omega (arith, c.requires.there.re
 
 pub returns : goal.returns
 returns c =
-    delivered_kept (beside (goal.at.returns c).After-u16_at-receiver) c.u16_at-received.ensures c.if-received-eq0.false c.u16_at-receiver.ensures c.u16_at-sender.ensures
-    c.u16_at-sent.ensures c.crosses_line.ensures
+    delivered_kept (beside (goal.at.returns c).After-u16_at-receiver) c.u16_at-received.ensures c.if-received-eq0.false c.u16_at-receiver.ensures
+    c.u16_at-sender.ensures c.u16_at-sent.ensures c.crosses_line.ensures
