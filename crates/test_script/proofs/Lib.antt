@@ -1,3 +1,3 @@
 -- The laws of test scripts.
---     ScriptLaws    what the numbers of a line say
+--     ScriptLaws    lists that a line says, and its parts
 mod ScriptLaws
