@@ -9,15 +9,17 @@
 --     back_lowers, back_stacks    the orphan puts its receiver back; that is put on the stack too
 --     stack_room                  there is room for it
 -- Assumes nothing.
-use mathlib.Core.Bool.{Bool, true, false, true≢false}
-use mathlib.Core.List.{List, [], ◌∷◌}
-use mathlib.Core.Path.{◌≡◌, refl, ◌∙◌}
-use Prim.Native.Nat.{ℕ, zero, suc, ◌+◌, ◌-◌, ◌≤◌, ◌<◌}
+use mathlib.Core.Bool.{Bool, cond, not, true, false}
+use mathlib.Core.List.{List}
+use mathlib.Core.Path.{◌≡◌, refl, ap, ◌∙◌}
+use Prim.Native.Nat.{ℕ, ◌+◌, ◌-◌, ◌≤◌, ◌<◌}
 use native.Mathlib.Nat.{le_refl, le_trans, lt_of_lt_of_le}
 use native.Mathlib.Omega.{arith}
 use lib.ListN.{length, get_or, set, length-set}
 use Rattle.std.proofs.Common.{Option, Some, None}
+use Rattle.std.proofs.lemmas.List.Sums.{sum_by-set}
 use Rattle.std.proofs.lemmas.Option.{IfSome_then}
+use Rattle.std.specs.List.{count_by}
 use Rattle.std.specs.Prelude.{IfSome}
 use Rattle.lowering.proofs.EveryLaws.{every_set, every_tabulate}
 use Rattle.sweep.specs.Cursors.{Placed}
@@ -33,26 +35,15 @@ use Rattle.tables.specs.declared.messages.MessageParts.{MessageParts}
 
 -- ---- the stack
 -- How many processes are not on the stack.
-pub idle : List Bool → ℕ
-idle [] = 0
-idle (true ∷ rest) = idle rest
-idle (false ∷ rest) = suc (idle rest)
+unfoldable pub idle : List Bool → ℕ
+idle stacked = count_by not stacked
 
-idle_off : (l : List Bool) (p : ℕ) → idle (set l p false) ≤ suc (idle l)
-unfolding idle
-idle_off [] p = omega arith
-idle_off (true ∷ rest) zero = omega arith
-idle_off (false ∷ rest) zero = omega arith
-idle_off (true ∷ rest) (suc p) = idle_off rest p
-idle_off (false ∷ rest) (suc p) = omega (arith, idle_off rest p)
+abbrev one_off : Bool → ℕ
+one_off stacked = cond (not stacked) 1 0
 
-idle_on : (l : List Bool) (p : ℕ) → p < length l → get_or l p false ≡ false → suc (idle (set l p true)) ≡ idle l
+idle_set : (l : List Bool) (p : ℕ) (b : Bool) → p < length l → idle (set l p b) + one_off (get_or l p false) ≡ idle l + one_off b
 unfolding idle
-idle_on [] p l e = absurd (omega (arith, l))
-idle_on (true ∷ rest) zero l e = absurd (true≢false e)
-idle_on (false ∷ rest) zero l e = refl
-idle_on (true ∷ rest) (suc p) l e = idle_on rest p (omega arith) e
-idle_on (false ∷ rest) (suc p) l e = omega (arith, idle_on rest p (omega arith) e)
+idle_set l p b inside = sum_by-set one_off l p b false inside
 
 none_idle : idle (tabulate 32 (λ _. true)) ≡ 0
 unfolding tabulate idle
@@ -116,7 +107,7 @@ module _ {parts : MessageParts} {start cursors line stack : List ℕ} {stacked :
           placed = w.placed;
           known = w.known;
           flags = length-set stacked p false ∙ w.flags;
-          room = omega (arith, more, idle_off stacked p, w.room);
+          room = omega (arith, more, idle_set stacked p false (omega (arith, w.known (height - 1), w.flags)), w.room);
         };
         small = w.known (height - 1);
         sent = before_more parts p next (w.placed p) sent;
@@ -169,8 +160,10 @@ module _ {parts : MessageParts} {start cursors line stack : List ℕ} {stacked :
 
   -- it was not on the stack, and is put there
   module _ (small : i < most_processes) (off : get_or stacked i false ≡ false) where
-    fewer : suc (idle (set stacked i true)) ≡ idle stacked
-    fewer = idle_on stacked i (omega (arith, small, b.chasing.flags)) off
+    fewer : idle (set stacked i true) + 1 ≡ idle stacked
+    fewer =
+        let one : one_off (get_or stacked i false) ≡ 1 = ap one_off off in
+        omega (arith, one, idle_set stacked i true (omega (arith, small, b.chasing.flags)))
 
     pub stack_room : height < most_processes
     stack_room = omega (arith, fewer, b.chasing.room)
