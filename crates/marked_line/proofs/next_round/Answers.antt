@@ -8,11 +8,3 @@ mark_reachable-requires c =
       lent = gave_lent c.requires c.give_way-next.ensures;
       ready = gave_ready c.requires c.give_way-next.ensures;
     }
-
-pub shape_of-marks : goal.shape_of-marks
-shape_of-marks c =
-    c.mark_reachable.ensures.kept.same_length
-
-pub returns : goal.returns
-returns c =
-    record { gave = c.give_way-next.ensures; reached = c.mark_reachable.ensures }
