@@ -145,14 +145,6 @@ module _ {table roots start buffer : List ℕ} {marked : Bool} {m : ℕ} {sends 
   abbrev t : Table
   t = decode table
 
-  pub pass_ends : k ≤ 0 → PassMade t roots start buffer marked
-  pass_ends z = record {
-    grown = w.grown;
-    ready = w.ready;
-    at_rest = λ e j l. w.at_rest e j (omega arith) (omega (arith, w.read.m_is));
-    falls = w.falls;
-  }
-
   -- ---- the next message, k - 1
   module _ (more : 0 < k) where
     there : k - 1 < m
@@ -437,8 +429,5 @@ pub record Growing (t : Table) (roots start buffer : List ℕ) : Type 0 where
 
 module _ {t : Table} {roots start buffer after : List ℕ} {marked : Bool} (w : Growing t roots start buffer)
     (p : PassMade t roots buffer after marked) where
-  pub passes_more : Growing t roots start after
-  passes_more = record { lent = lent_kept w.lent p.grown.kept; grown = grown_both w.grown p.grown; ready = p.ready }
-
   pub passes_end : WellFormed t → marked ≡ false → Reached t roots start after
   passes_end wf e = reached_all t wf roots after p.ready (p.at_rest e) (grown_both w.grown p.grown)

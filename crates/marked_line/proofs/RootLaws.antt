@@ -22,7 +22,7 @@ use Rattle.checkpoint_graph.proofs.GraphLaws.{leads_up}
 use Rattle.tables.proofs.FormatLaws.{message_in}
 use Rattle.checkpoint_graph.specs.Graph.{received, state}
 use Rattle.marked_line.proofs.MarkRowLaws.{kept_both, kept_none, lent_kept, row_below, row_here, row_kept, row_other}
-use Rattle.marked_line.specs.Marking.{GaveWay, Kept, LatestUnset, Lent, OnlyBehind, Ready, Unmarked}
+use Rattle.marked_line.specs.Marking.{Kept, LatestUnset, Lent, OnlyBehind, Ready, Unmarked}
 use Rattle.marking.proofs.ReachLaws.{reach_root}
 use Rattle.marking.specs.Procedure.{Reachable}
 use Rattle.marks.proofs.LayoutLaws.{first_more}
@@ -84,9 +84,6 @@ behind_begins few lent n_is none = record {
 }
 
 module _ {t : Table} {roots start buffer : List ℕ} {n p : ℕ} (w : Behind t roots start buffer n p) where
-  pub behind_ends : n ≤ p → OnlyBehind t roots buffer
-  behind_ends l = record { marked_just = λ q y known there. w.done q y (omega (arith, w.over.n_is)) there }
-
   module _ (more : p < n) {r : ℕ} (r_is : r ≡ get_or roots p 0 + 1) where
     behind_known : p < process_count t
     behind_known = over_known w.over more
@@ -187,9 +184,6 @@ pub giving_none : {t : Table} {roots marks : List ℕ} {n : ℕ} → process_cou
 giving_none few lent n_is = record { over = over_none few lent n_is; for_each = refl; done = λ q l. absurd (omega arith) }
 
 module _ {t : Table} {roots marks next : List ℕ} {n p : ℕ} (w : Giving t roots marks next n p) where
-  pub giving_all : n ≤ p → GaveWay t roots marks next
-  giving_all l = record { for_each = w.for_each; each = λ q known. w.done q (omega (arith, w.over.n_is)) }
-
   pub giving_more : p < n → {y : ℕ} → LatestUnset marks (first_bit t.counts p) (get_or roots p 0) y
       → Giving t roots marks (set next p y) n (p + 1)
   giving_more more {y} latest = record {
