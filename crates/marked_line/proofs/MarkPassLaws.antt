@@ -1,12 +1,12 @@
 -- Passes over the messages, from the last to the first, as the loops of `pass` and `mark_reachable` go.
 --     grown_none, grown_both             nothing marked; one pass after another
---     MarkPassing, pass_begins, pass_ends    the invariant of one pass, how it begins and how it ends
+--     MarkPassing, pass_begins           the invariant of one pass, and how it begins
 --     AtReceipt, AtSend                  the pass at its next message: the receipt was read; the send was, too
 --     receiver_known, received-there, sender_known, sent_there, row_ready    what the code asks of that message and of its row
 --     skips_undelivered, skips_marked, skips_unreached, pass_marks    what its tests say of it
 --     IsMarked, marks_in_lem, marks_are, marks_bit    the marks that a buffer holds, by its bits
 --     reached_all                        where no message leads to anything new, all that is reachable is marked
---     Growing, passes_more, passes_end   the invariant of the passes, one pass more, the last one
+--     Growing, passes_end                the invariant of the passes, and the last one
 -- Assumes nothing.
 use mathlib.Core.Bool.{Bool, true, false, ◌||◌, false≢true, true≢false}
 use mathlib.Core.List.{List}

@@ -2,8 +2,8 @@
 --     cleared_unmarked                 a cleared buffer has no marks
 --     given_few, starts_lent, starts_unmarked, starts_ready, running_starts    the start of the procedure
 --     gave_lent, gave_ready            what the roots that gave way are lent, and that a marking may begin with the marks
---     running_since, running_more, running_falls, running_ends    a round, with which the roots fall; the end
---     end_fits, end_cleared            the marks are cleared again, and no byte beyond them was changed
+--     running_more, running_falls, running_ends    a round, with which the roots fall; the end
+--     end_cleared                      the marks are cleared again, and no byte beyond them was changed
 -- Assumes nothing.
 use mathlib.Core.Bool.{true, false, false≢true}
 use mathlib.Core.List.{List}

@@ -3,7 +3,7 @@
 --     member_or                        the bits of a number that is or_ed with another
 --     with_here, with_elsewhere, with_length, with_beyond    a buffer with a bit set
 --     onwards_all                      behind a set bit of a row all are set
---     Rowing, row_none, row_inside, row_more, row_ends, row_stops    the invariant of the loop that sets a row of bits
+--     Rowing, row_inside, row_more, row_stops    the invariant of the loop that sets a row of bits
 --     cleared-length .. cleared_bit, filled_cleared, cleared_again    a buffer whose first bytes are cleared
 --     unset_fewer, unset_falls         how many bits are not set; none cleared, and one set
 -- Assumes nothing.

@@ -8,4 +8,3 @@ returns-then-is_set c = row_stops c.loop-b.invariant c.loop-b-test.true (sym c.i
 
 pub loop-b-preserved : goal.loop-b-preserved
 loop-b-preserved c = row_more c.loop-b.invariant c.loop-b-test.true c.set_bit.ensures
-

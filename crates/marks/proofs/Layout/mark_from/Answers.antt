@@ -8,4 +8,3 @@ set_from-requires c = record {
   end_bound = omega (arith, process_inside _ _ c.requires.known, c.requires.room, c.row_end.ensures);
   onwards = rw (c.bit.ensures, c.row_end.ensures) c.requires.onwards;
 }
-
