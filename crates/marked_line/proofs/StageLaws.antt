@@ -247,8 +247,8 @@ module _ {t : Table} {ceilings roots start buffer : List ℕ} (w : Running t cei
     }
 
 -- ---- the end: the marks are cleared again, and no byte beyond them was changed
-module _ {t : Table} {start buffer : List ℕ} (k : Kept t start buffer) (fits : marks_size t ≤ length start) {size : ℕ}
-    (size_is : size ≡ marks_size t) where
-  module _ {after : List ℕ} (after_is : after ≡ cleared size buffer) where
-    pub end_cleared : after ≡ cleared (marks_size t) start
-    end_cleared = after_is ∙ ap (λ (n : ℕ). cleared n buffer) size_is ∙ cleared_again (marks_size t) start buffer k.same_length k.beyond
+pub end_cleared : {t : Table} {start buffer after : List ℕ} {size : ℕ} → Kept t start buffer → size ≡ marks_size t
+    → after ≡ cleared size buffer
+    → after ≡ cleared (marks_size t) start
+end_cleared {t} {start} {buffer} k size_is after_is =
+    after_is ∙ ap (λ (n : ℕ). cleared n buffer) size_is ∙ cleared_again (marks_size t) start buffer k.same_length k.beyond
