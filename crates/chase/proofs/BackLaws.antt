@@ -38,6 +38,7 @@ use Rattle.tables.specs.declared.messages.MessageParts.{MessageParts}
 unfoldable pub idle : List Bool → ℕ
 idle stacked = count_by not stacked
 
+-- Whether one is, as a number.
 abbrev one_off : Bool → ℕ
 one_off stacked = cond (not stacked) 1 0
 
@@ -61,7 +62,8 @@ pub record Chases (parts : MessageParts) (start cursors line stack : List ℕ) (
 
 -- at first every process is on the stack
 pub chase_begins : {parts : MessageParts} {n : ℕ} {start cursors line stack : List ℕ} → BroughtDown (all_messages parts) start line
-    → n ≤ most_processes → Placed parts.count cursors → stack ≡ tabulate 32 (λ p. p) → Chases parts start cursors line stack (tabulate 32 (λ _. true)) n
+    → n ≤ most_processes → Placed parts.count cursors → stack ≡ tabulate 32 (λ p. p)
+    → Chases parts start cursors line stack (tabulate 32 (λ _. true)) n
 chase_begins down few placed all = record {
   down = down;
   placed = placed;
