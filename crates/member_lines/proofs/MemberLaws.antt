@@ -1,12 +1,12 @@
 -- The minimum of the members' lines, as the loop finds it.
 --     Minimizing                                   the minimum over the members so far: the invariant
---     minimizing_none, minimizing_other, minimizing_member, minimizing_all    how it begins, goes on and ends
+--     minimizing_none, minimizing_other, minimizing_member    how it begins and goes on
 -- Assumes nothing.
 use mathlib.Core.Bool.{Bool, true, false, cond}
 use mathlib.Core.List.{List}
-use mathlib.Core.Path.{◌≡◌, refl, sym, ap₂, ◌∙◌, subst}
-use Prim.Native.Nat.{ℕ, ◌+◌, ◌*◌, ◌≤◌, ◌<◌, min}
-use native.Mathlib.Nat.{le_antisymm, mul-le-mul_left, mul-suc}
+use mathlib.Core.Path.{◌≡◌, refl, sym, ap₂, ◌∙◌}
+use Prim.Native.Nat.{ℕ, ◌+◌, ◌*◌, ◌<◌, min}
+use native.Mathlib.Nat.{mul-le-mul_left, mul-suc}
 use native.Mathlib.Numerals.{add-one}
 use native.Mathlib.Omega.{arith}
 use lib.ListN.{length, get_or, take, drop, length-drop}
@@ -29,10 +29,6 @@ module _ {lines : HeldLines} {counts : List ℕ} {set : ℕ} where
   minimizing_none = record { minimum = record { same_length = refl; front = λ i _ _. refl; rest = λ i _. refl } }
 
   module _ {line : List ℕ} {k : ℕ} (w : Minimizing lines counts set line k) where
-    pub minimizing_all : k ≤ lines.n → lines.n ≤ k → Filled (smallest lines.n (member set) (line_held lines) (as_line counts)) lines.n counts line
-    minimizing_all a b =
-        subst (λ (j : ℕ). Filled (smallest j (member set) (line_held lines) (as_line counts)) lines.n counts line) (le_antisymm a b) w.minimum
-
     -- one process more, by whether it is a member
     one_more : (p : ℕ) (b : Bool) → member set k ≡ b
         → smallest (k + 1) (member set) (line_held lines) (as_line counts) p

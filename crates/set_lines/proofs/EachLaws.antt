@@ -4,7 +4,7 @@
 --     set_line                     the minimum of the members' lines is the line of the set
 --     PutsLines                    its invariant
 --     puts_none, puts_all          how it begins and ends
---     puts_room, puts_more         a turn
+--     puts_more                    a turn
 -- Assumes nothing.
 use mathlib.Core.List.{List}
 use mathlib.Core.Path.{◌≡◌, sym, ap, ◌∙◌}
@@ -19,7 +19,7 @@ use Rattle.consistency.specs.Ceilings.{holder_line, line_of, smallest}
 use Rattle.consistency.specs.Lines.{Line, as_line}
 use Rattle.holder_lines.proofs.ScratchLaws.{entry_is, holds_lines}
 use Rattle.holder_lines.specs.Scratch.{HoldsLines, LinesOf, lines_in}
-use Rattle.number_writer.proofs.WriteLaws.{Written, written_all, written_more, written_none, written_room}
+use Rattle.number_writer.proofs.WriteLaws.{Written, written_all, written_more, written_none}
 use Rattle.process_set.specs.Sets.{member}
 use Rattle.tables.proofs.AcceptLaws.{facts}
 use Rattle.tables.proofs.ArrayLaws.{array_at, array_length}
@@ -99,16 +99,13 @@ module _ {bytes sets scratch before : List ℕ} {n : ℕ} {counts : List ℕ} wh
     puts_all l =
         written_all (2 * n) _ (length sets) 0 before each after k h.written l ∙ ap (put_at before 0) (sym (all-rows 2 line (length sets)))
 
-    module _ (l : k < length sets) where
-      pub puts_room : at + 2 * n ≤ length after
-      puts_room = omega (arith, h.behind, written_room (2 * n) _ (length sets) 0 before each after k h.written l)
-
-      pub puts_more : {found later : List ℕ} → Filled (smallest n (member (get_or sets k 0)) (lines_in scratch n) (as_line counts)) n counts found
-          → later ≡ put_at after at (u16s (take n found)) → PutsLines bytes sets scratch before n counts later (at + 2 * n) (k + 1)
-      puts_more is-minimum put = record {
-        to_put = h.to_put;
-        behind = omega (arith, h.behind, mul-suc (2 * n) k, ap (λ (j : ℕ). 2 * n * j) (add-one k));
-        written =
-            written_more (2 * n) _ (length sets) 0 before each after k h.written l at _ (omega (arith, h.behind))
-            (put ∙ ap (λ (x : List ℕ). put_at after at (u16s x)) (set_line h.to_put (get_or sets k 0) is-minimum));
-      }
+    pub puts_more : k < length sets → {found later : List ℕ}
+        → Filled (smallest n (member (get_or sets k 0)) (lines_in scratch n) (as_line counts)) n counts found
+        → later ≡ put_at after at (u16s (take n found)) → PutsLines bytes sets scratch before n counts later (at + 2 * n) (k + 1)
+    puts_more l is-minimum put = record {
+      to_put = h.to_put;
+      behind = omega (arith, h.behind, mul-suc (2 * n) k, ap (λ (j : ℕ). 2 * n * j) (add-one k));
+      written =
+          written_more (2 * n) _ (length sets) 0 before each after k h.written l at _ (omega (arith, h.behind))
+          (put ∙ ap (λ (x : List ℕ). put_at after at (u16s x)) (set_line h.to_put (get_or sets k 0) is-minimum));
+    }

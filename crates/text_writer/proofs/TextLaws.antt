@@ -146,9 +146,6 @@ module _ {f : ℕ → List ℕ} {n : ℕ} {whole before : List ℕ} {at : ℕ} {
       laid = rw (rows_more f k, sym is) (laid_then before after at (rows f k) next h.laid later text end q);
     }
 
-  pub laying_length : length after ≡ length before
-  laying_length = laid_length h.laid
-
   pub laying_all : n ≤ k → Laid before after at whole next
   laying_all l = subst (λ (text : List ℕ). Laid before after at text next) (ap (rows f) (le_antisymm h.within l) ∙ h.all) h.laid
 

@@ -10,10 +10,9 @@ pub fn put_byte(text: &mut [u8], at: usize, byte: u8) -> usize
     requires { Fits at (byte ∷ []) }
     ensures { Laid text.old text.new at (byte ∷ []) result }
 {
-    if text.len() <= at {
-        return at + 1;
+    if at < text.len() {
+        text[at] = byte;
     }
-    text[at] = byte;
     at + 1
 }
 

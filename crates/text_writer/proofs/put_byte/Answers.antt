@@ -1,10 +1,11 @@
--- A byte beyond the end of the text is left out; one within is laid there.
-use Rattle.std.proofs.Common.{arith}
+-- A byte within the text is laid there, and one beyond its end is left out.
 use Rattle.text_writer.proofs.TextLaws.{laid_beyond, laid_byte}
 use Rattle.text_writer.proofs.put_byte.Goals as goal
-
-pub returns-then-text-at : goal.returns-then-text-at
-returns-then-text-at c = laid_beyond _ _ _ c.if-text-at.true
+use Rattle.text_writer.proofs.put_byte.Goals.{then-at-text, else-at-text}
 
 pub returns : goal.returns
-returns c = laid_byte _ _ _ (omega (arith, c.if-text-at.false))
+returns c =
+    elim c.if-at-text.branch [
+      then-at-text w ↦ rw w.text-is (laid_byte _ _ _ w.if-at-text.true)
+    | else-at-text w ↦ rw w.text-is (laid_beyond _ _ _ w.if-at-text.false)
+    ]

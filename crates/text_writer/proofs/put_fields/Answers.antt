@@ -1,6 +1,6 @@
 -- Each field is laid behind those before it.
 use Rattle.std.proofs.Common.{ap, sym}
-use Rattle.text_writer.proofs.TextLaws.{each_rows, laying_all, laying_more, laying_none, laying_room}
+use Rattle.text_writer.proofs.TextLaws.{each_rows, laying_more, laying_none, laying_room}
 use Rattle.text_writer.specs.Text.{field}
 use Rattle.text_writer.proofs.put_fields.Goals as goal
 
@@ -12,6 +12,3 @@ put_field-next-requires c = laying_room c.loop-n.invariant (ap field c.from.ensu
 
 pub loop-n-preserved : goal.loop-n-preserved
 loop-n-preserved c = laying_more c.loop-n.invariant (ap field c.from.ensures) c.loop-n-test.true c.put_field-next.ensures
-
-pub returns : goal.returns
-returns c = laying_all c.loop-n.invariant c.loop-n-test.false

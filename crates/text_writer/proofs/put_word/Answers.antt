@@ -1,6 +1,6 @@
 -- Each letter is laid behind those before it.
 use Rattle.std.proofs.Common.{refl}
-use Rattle.text_writer.proofs.TextLaws.{laying_all, laying_more, laying_none, laying_room, letters}
+use Rattle.text_writer.proofs.TextLaws.{laying_more, laying_none, laying_room, letters}
 use Rattle.text_writer.proofs.put_word.Goals as goal
 
 pub loop-byte-init : goal.loop-byte-init
@@ -11,6 +11,3 @@ put_byte-next-requires c = laying_room c.loop-byte.invariant refl c.loop-byte-te
 
 pub loop-byte-preserved : goal.loop-byte-preserved
 loop-byte-preserved c = laying_more c.loop-byte.invariant refl c.loop-byte-test.true c.put_byte-next.ensures
-
-pub returns : goal.returns
-returns c = laying_all c.loop-byte.invariant c.loop-byte-test.false

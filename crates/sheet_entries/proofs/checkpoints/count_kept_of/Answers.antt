@@ -8,14 +8,8 @@ use Rattle.sheet_entries.proofs.checkpoints.count_kept_of.Goals as goal
 pub loop-checkpoint-init : goal.loop-checkpoint-init
 loop-checkpoint-init c = tallied_none
 
-pub next_kept-requires-clause-from_le_count : goal.next_kept-requires-clause-from_le_count
-next_kept-requires-clause-from_le_count c = c.loop-checkpoint.invariant.within
-
 pub overflow_add-kept : goal.overflow_add-kept
 overflow_add-kept c = omega (arith, tallied_small c.loop-checkpoint.invariant)
-
-pub loop-checkpoint-smaller : goal.loop-checkpoint-smaller
-loop-checkpoint-smaller c = let found = c.in-Some.ensures in omega (arith, found.0.from_on, found.1)
 
 pub loop-checkpoint-preserved : goal.loop-checkpoint-preserved
 loop-checkpoint-preserved c = let found = c.in-Some.ensures in tallied_next c.loop-checkpoint.invariant found.0 found.1

@@ -2,16 +2,12 @@
 use Rattle.std.proofs.Common.{ap, arith, rules, ◌∙◌}
 use borrow.Author.Tests.{tests}
 use lib.ListN.{length}
-use Rattle.std.proofs.lemmas.Iterator.{YieldsList-from_range, serves_from_Range}
+use Rattle.std.proofs.lemmas.Iterator.{YieldsList-from_range}
 use Rattle.std.proofs.lemmas.Iterator.Consumers.{YieldsList-from_filter, count_from_yields_List}
 use Rattle.sheet_entries.proofs.ChainLaws.{filter_of_range}
 use Rattle.sheet_entries.proofs.SearchLaws.{keeps_at}
-use Rattle.tables.proofs.ReadLaws.{message_there}
 use Rattle.sheet_entries.specs.Kept.{positions_of}
 use Rattle.sheet_entries.proofs.messages.count_kept.Goals as goal
-
-pub count-requires-clause-can : goal.count-requires-clause-can
-count-requires-clause-can c = (tt, tt, serves_from_Range (λ x q k. search rules) (λ x a b. search (rules, message_there)))
 
 pub returns : goal.returns
 unfolding positions_of

@@ -2,12 +2,9 @@
 use Rattle.std.proofs.Common.{sym}
 use Rattle.sheet_entries.proofs.SearchLaws.{lowest_found}
 use Rattle.sheet_entries.specs.Kept.{lowest_line}
-use Rattle.tables.proofs.ArrayLaws.{filling_array, filling_more, filling_none}
+use Rattle.tables.proofs.ArrayLaws.{filling_array, filling_more}
 use Rattle.tables.proofs.ListLaws.{length-tabulate}
 use Rattle.sheet_entries.proofs.messages.lowest_line.Goals as goal
-
-pub loop-i-init : goal.loop-i-init
-loop-i-init c = filling_none
 
 pub loop-i-preserved : goal.loop-i-preserved
 loop-i-preserved c =

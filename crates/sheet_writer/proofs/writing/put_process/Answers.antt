@@ -1,5 +1,4 @@
 -- The number of each checkpoint found is put, and none is kept behind the last.
-use Rattle.std.proofs.Common.{arith}
 use Rattle.sheet_entries.specs.Kept.{kept_of}
 use Rattle.sheet_writer.proofs.PutLaws.{laying_all, laying_more, laying_none, laying_room}
 use Rattle.sheet_writer.proofs.writing.put_process.Goals as goal
@@ -10,9 +9,6 @@ loop-checkpoint-init c = laying_none _ _ _ c.requires.count_in_bounds
 
 pub put_number-next-requires : goal.put_number-next-requires
 put_number-next-requires c = laying_room _ _ _ c.loop-checkpoint.invariant c.in-Some.ensures.0 c.in-Some.ensures.1
-
-pub loop-checkpoint-smaller : goal.loop-checkpoint-smaller
-loop-checkpoint-smaller c = omega (arith, c.in-Some.ensures.0.from_on, c.in-Some.ensures.1)
 
 pub loop-checkpoint-preserved : goal.loop-checkpoint-preserved
 loop-checkpoint-preserved c =
