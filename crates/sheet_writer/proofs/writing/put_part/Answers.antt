@@ -4,10 +4,14 @@ use Rattle.holder_lines.proofs.ScratchLaws.{holds_lines}
 use Rattle.tables.proofs.ReadLaws.{ReadMessages, counts_known, messages_known, messages_read}
 use Rattle.sheet_writer.proofs.PartLaws.{column_is, positions_are, sizes_are}
 use Rattle.sheet_writer.proofs.writing.put_part.Goals as goal
+use Rattle.sheet_writer.proofs.writing.put_part.Goals.{After-message_count}
+
+-- the messages, as they were read
+messages : (c : After-message_count) → ReadMessages c.args.table.bytes.now c.message_count.result c.sends.result.now c.receipts.result.now
+messages c = messages_read c.args.table.accepted c.message_count.ensures c.sends.ensures c.receipts.ensures
 
 pub put_sizes-requires : goal.put_sizes-requires
-put_sizes-requires c =
-    rw (← sizes_are c.in-Sizes.is) at c.requires.room
+put_sizes-requires c = rw (← sizes_are c.in-Sizes.is) at c.requires.room
 
 pub invariant_of-lines : goal.invariant_of-lines
 invariant_of-lines c = record { holds = holds_lines c.requires.given c.process_count-n.ensures }
@@ -26,17 +30,14 @@ invariant_of-lines-in-Positions c = record { holds = holds_lines c.requires.give
 
 pub put_positions-requires : goal.put_positions-requires
 put_positions-requires c =
-    let messages : ReadMessages c.args.table.bytes.now c.message_count.result c.sends.result.now
-    c.receipts.result.now = messages_read c.args.table.accepted c.message_count.ensures c.sends.ensures c.receipts.ensures in
-    let numbers = positions_are c.requires.given c.process_count-n.ensures messages c.in-Positions.is in
+    let read = messages (goal.at.put_positions-requires c).After-message_count in
     record {
-      messages = messages_known messages (omega (arith, c.process_count-n.ensures));
-      m_in_bounds = rw numbers c.requires.room;
+      messages = messages_known read (omega (arith, c.process_count-n.ensures));
+      m_in_bounds = rw (positions_are c.requires.given c.process_count-n.ensures read c.in-Positions.is) c.requires.room;
     }
 
 pub returns-in-Sizes : goal.returns-in-Sizes
-returns-in-Sizes c =
-    rw (← sizes_are c.in-Sizes.is) c.put_sizes.ensures
+returns-in-Sizes c = rw (← sizes_are c.in-Sizes.is) c.put_sizes.ensures
 
 pub returns-in-Kept : goal.returns-in-Kept
 returns-in-Kept c =
@@ -45,7 +46,5 @@ returns-in-Kept c =
 
 pub returns-in-Positions : goal.returns-in-Positions
 returns-in-Positions c =
-    let messages : ReadMessages c.args.table.bytes.now c.message_count.result c.sends.result.now
-    c.receipts.result.now = messages_read c.args.table.accepted c.message_count.ensures c.sends.ensures c.receipts.ensures in
-    rw (positions_are c.requires.given c.process_count-n.ensures messages c.in-Positions.is)
-    at c.put_positions.ensures
+    let read = messages (goal.at.returns-in-Positions c).After-message_count in
+    rw (positions_are c.requires.given c.process_count-n.ensures read c.in-Positions.is) at c.put_positions.ensures
