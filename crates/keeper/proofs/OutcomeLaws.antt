@@ -51,7 +51,8 @@ fits {promise} judged {length} {room = room} found fit {buffer} {buffer'} put =
     (λ before. (all before).0, (all 0).1 refl)
 
 -- ---- as numbers
-pub told_holds : (outcome : Result ℕ Refusal) (P : ℕ → Type 0) → IfOk outcome P → (before : ℕ) {number written : ℕ} → number ≡ refusal_in outcome
+pub told_holds : (outcome : Result ℕ Refusal) (P : ℕ → Type 0) → IfOk outcome P → (before : ℕ) {number written : ℕ} → number
+    ≡ refusal_in outcome
     → written ≡ length_in outcome before → number ≡ 0 → P written
 told_holds (Ok length) P holds before number-is length-is none = subst⁻¹ P length-is holds
 told_holds (Err refusal) P holds before number-is length-is none = absurd (refused_some refusal (sym number-is ∙ none))

@@ -18,7 +18,9 @@ ghost use Rattle.tables.specs.Checks.{first_caught};
 ghost use Rattle.tables.specs.Format.{decode};
 ghost use Rattle.tables.specs.Refusals.{refusal_in};
 
-use crate::sizes::{fitting, line_size, lines_size, rollback_size, same_size, send_size, sheet_size};
+use crate::sizes::{
+    fitting, line_size, lines_size, rollback_size, same_size, send_size, sheet_size,
+};
 use chosen_ceilings::put_line_under;
 use holder_lines::fill_lines;
 use marked_line::put_marked_line;
@@ -35,6 +37,20 @@ use sheet_writer::{count_checkpoints, count_messages, put_sheet};
 use step_writer::receipts::{put_checkpoint, put_receipt};
 use step_writer::send::put_send;
 use tables::refusal::Refusal;
+
+// Tells an outcome as a call does: returns its number, and writes the length of its answer.
+pub fn told(outcome: Result<usize, Refusal>, written: &mut usize) -> u32
+    ensures number { result ≡ refusal_in outcome }
+    ensures length { written.new ≡ length_in outcome written.old }
+{
+    match outcome {
+        Ok(size) => {
+            *written = size;
+            0
+        }
+        Err(refusal) => u32::from(refusal),
+    }
+}
 
 // The recovery line.
 pub fn recovery_line(bytes: &[u8], answer: &mut [u8]) -> Result<usize, Refusal>
@@ -172,12 +188,7 @@ pub fn receive(
 }
 
 // The table after a checkpoint.
-pub fn save(
-    bytes: &[u8],
-    process: u16,
-    list: &[u16],
-    answer: &mut [u8],
-) -> Result<usize, Refusal>
+pub fn save(bytes: &[u8], process: u16, list: &[u16], answer: &mut [u8]) -> Result<usize, Refusal>
     ensures outcome { Outcome
         (checkpoint_answer bytes.now process list.now (length answer.old)) result
         answer.old answer.new }
@@ -206,11 +217,7 @@ pub fn fall_back(bytes: &[u8], answer: &mut [u8]) -> Result<usize, Refusal>
 }
 
 // The keep sheet.
-pub fn keep_sheet(
-    bytes: &[u8],
-    scratch: &mut [u16],
-    answer: &mut [u8],
-) -> Result<usize, Refusal>
+pub fn keep_sheet(bytes: &[u8], scratch: &mut [u16], answer: &mut [u8]) -> Result<usize, Refusal>
     ensures outcome { Outcome
         (keep_sheet_answer bytes.now (length scratch.old) (length answer.old)) result
         answer.old answer.new }

@@ -20,27 +20,11 @@ ghost use Rattle.calls.specs.Calls.{receipt_answer, recovery_line_answer, rollba
 ghost use Rattle.calls.specs.Calls.{scratch_of_sets, send_answer, stand_together_answer};
 ghost use Rattle.process_set.specs.Sets.{member};
 ghost use Rattle.call_checks.specs.CallChecks.{stand_together_checks};
-ghost use Rattle.keeper.specs.Outcomes.{length_in};
 ghost use Rattle.tables.specs.Checks.{first_caught, table_refusal};
 ghost use Rattle.tables.specs.Format.{decode};
-ghost use Rattle.tables.specs.Refusals.{refusal_in};
 
+use answers::told;
 use run_table::checks::check;
-use tables::refusal::Refusal;
-
-// Tells the outcome of a call: the number that it returns, and the length of its answer.
-fn told(outcome: Result<usize, Refusal>, written: &mut usize) -> u32
-    ensures number { result ≡ refusal_in outcome }
-    ensures length { written.new ≡ length_in outcome written.old }
-{
-    match outcome {
-        Ok(size) => {
-            *written = size;
-            0
-        }
-        Err(refusal) => u32::from(refusal),
-    }
-}
 
 // The refusal of a table: the number of the first of its checks that catches, or 0.
 #[unsafe(no_mangle)]
@@ -98,7 +82,10 @@ pub extern "C" fn keeper_lines_of_sets(
     ensures each { result ≡ 0 → HoldsLineOfEach table.now sets.now
         answer.new }
 {
-    told(answers::lines_of_sets(table, sets, scratch, answer), written)
+    told(
+        answers::lines_of_sets(table, sets, scratch, answer),
+        written,
+    )
 }
 
 // The line under ceilings: N numbers by process. The list has a ceiling for each process, at most its
@@ -139,7 +126,10 @@ pub extern "C" fn keeper_marked_line(
     ensures latest { result ≡ 0 → HoldsLatest table.now ceilings.now
         answer.new }
 {
-    told(answers::marked_line(table, ceilings, marks, answer), written)
+    told(
+        answers::marked_line(table, ceilings, marks, answer),
+        written,
+    )
 }
 
 // Whether named checkpoints stand together, checkpoint `states[k]` of process `processes[k]` for each k:
@@ -161,7 +151,10 @@ pub extern "C" fn keeper_stand_together(
         → TellsTogether (decode table.now) processes.now states.now result
         answer.new written.new }
 {
-    told(answers::stand_together(table, processes, states, answer), written)
+    told(
+        answers::stand_together(table, processes, states, answer),
+        written,
+    )
 }
 
 // The table after a send.

@@ -1,5 +1,6 @@
 -- Its outcome, at each return.
-use Rattle.call_checks.proofs.RefusalLaws.{quiet_marking, quiet_names, quiet_receipt, quiet_receive, quiet_save, quiet_send, quiet_set, quiet_sets, quiet_sheet, quiet_table, quiet_under, marks_long, scratch_long, sets_few, sets_scratch_long}
+use Rattle.call_checks.proofs.RefusalLaws.{quiet_marking, quiet_names, quiet_receipt, quiet_receive, quiet_save, quiet_send, quiet_set, quiet_sets, quiet_sheet}
+use Rattle.call_checks.proofs.RefusalLaws.{quiet_table, quiet_under, marks_long, scratch_long, sets_few, sets_scratch_long}
 use Rattle.calls.proofs.AnswerLaws.{sixteen}
 use Rattle.calls.proofs.LineAnswers.{ceilings_accepted, line_judged}
 use Rattle.calls.specs.Calls.{rollback_answer}
@@ -21,7 +22,9 @@ pub returns-in_err-size-clause-outcome : goal.returns-in_err-size-clause-outcome
 unfolding rollback_answer table_refusal
 returns-in_err-size-clause-outcome c =
     let here = quiet_table _ c.in_ok-table.ensures.refusal refl in
-    short_exit c.from_residual-in_err-size.result _ c.from_residual-in_err-size.ensures.1 (rollback_judged here (rw c.in_ok-table.ensures.table at c.count_remaining-m.ensures)) (rw c.in_ok-table.ensures.table at c.rollback_size.ensures) c.in_err-size.ensures
+    short_exit c.from_residual-in_err-size.result _ c.from_residual-in_err-size.ensures.1
+    (rollback_judged here (rw c.in_ok-table.ensures.table at c.count_remaining-m.ensures)) (rw c.in_ok-table.ensures.table at c.rollback_size.ensures)
+    c.in_err-size.ensures
 
 pub rollback_size-requires : goal.rollback_size-requires
 rollback_size-requires c =
@@ -31,5 +34,6 @@ pub returns : goal.returns
 unfolding rollback_answer table_refusal
 returns c =
     let here = quiet_table _ c.in_ok-table.ensures.refusal refl in
-    let all = fits (rollback_judged here (rw c.in_ok-table.ensures.table at c.count_remaining-m.ensures)) (rw c.in_ok-table.ensures.table at c.rollback_size.ensures) c.in_ok-size.ensures (rw c.in_ok-table.ensures.table at c.put_rollback.ensures) in
+    let all = fits (rollback_judged here (rw c.in_ok-table.ensures.table at c.count_remaining-m.ensures))
+    (rw c.in_ok-table.ensures.table at c.rollback_size.ensures) c.in_ok-size.ensures (rw c.in_ok-table.ensures.table at c.put_rollback.ensures) in
     record { outcome = all.0; table = all.1 }

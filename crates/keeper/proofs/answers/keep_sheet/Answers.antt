@@ -1,5 +1,6 @@
 -- Its outcome, at each return.
-use Rattle.call_checks.proofs.RefusalLaws.{quiet_marking, quiet_names, quiet_receipt, quiet_receive, quiet_save, quiet_send, quiet_set, quiet_sets, quiet_sheet, quiet_table, quiet_under, marks_long, scratch_long, sets_few, sets_scratch_long}
+use Rattle.call_checks.proofs.RefusalLaws.{quiet_marking, quiet_names, quiet_receipt, quiet_receive, quiet_save, quiet_send, quiet_set, quiet_sets, quiet_sheet}
+use Rattle.call_checks.proofs.RefusalLaws.{quiet_table, quiet_under, marks_long, scratch_long, sets_few, sets_scratch_long}
 use Rattle.calls.proofs.SheetAnswer.{scratch_filled, scratch_kept, sheet_judged}
 use Rattle.calls.specs.Calls.{keep_sheet_answer}
 use Rattle.holder_lines.proofs.ScratchLaws.{lines-stand}
@@ -47,7 +48,9 @@ sheet_size-requires c =
 pub returns-in_err-size-clause-outcome : goal.returns-in_err-size-clause-outcome
 unfolding keep_sheet_answer
 returns-in_err-size-clause-outcome c =
-    short_exit c.from_residual-in_err-size.result _ c.from_residual-in_err-size.ensures.1 (sheet_judged _ (quiet_sheet _ _ c.in_ok-table.ensures.refusal refl) (rw c.in_ok-table.ensures.table at c.count_checkpoints-kept.ensures) (rw c.in_ok-table.ensures.table at c.count_messages-logged.ensures)) c.sheet_size.ensures c.in_err-size.ensures
+    short_exit c.from_residual-in_err-size.result _ c.from_residual-in_err-size.ensures.1
+    (sheet_judged _ (quiet_sheet _ _ c.in_ok-table.ensures.refusal refl) (rw c.in_ok-table.ensures.table at c.count_checkpoints-kept.ensures)
+    (rw c.in_ok-table.ensures.table at c.count_messages-logged.ensures)) c.sheet_size.ensures c.in_err-size.ensures
 
 pub returns-in_err-size-clause-lines : goal.returns-in_err-size-clause-lines
 returns-in_err-size-clause-lines c =
@@ -65,5 +68,12 @@ put_sheet-requires c =
 pub returns : goal.returns
 unfolding keep_sheet_answer
 returns c =
-    let all = fits (sheet_judged _ (quiet_sheet _ _ c.in_ok-table.ensures.refusal refl) (rw c.in_ok-table.ensures.table at c.count_checkpoints-kept.ensures) (rw c.in_ok-table.ensures.table at c.count_messages-logged.ensures)) c.sheet_size.ensures c.in_ok-size.ensures (rw c.in_ok-table.ensures.table at c.put_sheet.ensures) in
-    record { outcome = all.0; lines = scratch_filled _ _ (quiet_sheet _ _ c.in_ok-table.ensures.refusal refl).quiet _ (rw c.in_ok-table.ensures.table at c.fill_lines.ensures); demand = all.1 }
+    let all = fits (sheet_judged _ (quiet_sheet _ _ c.in_ok-table.ensures.refusal refl) (rw c.in_ok-table.ensures.table at c.count_checkpoints-kept.ensures)
+    (rw c.in_ok-table.ensures.table at c.count_messages-logged.ensures)) c.sheet_size.ensures c.in_ok-size.ensures
+    (rw c.in_ok-table.ensures.table at c.put_sheet.ensures) in
+    record {
+      outcome = all.0;
+      lines = scratch_filled _ _ (quiet_sheet _ _ c.in_ok-table.ensures.refusal refl).quiet _
+          (rw c.in_ok-table.ensures.table at c.fill_lines.ensures);
+      demand = all.1;
+    }
