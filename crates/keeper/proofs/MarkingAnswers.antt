@@ -1,5 +1,5 @@
 -- The answers of the line by marking.
---     MeetsByMarking         all that the call promises
+--     MeetsByMarking, MarkedOutcome    all that the call promises; of an outcome
 --     marked_refused, marked_short, marked_answered    where a check before 16 catches, where 16 does, and where none does
 --     marked_ceiling         where no check before 16 catches, the ceilings are a ceiling
 --     marked_under           where the mark buffer is long enough, the answer is that of the line under ceilings, byte for byte, and refused alike
@@ -15,6 +15,10 @@ use Rattle.calls.proofs.AnswerLaws.{answer_past, call_answered, call_refused, ca
 use Rattle.calls.proofs.LineAnswers.{ceilings_accepted, line_judged, marks_unchanged}
 use Rattle.calls.specs.Answers.{Yields}
 use Rattle.calls.specs.Calls.{HoldsLatest, YieldsByMarking, line_answer, line_under_answer, marked_line_answer, marks_after}
+use Rattle.keeper.specs.Outcomes.{length_in}
+use Rattle.std.proofs.Common.{Result}
+use Rattle.tables.specs.Refusals.{refusal_in}
+use Rattle.tables.specs.declared.refusal.Refusal.{Refusal}
 use Rattle.marked_line.specs.Marking.{PutByMarking}
 use Rattle.marking.proofs.SameLine.{same_line}
 use Rattle.marking.specs.Procedure.{EndsWith}
@@ -36,6 +40,11 @@ MeetsByMarking table ceilings room number marks marks' buffer buffer' written wr
     × ((marks' ≡ marks_after number table marks)
     × (Yields (marked_line_answer table ceilings (length marks) room) number buffer buffer' written written'
     × (number ≡ 0 → HoldsLatest table ceilings buffer')))
+
+-- The same of an outcome that leaves what was lent as it was.
+abbrev pub MarkedOutcome : List ℕ → List ℕ → ℕ → List ℕ → List ℕ → Result ℕ Refusal → Type 0
+MarkedOutcome table ceilings room marks buffer outcome =
+    (before : ℕ) → MeetsByMarking table ceilings room (refusal_in outcome) marks marks buffer buffer before (length_in outcome before)
 
 module _ (table ceilings : List ℕ) (room : ℕ) (marks : List ℕ) {r : ℕ} {buffer : List ℕ} {written : ℕ} where
   pub marked_refused : r ≡ first_caught (marked_line_checks table ceilings (length marks)) → (r ≡ 0 → ⊥)

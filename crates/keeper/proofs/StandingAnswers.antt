@@ -3,6 +3,7 @@
 --     names_accepted     and they are names of the run
 --     told               whether the line misses one of them, as the code found it in an array
 --     stand-under        a yes is the line under the names' ceiling, as keeper_line_under answers it, byte for byte
+--     MeetsStanding, StandingOutcome    all that the call promises; of an outcome
 --     standing_refused, standing-no, standing_short, standing-yes    what the call yields and tells at each of its returns
 -- Assumes nothing.
 use mathlib.Core.Bool.{Bool, true, false, true≢false, ◌||◌}
@@ -20,6 +21,10 @@ use Rattle.calls.proofs.AnswerLaws.{Judged, answer_past, answered, call_answered
 use Rattle.calls.proofs.LineAnswers.{line_judged, line_promise, numbers_read, under_past}
 use Rattle.calls.specs.Answers.{Yields}
 use Rattle.calls.specs.Calls.{HoldsStanding, TellsTogether, line_answer, line_under_answer, stand_together_answer, standing_bytes}
+use Rattle.keeper.specs.Outcomes.{length_in}
+use Rattle.std.proofs.Common.{Result}
+use Rattle.tables.specs.Refusals.{refusal_in}
+use Rattle.tables.specs.declared.refusal.Refusal.{Refusal}
 use Rattle.named_checkpoints.proofs.NamedLaws.{line_found, misses_found, parallel, place_inside}
 use Rattle.named_checkpoints.specs.Lists.{Parallel}
 use Rattle.call_checks.proofs.RefusalLaws.{QuietCall, own_left, quiet_by}
@@ -42,6 +47,11 @@ abbrev pub MeetsStanding : List ℕ → List ℕ → List ℕ → ℕ → ℕ �
 MeetsStanding table processes states room number buffer buffer' written written' =
     Yields (stand_together_answer table processes states room) number buffer buffer' written written'
     × (first_caught (stand_together_checks table processes states) ≡ 0 → TellsTogether (decode table) processes states number buffer' written')
+
+-- The same of an outcome that leaves the buffer as it was.
+abbrev pub StandingOutcome : List ℕ → List ℕ → List ℕ → ℕ → List ℕ → Result ℕ Refusal → Type 0
+StandingOutcome table processes states room buffer outcome =
+    (before : ℕ) → MeetsStanding table processes states room (refusal_in outcome) buffer buffer before (length_in outcome before)
 
 pub standing_refused : (table processes states : List ℕ) (room : ℕ) {r : ℕ} {buffer : List ℕ} {written : ℕ}
     → r ≡ first_caught (stand_together_checks table processes states) → (r ≡ 0 → ⊥)

@@ -3,10 +3,10 @@
 // buffer and its length in `written`; on a refusal nothing lent is changed, but that under 16 the
 // scratch of a keep sheet holds the lines.
 //
-// Each call reads alike: its refusal by the checks before 16, the size of its answer, 16, the answer. A no
-// of `keeper_stand_together` has no bytes, and comes before 16.
+// Each call finds its outcome by name, in `answers`, and tells it as numbers.
 #![tactic(auto)]
 
+pub mod answers;
 pub mod sizes;
 
 ghost use Rattle.std.specs.Prelude.{true, ◌≡◌, ℕ, length};
@@ -23,30 +23,18 @@ ghost use Rattle.call_checks.specs.CallChecks.{stand_together_checks};
 ghost use Rattle.tables.specs.Checks.{first_caught, table_refusal};
 ghost use Rattle.tables.specs.Format.{decode};
 
-use chosen_ceilings::put_line_under;
-use holder_lines::fill_lines;
-use lines::recovery_line;
-use marked_line::put_marked_line;
-use named_checkpoints::{misses_named, named_line};
-use refusals::{
-    ceilings_refusal, checkpoint_refusal, marking_refusal, names_refusal, receipt_refusal,
-    send_refusal, set_refusal, sheet_refusal,
-};
-use rollback::{count_remaining, put_rollback};
+use answers::told;
 use run_table::checks::check;
-use set_lines::put_lines_of_sets;
-use set_refusals::sets_refusal;
-use sheet_writer::{count_checkpoints, count_messages, put_sheet};
-use sizes::{line_size, lines_size, rollback_size, same_size, send_size, sheet_size};
-use step_writer::receipts::{put_checkpoint, put_receipt};
-use step_writer::send::put_send;
 
 // The refusal of a table: the number of the first of its checks that catches, or 0.
 #[unsafe(no_mangle)]
 pub extern "C" fn keeper_check_table(table: &[u8]) -> u32
     ensures { result ≡ table_refusal table.now }
 {
-    check(table)
+    match check(table) {
+        Ok(_) => 0,
+        Err(refusal) => u32::from(refusal),
+    }
 }
 
 // The recovery line of the run: N numbers by process.
@@ -57,17 +45,7 @@ pub extern "C" fn keeper_recovery_line(table: &[u8], answer: &mut [u8], written:
     ensures latest { result ≡ 0 → HoldsLatest table.now
         (ceiling_of (decode table.now) (λ p. true)) answer.new }
 {
-    let refusal = check(table);
-    if refusal != 0 {
-        return refusal;
-    }
-    let size = line_size(table);
-    if answer.len() < size {
-        return 16;
-    }
-    lines::put_line_of_set(table, process_set::ALL, answer);
-    *written = size;
-    0
+    told(answers::recovery_line(table, answer), written)
 }
 
 // The line of a set of processes that hold: N numbers by process.
@@ -83,17 +61,7 @@ pub extern "C" fn keeper_line_of_set(
     ensures latest { result ≡ 0 → HoldsLatest table.now
         (ceiling_of (decode table.now) (member set)) answer.new }
 {
-    let refusal = set_refusal(table, set);
-    if refusal != 0 {
-        return refusal;
-    }
-    let size = line_size(table);
-    if answer.len() < size {
-        return 16;
-    }
-    lines::put_line_of_set(table, set, answer);
-    *written = size;
-    0
+    told(answers::line_of_set(table, set, answer), written)
 }
 
 // The lines of many sets of processes that hold, one after another, N numbers by process each. The scratch
@@ -114,17 +82,10 @@ pub extern "C" fn keeper_lines_of_sets(
     ensures each { result ≡ 0 → HoldsLineOfEach table.now sets.now
         answer.new }
 {
-    let refusal = sets_refusal(table, sets, scratch.len());
-    if refusal != 0 {
-        return refusal;
-    }
-    let size = lines_size(table, sets.len());
-    if answer.len() < size {
-        return 16;
-    }
-    put_lines_of_sets(table, sets, scratch, answer);
-    *written = size;
-    0
+    told(
+        answers::lines_of_sets(table, sets, scratch, answer),
+        written,
+    )
 }
 
 // The line under ceilings: N numbers by process. The list has a ceiling for each process, at most its
@@ -142,17 +103,7 @@ pub extern "C" fn keeper_line_under(
     ensures latest { result ≡ 0 → HoldsLatest table.now ceilings.now
         answer.new }
 {
-    let refusal = ceilings_refusal(table, ceilings);
-    if refusal != 0 {
-        return refusal;
-    }
-    let size = line_size(table);
-    if answer.len() < size {
-        return 16;
-    }
-    put_line_under(table, ceilings, answer);
-    *written = size;
-    0
+    told(answers::line_under(table, ceilings, answer), written)
 }
 
 // The line under ceilings, by the marking procedure on the checkpoint graph: N numbers by process. Its marks take one
@@ -175,17 +126,10 @@ pub extern "C" fn keeper_marked_line(
     ensures latest { result ≡ 0 → HoldsLatest table.now ceilings.now
         answer.new }
 {
-    let refusal = marking_refusal(table, ceilings, marks.len());
-    if refusal != 0 {
-        return refusal;
-    }
-    let size = line_size(table);
-    if answer.len() < size {
-        return 16;
-    }
-    put_marked_line(table, ceilings, marks, answer);
-    *written = size;
-    0
+    told(
+        answers::marked_line(table, ceilings, marks, answer),
+        written,
+    )
 }
 
 // Whether named checkpoints stand together, checkpoint `states[k]` of process `processes[k]` for each k:
@@ -207,22 +151,10 @@ pub extern "C" fn keeper_stand_together(
         → TellsTogether (decode table.now) processes.now states.now result
         answer.new written.new }
 {
-    let refusal = names_refusal(table, processes, states);
-    if refusal != 0 {
-        return refusal;
-    }
-    let line = named_line(table, processes, states);
-    if misses_named(line, processes, states) {
-        *written = 0;
-        return 0;
-    }
-    let size = line_size(table);
-    if answer.len() < size {
-        return 16;
-    }
-    lines::put_line(table, line, answer);
-    *written = size;
-    0
+    told(
+        answers::stand_together(table, processes, states, answer),
+        written,
+    )
 }
 
 // The table after a send.
@@ -239,17 +171,7 @@ pub extern "C" fn keeper_send(
     ensures table { result ≡ 0 → HoldsTable (step (decode table.now) (send from to))
         answer.new written.new }
 {
-    let refusal = send_refusal(table, from, to);
-    if refusal != 0 {
-        return refusal;
-    }
-    let size = send_size(table);
-    if answer.len() < size {
-        return 16;
-    }
-    put_send(table, from, to, answer);
-    *written = size;
-    0
+    told(answers::send(table, from, to, answer), written)
 }
 
 // The table after a receipt: a process receives the messages at the listed positions, and takes no
@@ -269,17 +191,7 @@ pub extern "C" fn keeper_receive(
         (step (decode table.now) (receive process list.now))
         answer.new written.new }
 {
-    let refusal = receipt_refusal(table, process, list);
-    if refusal != 0 {
-        return refusal;
-    }
-    let size = same_size(table);
-    if answer.len() < size {
-        return 16;
-    }
-    put_receipt(table, process, list, answer);
-    *written = size;
-    0
+    told(answers::receive(table, process, list, answer), written)
 }
 
 // The table after a checkpoint (save) of a process, which first receives the messages at the listed
@@ -299,17 +211,7 @@ pub extern "C" fn keeper_save(
         (step (decode table.now) (checkpoint process list.now))
         answer.new written.new }
 {
-    let refusal = checkpoint_refusal(table, process, list);
-    if refusal != 0 {
-        return refusal;
-    }
-    let size = same_size(table);
-    if answer.len() < size {
-        return 16;
-    }
-    put_checkpoint(table, process, list, answer);
-    *written = size;
-    0
+    told(answers::save(table, process, list, answer), written)
 }
 
 // The table after a rollback (fall back) of the whole run to its recovery line.
@@ -320,19 +222,7 @@ pub extern "C" fn keeper_fall_back(table: &[u8], answer: &mut [u8], written: &mu
     ensures table { result ≡ 0 → HoldsTable (step (decode table.now) rollback)
         answer.new written.new }
 {
-    let refusal = check(table);
-    if refusal != 0 {
-        return refusal;
-    }
-    let line = recovery_line(table);
-    let m = count_remaining(table, line);
-    let size = rollback_size(table, m);
-    if answer.len() < size {
-        return 16;
-    }
-    put_rollback(table, line, m, answer);
-    *written = size;
-    0
+    told(answers::fall_back(table, answer), written)
 }
 
 // The keep sheet: what must be kept, and nothing more. The scratch takes N × N numbers, the lines of
@@ -351,18 +241,5 @@ pub extern "C" fn keeper_keep_sheet(
     ensures lines { scratch.new ≡ scratch_after table.now scratch.old }
     ensures demand { result ≡ 0 → HoldsSheet (decode table.now) answer.new }
 {
-    let refusal = sheet_refusal(table, scratch.len());
-    if refusal != 0 {
-        return refusal;
-    }
-    fill_lines(table, scratch);
-    let kept = count_checkpoints(table, scratch);
-    let logged = count_messages(table, scratch);
-    let size = sheet_size(kept, logged);
-    if answer.len() < size {
-        return 16;
-    }
-    put_sheet(table, scratch, kept, logged, answer);
-    *written = size;
-    0
+    told(answers::keep_sheet(table, scratch, answer), written)
 }

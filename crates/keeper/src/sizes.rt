@@ -1,55 +1,50 @@
-// The sizes of the answers, in bytes.
-ghost use Rattle.std.specs.Prelude.{◌≡◌, ℕ, ◌+◌, ◌*◌, ◌<◌, ◌≤◌};
+// The sizes of the answers, in bytes, and room for them.
+ghost use Rattle.std.specs.Prelude.{◌≡◌, ℕ, ◌+◌, ◌*◌, ◌<◌, ◌≤◌, MatchResult};
 ghost use Rattle.call_checks.specs.CallChecks.{most_sets};
-ghost use Rattle.tables.specs.Checks.{table_refusal};
 ghost use Rattle.tables.specs.Format.{decode, table_length};
 ghost use Rattle.tables.specs.Table.{message_count, most_messages, process_count};
 
+use tables::accepted::RunTable;
 use tables::format::table_length;
-use tables::parts::{message_count, process_count};
+use tables::refusal::Refusal;
 
 // A line of N numbers.
-pub fn line_size(table: &[u8]) -> usize
-    requires { table_refusal table.now ≡ 0 }
-    ensures { result ≡ 2 * process_count (decode table.now) }
+pub fn line_size(table: RunTable<'_>) -> usize
+    ensures { result ≡ 2 * process_count (decode table.entry.bytes.now) }
 {
-    2 * process_count(table)
+    2 * table.process_count()
 }
 
 // The lines of so many sets, one after another.
-pub fn lines_size(table: &[u8], sets: usize) -> usize
-    requires table_value { table_refusal table.now ≡ 0 }
-    requires sets_le_most_sets { sets ≤ most_sets }
-    ensures { result ≡ 2 * process_count (decode table.now) * sets }
+pub fn lines_size(table: RunTable<'_>, sets: usize) -> usize
+    requires { sets ≤ most_sets }
+    ensures { result ≡ 2 * process_count (decode table.entry.bytes.now) * sets }
 {
-    2 * process_count(table) * sets
+    2 * table.process_count() * sets
 }
 
 // The table after a send: one message more.
-pub fn send_size(table: &[u8]) -> usize
-    requires { table_refusal table.now ≡ 0 }
-    ensures { result ≡ table_length (process_count (decode table.now))
-        (message_count (decode table.now) + 1) }
+pub fn send_size(table: RunTable<'_>) -> usize
+    ensures { result ≡ table_length (process_count (decode table.entry.bytes.now))
+        (message_count (decode table.entry.bytes.now) + 1) }
 {
-    table_length(process_count(table), message_count(table) + 1)
+    table_length(table.process_count(), table.message_count() + 1)
 }
 
 // A table with as many processes and messages, as a receipt and a checkpoint leave it.
-pub fn same_size(table: &[u8]) -> usize
-    requires { table_refusal table.now ≡ 0 }
-    ensures { result ≡ table_length (process_count (decode table.now))
-        (message_count (decode table.now)) }
+pub fn same_size(table: RunTable<'_>) -> usize
+    ensures { result ≡ table_length (process_count (decode table.entry.bytes.now))
+        (message_count (decode table.entry.bytes.now)) }
 {
-    table.len()
+    table.bytes.len()
 }
 
 // The table after a rollback: m messages stay.
-pub fn rollback_size(table: &[u8], m: usize) -> usize
-    requires table_value { table_refusal table.now ≡ 0 }
-    requires m_le_most_messages { m ≤ most_messages }
-    ensures { result ≡ table_length (process_count (decode table.now)) m }
+pub fn rollback_size(table: RunTable<'_>, m: usize) -> usize
+    requires { m ≤ most_messages }
+    ensures { result ≡ table_length (process_count (decode table.entry.bytes.now)) m }
 {
-    table_length(process_count(table), m)
+    table_length(table.process_count(), m)
 }
 
 // A keep sheet of K checkpoints and Q messages.
@@ -59,4 +54,15 @@ pub fn sheet_size(kept: usize, logged: usize) -> usize
     ensures { result ≡ 4 + 4 * kept + 2 * logged }
 {
     4 + 4 * kept + 2 * logged
+}
+
+// The size of an answer, where it fits an answer buffer of so many bytes.
+pub fn fitting(size: usize, room: usize) -> Result<usize, Refusal>
+    ensures { MatchResult result (λ length. (length ≡ size) × (size ≤ room))
+        (λ refusal. (refusal ≡ Refusal.AnswerTooShort) × (room < size)) }
+{
+    if room < size {
+        return Err(Refusal::AnswerTooShort);
+    }
+    Ok(size)
 }

@@ -3,21 +3,24 @@
 
 pub mod rows;
 
-ghost use Rattle.std.specs.Prelude.{◌≡◌, ℕ, ◌≤◌, ◌<◌, length, take};
+ghost use Rattle.std.specs.Prelude.{◌≡◌, ℕ, ◌≤◌, ◌<◌, length, take, IfOk};
 ghost use Rattle.keep_sheet.specs.Sheet.{kept_checkpoints};
 ghost use Rattle.calls.specs.Answers.{Yields};
+ghost use Rattle.keeper.specs.Outcomes.{Outcome};
 ghost use Rattle.listings.specs.Listing.{EndsInShare, listing, listing_answer, listing_of, share};
 ghost use Rattle.listing_text.specs.Rows.{Answered};
 ghost use Rattle.text_writer.specs.Text.{Laid};
 ghost use Rattle.tables.specs.Checks.{table_refusal};
 ghost use Rattle.tables.specs.Format.{decode};
+ghost use Rattle.tables.specs.Refusals.{refusal_in};
 ghost use Rattle.tables.specs.Table.{checkpoint_total};
 
 use holder_lines::scratch::HeldLines;
-use keeper::keeper_keep_sheet;
+use keeper::answers::{keep_sheet, told};
 use lines::recovery_line;
 use rounding::rounded_quotient;
 use tables::numbers::u16_at;
+use tables::refusal::Refusal;
 use tables::{lookups, parts};
 
 // The bytes of a buffer that every listing fits: what `fits`, below, promises.
@@ -28,12 +31,9 @@ fn checkpoint_total(table: &[u8]) -> usize
     requires { table_refusal table.now ≡ 0 }
     ensures { result ≡ checkpoint_total (decode table.now) }
 {
-    let n = parts::process_count(table);
     let mut total = 0;
-    let mut p = 0;
-    while p < n {
+    for p in 0..parts::process_count(table) {
         total += lookups::count(table, p) as usize;
-        p += 1;
     }
     total
 }
@@ -69,16 +69,40 @@ fn put_listing(text: &mut [u8], table: &[u8], scratch: &[u16], sheet: &[u8]) -> 
     rows::put_row(text, after_messages, b"share", share_of(table, kept))
 }
 
-// Puts the listing of bytes, a table or not, given their refusal.
-fn put_text(text: &mut [u8], table: &[u8], refusal: u32, scratch: &[u16], sheet: &[u8]) -> usize
-    requires refusal_value { refusal ≡ table_refusal table.now }
+// Puts the listing of bytes, a table or not, given the outcome of the call for its keep sheet.
+fn put_text(
+    text: &mut [u8],
+    table: &[u8],
+    kept: Result<usize, Refusal>,
+    scratch: &[u16],
+    sheet: &[u8],
+) -> usize
+    requires refusal_value { refusal_in kept ≡ table_refusal table.now }
     requires answered { table_refusal table.now ≡ 0 → Answered (decode table.now) scratch.now sheet.now }
     ensures { Laid text.old text.new 0 (listing_of table.now) result }
 {
-    if refusal != 0 {
-        return rows::put_row(text, 0, b"refused", refusal);
+    match kept {
+        Ok(_) => put_listing(text, table, scratch, sheet),
+        Err(refusal) => rows::put_row(text, 0, b"refused", u32::from(refusal)),
     }
-    put_listing(text, table, scratch, sheet)
+}
+
+// The listing of bytes at the front of the buffer: its length, or 16.
+fn listing(table: &[u8], text: &mut [u8]) -> Result<usize, Refusal>
+    ensures outcome { Outcome (listing_answer table.now (length text.old)) result text.old text.new }
+    ensures rounded { IfOk result (λ size. table_refusal table.now ≡ 0
+        → EndsInShare (decode table.now) (take size text.new)) }
+    ensures fits { 80000 ≤ length text.old → refusal_in result ≡ 0 }
+{
+    let mut scratch = [0u16; 1024];
+    let mut sheet = [0u8; 12292];
+    let kept = keep_sheet(table, &mut scratch, &mut sheet);
+    let size = put_text(&mut text[..0], table, kept, &scratch, &sheet);
+    if text.len() < size {
+        return Err(Refusal::AnswerTooShort);
+    }
+    put_text(text, table, kept, &scratch, &sheet);
+    Ok(size)
 }
 
 // The listing of bytes, a table or not: its text at the front of the buffer, and its length.
@@ -90,15 +114,5 @@ pub extern "C" fn keeper_listing(table: &[u8], text: &mut [u8], written: &mut us
         → EndsInShare (decode table.now) (take written.new text.new) }
     ensures fits { 80000 ≤ length text.old → result ≡ 0 }
 {
-    let mut scratch = [0u16; 1024];
-    let mut sheet = [0u8; 12292];
-    let mut sheet_size = 0;
-    let refusal = keeper_keep_sheet(table, &mut scratch, &mut sheet, &mut sheet_size);
-    let size = put_text(&mut text[..0], table, refusal, &scratch, &sheet);
-    if text.len() < size {
-        return 16;
-    }
-    put_text(text, table, refusal, &scratch, &sheet);
-    *written = size;
-    0
+    told(listing(table, text), written)
 }

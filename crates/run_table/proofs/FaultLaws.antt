@@ -114,7 +114,8 @@ module _ (place : ℕ) {fault : Option Refusal} (is-fault : fault ≡ slice_get 
 
   pub unfaulted : is_some fault ≡ false → place ≤ no_fault → place ≡ no_fault
   unfaulted none within =
-      up_to_five (λ p. is_some (slice_get message_refusals p) ≡ false → p ≡ no_fault) (λ e. cc) (λ e. cc) (λ e. cc) (λ e. cc) (λ e. cc) (λ e. refl) place
+      up_to_five (λ p. is_some (slice_get message_refusals p) ≡ false → p ≡ no_fault) (λ e. cc) (λ e. cc) (λ e. cc) (λ e. cc) (λ e. cc)
+      (λ e. refl) place
       within (rw is-fault at none)
 
 -- ---- checks that catch one thing or another
@@ -151,7 +152,13 @@ module _ (checks : List MessageCheck) (few : length checks ≤ no_fault) (k : �
     {fault : Option Refusal} (is-fault : fault ≡ slice_get message_refusals (first_place (checks_at checks k))) where
   within_below : first_place (checks_below checks k) ≤ 5
   within_below =
-      omega (arith, few, place_within (checks_below checks k), length-map {B = Check} checks (λ c. record { caught = any_below k c.catches; number = c.number }))
+      omega (
+        arith,
+        few,
+        place_within (checks_below checks k),
+        length-map {B = Check} checks
+            (λ c. record { caught = any_below k c.catches; number = c.number }),
+      )
 
   within_at : first_place (checks_at checks k) ≤ 5
   within_at =

@@ -71,7 +71,15 @@ pub record Turned (n m : ℕ) (counts sends receipts last : List ℕ) (k : ℕ) 
 pub turned_none : {n m : ℕ} {counts sends receipts : List ℕ} → Sized n m counts sends receipts
     → Turned n m counts sends receipts (replicate 1024 0) 0
 unfolding any_below
-turned_none {n} {counts = counts} {sends} {receipts} sized = record { sized = sized; within = zero-le; quiet = nothing_below (message_checks n counts sends receipts); known = below_none _; lasts = lasts_none; none = refl }
+turned_none {n} {counts = counts} {sends} {receipts} sized = record {
+  sized = sized;
+  within = zero-le;
+  quiet = nothing_below
+      (message_checks n counts sends receipts);
+  known = below_none _;
+  lasts = lasts_none;
+  none = refl;
+}
 
 module _ {n m : ℕ} {counts sends receipts last : List ℕ} {k : ℕ} (w : Turned n m counts sends receipts last k) where
   abbrev Checks : List MessageCheck

@@ -49,7 +49,8 @@ message_checks n counts sends receipts =
 -- Their refusals.
 abbrev pub message_refusals : List Refusal
 message_refusals =
-    UnknownProcessInMessage ∷ UnknownProcessInMessage ∷ MessageToItsSender ∷ SendNumberTooHigh ∷ ReceiptNumberTooHigh
+    UnknownProcessInMessage ∷ UnknownProcessInMessage ∷ MessageToItsSender ∷ SendNumberTooHigh ∷
+    ReceiptNumberTooHigh
     ∷ []
 
 -- The refusal by the check at a place; behind the last stands that of a message out of turn.

@@ -5,7 +5,8 @@ use Rattle.tables.specs.declared.refusal.Refusal.TheVariants.{AnswerTooShort, Ba
 use Rattle.tables.specs.declared.refusal.Refusal.TheVariants.{ChannelOutOfOrder, CountOutOfRange, MarksTooShort}
 use Rattle.tables.specs.declared.refusal.Refusal.TheVariants.{MessagePassedOver, MessageToItsSender, NamedStateTooHigh}
 use Rattle.tables.specs.declared.refusal.Refusal.TheVariants.{ProcessesOutOfRange, ReceiptNumberTooHigh}
-use Rattle.tables.specs.declared.refusal.Refusal.TheVariants.{ScratchTooShort, SendNumberTooHigh, SendToItself, TableFull}
+use Rattle.tables.specs.declared.refusal.Refusal.TheVariants.{ScratchTooShort, SendNumberTooHigh, SendToItself}
+use Rattle.tables.specs.declared.refusal.Refusal.TheVariants.{TableFull}
 use Rattle.tables.specs.declared.refusal.Refusal.TheVariants.{TableTooShort, TooManyMessages, TooManySets, UnequalLists}
 use Rattle.tables.specs.declared.refusal.Refusal.TheVariants.{UnknownProcess, UnknownProcessInMessage}
 use Rattle.tables.specs.declared.refusal.Refusal.TheVariants.{UnknownProcessInSet, WrongCeilingCount, WrongLength}

@@ -1,33 +1,27 @@
--- `put_text` meets its contract, at each return.
+-- `put_text` meets its contract, of an accepted table and of one that is refused.
 use Rattle.listing_text.proofs.ListingLaws.{accepted_text, refused_text}
-use Rattle.listings.proofs.SizeLaws.{refused_few}
-use Rattle.text_writer.proofs.TextLaws.{laid_same}
-use Rattle.listings.specs.Listing.{refused_row}
-use Rattle.tables.specs.Checks.{table_refusal}
-use mathlib.Core.Path.{◌≡◌, ◌∙◌, sym}
-use native.Mathlib.Omega.{arith}
 use Rattle.listing_text.proofs.put_text.Goals as goal
-
-pub put_row-requires : goal.put_row-requires
-unfolding refused_row
-put_row-requires c =
-    omega (arith, refused_few c.args.refusal (omega arith))
-
-pub returns-then-refusal-ne0 : goal.returns-then-refusal-ne0
-unfolding refused_row
-returns-then-refusal-ne0 c =
-    laid_same (refused_text _ _ c.requires.refusal_value c.if-refusal-ne0.true) c.put_row.ensures
+use Rattle.listings.proofs.SizeLaws.{refused_few}
+use Rattle.listings.specs.Listing.{refused_row}
+use Rattle.std.proofs.Common.{ap, arith, sym, ◌∙◌}
+use Rattle.tables.proofs.RefusedLaws.{refused_some}
+use Rattle.tables.specs.Refusals.{refusal_in}
+use Rattle.text_writer.proofs.TextLaws.{laid_same}
 
 pub put_listing-requires : goal.put_listing-requires
 put_listing-requires c =
-    let accepted : table_refusal c.args.table.now ≡ 0 = sym c.requires.refusal_value ∙ c.if-refusal-ne0.false in
-    record {
-      table_value = accepted;
-      answered = c.requires.answered accepted;
-    }
+    let accepted = sym c.requires.refusal_value ∙ ap refusal_in c.in-Ok.is in
+    record { table_value = accepted; answered = c.requires.answered accepted }
 
-pub returns : goal.returns
+pub returns-in-Ok : goal.returns-in-Ok
+returns-in-Ok c = laid_same (accepted_text _ (sym c.requires.refusal_value ∙ ap refusal_in c.in-Ok.is)) c.put_listing.ensures
+
+pub put_row-requires : goal.put_row-requires
 unfolding refused_row
-returns c =
-    let accepted : table_refusal c.args.table.now ≡ 0 = sym c.requires.refusal_value ∙ c.if-refusal-ne0.false in
-    laid_same (accepted_text _ accepted) c.put_listing.ensures
+put_row-requires c = omega (arith, refused_few c.from.result (omega arith))
+
+pub returns-in-Err : goal.returns-in-Err
+unfolding refused_row
+returns-in-Err c =
+    let is = c.from.ensures ∙ sym (ap refusal_in c.in-Err.is) ∙ c.requires.refusal_value in
+    laid_same (refused_text _ _ is (λ none. refused_some _ (sym c.from.ensures ∙ none))) c.put_row.ensures

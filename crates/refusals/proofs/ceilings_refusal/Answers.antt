@@ -1,9 +1,9 @@
 -- The checks, one after another.
-use Rattle.call_checks.proofs.RefusalLaws.{catches, first_of, more_left, neither, next, none_left, own_left, quiet_receive, quiet_under, second_of}
+use Rattle.call_checks.proofs.RefusalLaws.{catches, next, none_left, own_left}
 use Rattle.call_checks.specs.CallChecks.{line_under_checks}
-use Rattle.refusals.proofs.ExitLaws.{front_exit, table_exit}
+use Rattle.refusals.proofs.ExitLaws.{table_exit}
 use Rattle.refusals.proofs.ceilings_refusal.Goals as goal
-use Rattle.std.proofs.Common.{ap, sym, ◌∙◌}
+use Rattle.std.proofs.Common.{ap, sym}
 use borrow.Author.Tests.{eq-eqb, ne_eqb}
 use mathlib.Core.Bool.{not}
 
@@ -15,7 +15,8 @@ returns-in_err-table-clause-refusal c =
 pub returns-then-ceilings-process_count-clause-refusal : goal.returns-then-ceilings-process_count-clause-refusal
 unfolding line_under_checks
 returns-then-ceilings-process_count-clause-refusal c =
-    catches (own_left _ _ (sym c.in_ok-table.ensures.refusal)) (ap not (ne_eqb _ _ (λ e. c.if-ceilings-process_count.true (cc (e, c.in_ok-table.ensures.table)))))
+    catches (own_left _ _ (sym c.in_ok-table.ensures.refusal)) (ap not (ne_eqb _ _
+    (λ e. c.if-ceilings-process_count.true (cc (e, c.in_ok-table.ensures.table)))))
 
 pub returns-then-above_counts-clause-refusal : goal.returns-then-above_counts-clause-refusal
 unfolding line_under_checks
@@ -25,4 +26,5 @@ returns-then-above_counts-clause-refusal c =
 pub returns-clause-refusal : goal.returns-clause-refusal
 unfolding line_under_checks
 returns-clause-refusal c =
-    none_left (next (next (own_left _ _ (sym c.in_ok-table.ensures.refusal)) (ap not (eq-eqb _ _ (cc c.in_ok-table.ensures.table)))) (cc c.in_ok-table.ensures.table))
+    none_left (next (next (own_left _ _ (sym c.in_ok-table.ensures.refusal)) (ap not (eq-eqb _ _ (cc c.in_ok-table.ensures.table))))
+    (cc c.in_ok-table.ensures.table))

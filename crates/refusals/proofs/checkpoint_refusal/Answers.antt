@@ -1,9 +1,9 @@
 -- The checks of a receipt, and then 14.
-use Rattle.call_checks.proofs.RefusalLaws.{catches, first_of, more_left, neither, next, none_left, own_left, quiet_receive, quiet_under, second_of}
+use Rattle.call_checks.proofs.RefusalLaws.{catches, more_left, next, none_left, quiet_receive}
 use Rattle.call_checks.specs.CallChecks.{checkpoint_call_checks}
-use Rattle.refusals.proofs.ExitLaws.{front_exit, table_exit}
+use Rattle.refusals.proofs.ExitLaws.{front_exit}
 use Rattle.refusals.proofs.checkpoint_refusal.Goals as goal
-use Rattle.std.proofs.Common.{ap, refl, sym, ◌∙◌}
+use Rattle.std.proofs.Common.{refl}
 
 pub returns-in_err-table-clause-refusal : goal.returns-in_err-table-clause-refusal
 unfolding checkpoint_call_checks

@@ -1,8 +1,8 @@
 -- The checks, one after another.
-use Rattle.call_checks.proofs.RefusalLaws.{catches, first_of, more_left, neither, next, none_left, own_left, quiet_receive, quiet_under, second_of}
+use Rattle.call_checks.proofs.RefusalLaws.{catches, first_of, neither, next, none_left, own_left, second_of}
 use Rattle.call_checks.specs.CallChecks.{stand_together_checks}
 use Rattle.named_checkpoints.proofs.NamedLaws.{parallel}
-use Rattle.refusals.proofs.ExitLaws.{front_exit, table_exit}
+use Rattle.refusals.proofs.ExitLaws.{table_exit}
 use Rattle.refusals.proofs.names_refusal.Goals as goal
 use Rattle.refusals.proofs.names_refusal.Goals.{then-unknown_process-via-else-unknown_process+then-not_rising, then-unknown_process-via-then-unknown_process}
 use Rattle.std.proofs.Common.{ap, sym, ◌∙◌}
@@ -23,8 +23,10 @@ pub returns-then-unknown_process-clause-refusal : goal.returns-then-unknown_proc
 unfolding stand_together_checks
 returns-then-unknown_process-clause-refusal c =
     catches (next (own_left _ _ (sym c.in_ok-table.ensures.refusal)) (ap not (eq-eqb _ _ c.if-processes-states.false))) (elim c.then-unknown_process.branch [
-      | then-unknown_process-via-then-unknown_process w ↦ first_of _ _ (rw c.in_ok-table.ensures.table at (sym c.unknown_process.ensures ∙ w.if-unknown_process.true))
-      | then-unknown_process-via-else-unknown_process+then-not_rising w ↦ second_of _ _ (rw c.in_ok-table.ensures.table at (sym c.unknown_process.ensures ∙ w.if-unknown_process.false)) (sym w.not_rising.ensures ∙ w.if-not_rising.true)
+      | then-unknown_process-via-then-unknown_process w ↦ first_of _ _ (rw c.in_ok-table.ensures.table at
+          (sym c.unknown_process.ensures ∙ w.if-unknown_process.true))
+      | then-unknown_process-via-else-unknown_process+then-not_rising w ↦ second_of _ _
+          (rw c.in_ok-table.ensures.table at (sym c.unknown_process.ensures ∙ w.if-unknown_process.false)) (sym w.not_rising.ensures ∙ w.if-not_rising.true)
     ])
 
 pub not_below_counts-requires-clause-parallel : goal.not_below_counts-requires-clause-parallel
@@ -34,9 +36,13 @@ not_below_counts-requires-clause-parallel c =
 pub returns-then-not_below_counts-clause-refusal : goal.returns-then-not_below_counts-clause-refusal
 unfolding stand_together_checks
 returns-then-not_below_counts-clause-refusal c =
-    catches (next (next (own_left _ _ (sym c.in_ok-table.ensures.refusal)) (ap not (eq-eqb _ _ c.if-processes-states.false))) (neither _ _ (rw c.in_ok-table.ensures.table at (sym c.unknown_process.ensures ∙ c.if-unknown_process.false)) (sym c.not_rising.ensures ∙ c.if-not_rising.false))) (cc c.in_ok-table.ensures.table)
+    catches (next (next (own_left _ _ (sym c.in_ok-table.ensures.refusal)) (ap not (eq-eqb _ _ c.if-processes-states.false)))
+        (neither _ _ (rw c.in_ok-table.ensures.table at (sym c.unknown_process.ensures ∙ c.if-unknown_process.false))
+        (sym c.not_rising.ensures ∙ c.if-not_rising.false))) (cc c.in_ok-table.ensures.table)
 
 pub returns-clause-refusal : goal.returns-clause-refusal
 unfolding stand_together_checks
 returns-clause-refusal c =
-    none_left (next (next (next (own_left _ _ (sym c.in_ok-table.ensures.refusal)) (ap not (eq-eqb _ _ c.if-processes-states.false))) (neither _ _ (rw c.in_ok-table.ensures.table at (sym c.unknown_process.ensures ∙ c.if-unknown_process.false)) (sym c.not_rising.ensures ∙ c.if-not_rising.false))) (cc c.in_ok-table.ensures.table))
+    none_left (next (next (next (own_left _ _ (sym c.in_ok-table.ensures.refusal)) (ap not (eq-eqb _ _ c.if-processes-states.false)))
+        (neither _ _ (rw c.in_ok-table.ensures.table at (sym c.unknown_process.ensures ∙ c.if-unknown_process.false))
+        (sym c.not_rising.ensures ∙ c.if-not_rising.false))) (cc c.in_ok-table.ensures.table))

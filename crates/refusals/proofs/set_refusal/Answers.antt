@@ -1,9 +1,9 @@
 -- The checks, one after another.
-use Rattle.call_checks.proofs.RefusalLaws.{catches, first_of, more_left, neither, next, none_left, own_left, quiet_receive, quiet_under, second_of}
+use Rattle.call_checks.proofs.RefusalLaws.{catches, next, none_left, own_left}
 use Rattle.call_checks.specs.CallChecks.{line_of_set_checks}
-use Rattle.refusals.proofs.ExitLaws.{front_exit, table_exit}
+use Rattle.refusals.proofs.ExitLaws.{table_exit}
 use Rattle.refusals.proofs.set_refusal.Goals as goal
-use Rattle.std.proofs.Common.{ap, sym, ◌∙◌}
+use Rattle.std.proofs.Common.{sym}
 
 pub returns-in_err-table-clause-refusal : goal.returns-in_err-table-clause-refusal
 unfolding line_of_set_checks

@@ -24,9 +24,11 @@ returns-then-some_high_bit-clause-refusal c =
 pub returns-then-short_of_lines-clause-refusal : goal.returns-then-short_of_lines-clause-refusal
 unfolding lines_of_sets_checks most_sets
 returns-then-short_of_lines-clause-refusal c =
-    catches (next (next (own_left _ _ (sym c.in_ok-table.ensures.refusal)) (le-ltb _ _ c.if-sets-gt-MOST_SETS.false)) (cc c.in_ok-table.ensures.table)) (cc c.in_ok-table.ensures.table)
+    catches (next (next (own_left _ _ (sym c.in_ok-table.ensures.refusal)) (le-ltb _ _ c.if-sets-gt-MOST_SETS.false)) (cc c.in_ok-table.ensures.table))
+    (cc c.in_ok-table.ensures.table)
 
 pub returns-clause-refusal : goal.returns-clause-refusal
 unfolding lines_of_sets_checks most_sets
 returns-clause-refusal c =
-    none_left (next (next (next (own_left _ _ (sym c.in_ok-table.ensures.refusal)) (le-ltb _ _ c.if-sets-gt-MOST_SETS.false)) (cc c.in_ok-table.ensures.table)) (cc c.in_ok-table.ensures.table))
+    none_left (next (next (next (own_left _ _ (sym c.in_ok-table.ensures.refusal)) (le-ltb _ _ c.if-sets-gt-MOST_SETS.false)) (cc c.in_ok-table.ensures.table))
+    (cc c.in_ok-table.ensures.table))

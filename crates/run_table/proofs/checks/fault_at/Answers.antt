@@ -1,14 +1,15 @@
 -- Each call of `fault_at` answers one check of the list, in its order.
 use Rattle.run_table.proofs.ScanLaws.{above, below, not_above, not_below_lem}
 use Rattle.run_table.proofs.checks.fault_at.Goals as goal
-use Rattle.run_table.proofs.checks.fault_at.Goals.{Else-unknown_at-2, then-unknown_at-via-else-unknown_at+then-unknown_at-2, then-unknown_at-via-then-unknown_at}
+use Rattle.run_table.proofs.checks.fault_at.Goals.{Else-unknown_at-2, then-unknown_at-via-else-unknown_at+then-unknown_at-2}
+use Rattle.run_table.proofs.checks.fault_at.Goals.{then-unknown_at-via-then-unknown_at}
 use Rattle.run_table.specs.EntryChecks.{first_place, unknown_at}
 use Rattle.std.proofs.Common.{false, sym, ◌∙◌, ◌≡◌}
 
 pub returns-then-unknown_at : goal.returns-then-unknown_at
 unfolding first_place
 returns-then-unknown_at c = elim c.then-unknown_at.branch [
-  then-unknown_at-via-then-unknown_at w ↦ rw (← c.unknown_at.ensures, w.if-unknown_at.true)
+  | then-unknown_at-via-then-unknown_at w ↦ rw (← c.unknown_at.ensures, w.if-unknown_at.true)
   | then-unknown_at-via-else-unknown_at+then-unknown_at-2 w ↦
       rw (← c.unknown_at.ensures, w.if-unknown_at.false, ← w.unknown_at-else-unknown_at.ensures, w.if-unknown_at-2.true)
 ]
