@@ -1,12 +1,12 @@
 -- Passes over the messages, from the last to the first, as the loops of `pass` and `mark_reachable` go.
 --     grown_none, grown_both             nothing marked; one pass after another
---     MarkPassing, pass_begins, pass_ends    the invariant of one pass, how it begins and how it ends
+--     MarkPassing, pass_begins           the invariant of one pass, and how it begins
 --     AtReceipt, AtSend                  the pass at its next message: the receipt was read; the send was, too
 --     receiver_known, received-there, sender_known, sent_there, row_ready    what the code asks of that message and of its row
 --     skips_undelivered, skips_marked, skips_unreached, pass_marks    what its tests say of it
 --     IsMarked, marks_in_lem, marks_are, marks_bit    the marks that a buffer holds, by its bits
 --     reached_all                        where no message leads to anything new, all that is reachable is marked
---     Growing, passes_more, passes_end   the invariant of the passes, one pass more, the last one
+--     Growing, passes_end                the invariant of the passes, and the last one
 -- Assumes nothing.
 use mathlib.Core.Bool.{Bool, true, false, ◌||◌, false≢true, true≢false}
 use mathlib.Core.List.{List}
@@ -144,14 +144,6 @@ module _ {table roots start buffer : List ℕ} {marked : Bool} {m : ℕ} {sends 
     (w : MarkPassing table roots start buffer marked m sends receipts k) where
   abbrev t : Table
   t = decode table
-
-  pub pass_ends : k ≤ 0 → PassMade t roots start buffer marked
-  pass_ends z = record {
-    grown = w.grown;
-    ready = w.ready;
-    at_rest = λ e j l. w.at_rest e j (omega arith) (omega (arith, w.read.m_is));
-    falls = w.falls;
-  }
 
   -- ---- the next message, k - 1
   module _ (more : 0 < k) where
@@ -437,8 +429,5 @@ pub record Growing (t : Table) (roots start buffer : List ℕ) : Type 0 where
 
 module _ {t : Table} {roots start buffer after : List ℕ} {marked : Bool} (w : Growing t roots start buffer)
     (p : PassMade t roots buffer after marked) where
-  pub passes_more : Growing t roots start after
-  passes_more = record { lent = lent_kept w.lent p.grown.kept; grown = grown_both w.grown p.grown; ready = p.ready }
-
   pub passes_end : WellFormed t → marked ≡ false → Reached t roots start after
   passes_end wf e = reached_all t wf roots after p.ready (p.at_rest e) (grown_both w.grown p.grown)

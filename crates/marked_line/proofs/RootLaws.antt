@@ -1,10 +1,10 @@
 -- The roots: the marks behind them, whether one is marked, and how they give way.
---     Over, over_none, over_more, over_known, root-there, root_within    what each loop over the processes carries, and what it asks of a process
---     Behind, behind_begins .. behind_ends         the invariant of the loop that marks the states behind the roots
+--     Over, over_all, over_known, root-there, root_within    what each loop over the processes carries, and what it asks of a process
+--     Behind, behind_begins .. behind_more         the invariant of the loop that marks the states behind the roots
 --     behind_ready, behind_reachable               these marks are ready for a marking, and of reachable states alone
 --     root_marked, asked_all                       whether a root is marked
 --     latest_found                                 the latest unmarked state of a process
---     Giving, giving_none, giving_more, giving_all    the invariant of the loop over the roots
+--     Giving, giving_none                          the invariant of the loop over the roots
 -- Assumes nothing.
 use mathlib.Core.Bool.{Bool, true, false, false≢true}
 use mathlib.Core.List.{List}
@@ -16,13 +16,12 @@ use native.Mathlib.Nat.{le_refl}
 use native.Mathlib.Omega.{arith}
 use borrow.Author.Tests.{le-ltb, lt-ltb, ltb-true}
 use lib.Dec.{ltb}
-use lib.ListN.{get_or, length, length-set, replicate, set}
-use lib.Seq.{get_or-set_other, get_or-set_same}
+use lib.ListN.{get_or, length, replicate, set}
 use Rattle.checkpoint_graph.proofs.GraphLaws.{leads_up}
 use Rattle.tables.proofs.FormatLaws.{message_in}
 use Rattle.checkpoint_graph.specs.Graph.{received, state}
 use Rattle.marked_line.proofs.MarkRowLaws.{kept_both, kept_none, lent_kept, row_below, row_here, row_kept, row_other}
-use Rattle.marked_line.specs.Marking.{GaveWay, Kept, LatestUnset, Lent, OnlyBehind, Ready, Unmarked}
+use Rattle.marked_line.specs.Marking.{Kept, LatestUnset, Lent, OnlyBehind, Ready, Unmarked}
 use Rattle.marking.proofs.ReachLaws.{reach_root}
 use Rattle.marking.specs.Procedure.{Reachable}
 use Rattle.marks.proofs.LayoutLaws.{first_more}
@@ -36,25 +35,17 @@ use Rattle.tables.specs.Lists.{any_below}
 use Rattle.tables.specs.Table.{Table, count_of, message_of, process_count}
 
 -- ---- a loop over the processes
--- It stands before process p of n.
-pub record Over (t : Table) (roots buffer : List ℕ) (n p : ℕ) : Type 0 where
+-- It goes over n processes.
+pub record Over (t : Table) (roots buffer : List ℕ) (n : ℕ) : Type 0 where
   pub lent : Lent t roots buffer
   pub n_is : n ≡ process_count t
   pub few : n ≤ 32
-  pub within : p ≤ n
 
-pub over_at : {t : Table} {roots buffer : List ℕ} {n p : ℕ} → process_count t ≤ 32 → Lent t roots buffer → n ≡ process_count t → p < n
-    → Over t roots buffer n p
-over_at few lent n_is below = record { lent = lent; n_is = n_is; few = omega (arith, n_is); within = omega arith }
+pub over_all : {t : Table} {roots buffer : List ℕ} {n : ℕ} → process_count t ≤ 32 → Lent t roots buffer → n ≡ process_count t
+    → Over t roots buffer n
+over_all few lent n_is = record { lent = lent; n_is = n_is; few = omega (arith, n_is) }
 
-pub over_none : {t : Table} {roots buffer : List ℕ} {n : ℕ} → process_count t ≤ 32 → Lent t roots buffer → n ≡ process_count t
-    → Over t roots buffer n 0
-over_none few lent n_is = record { lent = lent; n_is = n_is; few = omega (arith, n_is); within = omega arith }
-
-module _ {t : Table} {roots buffer : List ℕ} {n p : ℕ} (w : Over t roots buffer n p) (more : p < n) where
-  pub over_more : {after : List ℕ} → Kept t buffer after → Over t roots after n (p + 1)
-  over_more k = record { lent = lent_kept w.lent k; n_is = w.n_is; few = w.few; within = omega arith }
-
+module _ {t : Table} {roots buffer : List ℕ} {n p : ℕ} (w : Over t roots buffer n) (more : p < n) where
   pub over_known : p < process_count t
   over_known = omega (arith, w.n_is)
 
@@ -68,7 +59,7 @@ module _ {t : Table} {roots buffer : List ℕ} {n p : ℕ} (w : Over t roots buf
 -- ---- marks behind the roots
 -- The states behind the roots of the processes before p are marked, and no others.
 pub record Behind (t : Table) (roots start buffer : List ℕ) (n p : ℕ) : Type 0 where
-  pub over : Over t roots buffer n p
+  pub over : Over t roots buffer n
   pub kept : Kept t start buffer
   pub done : (q y : ℕ) → q < p → y ≤ count_of t q → marked_in t buffer q y ≡ ltb (get_or roots q 0) y
   pub left : (q y : ℕ) → p ≤ q → q < n → y ≤ count_of t q → marked_in t buffer q y ≡ false
@@ -77,16 +68,13 @@ pub behind_begins : {t : Table} {roots start : List ℕ} {n : ℕ} → process_c
     → Unmarked t start → Behind t roots start start n 0
 unfolding Unmarked
 behind_begins few lent n_is none = record {
-  over = over_none few lent n_is;
+  over = over_all few lent n_is;
   kept = kept_none;
   done = λ q y l. absurd (omega arith);
   left = λ q y l l' there. none q y (omega (arith, n_is)) there;
 }
 
 module _ {t : Table} {roots start buffer : List ℕ} {n p : ℕ} (w : Behind t roots start buffer n p) where
-  pub behind_ends : n ≤ p → OnlyBehind t roots buffer
-  behind_ends l = record { marked_just = λ q y known there. w.done q y (omega (arith, w.over.n_is)) there }
-
   module _ (more : p < n) {r : ℕ} (r_is : r ≡ get_or roots p 0 + 1) where
     behind_known : p < process_count t
     behind_known = over_known w.over more
@@ -105,7 +93,7 @@ module _ {t : Table} {roots start buffer : List ℕ} {n p : ℕ} (w : Behind t r
     pub behind_more : {after : List ℕ} → SetFrom (first_bit t.counts p + r) (first_bit t.counts (suc p)) buffer after
         → Behind t roots start after n (p + 1)
     behind_more {after} row = record {
-      over = over_more w.over more keeps;
+      over = record { lent = lent_kept w.over.lent keeps; n_is = w.over.n_is; few = w.over.few };
       kept = kept_both w.kept keeps;
       done = λ q y l there. by_place q y l there (ℕ_discrete q p);
       left = λ q y l l' there. row_other t p behind_known r row q y (λ same. omega arith) there ∙ w.left q y (omega arith) l' there;
@@ -178,29 +166,10 @@ abbrev Latest : Table → List ℕ → List ℕ → ℕ → ℕ → Type 0
 Latest t roots marks q y = LatestUnset marks (first_bit t.counts q) (get_or roots q 0) y
 
 pub record Giving (t : Table) (roots marks next : List ℕ) (n p : ℕ) : Type 0 where
-  pub over : Over t roots marks n p
+  pub over : Over t roots marks n
   pub for_each : length next ≡ 32
   pub done : (q : ℕ) → q < p → Latest t roots marks q (get_or next q 0)
 
 pub giving_none : {t : Table} {roots marks : List ℕ} {n : ℕ} → process_count t ≤ 32 → Lent t roots marks → n ≡ process_count t
     → Giving t roots marks (replicate 32 0) n 0
-giving_none few lent n_is = record { over = over_none few lent n_is; for_each = refl; done = λ q l. absurd (omega arith) }
-
-module _ {t : Table} {roots marks next : List ℕ} {n p : ℕ} (w : Giving t roots marks next n p) where
-  pub giving_all : n ≤ p → GaveWay t roots marks next
-  giving_all l = record { for_each = w.for_each; each = λ q known. w.done q (omega (arith, w.over.n_is)) }
-
-  pub giving_more : p < n → {y : ℕ} → LatestUnset marks (first_bit t.counts p) (get_or roots p 0) y
-      → Giving t roots marks (set next p y) n (p + 1)
-  giving_more more {y} latest = record {
-    over = over_more w.over more kept_none;
-    for_each = length-set next p y ∙ w.for_each;
-    done = λ q l. by_place q l (ℕ_discrete q p);
-  }
-    where
-      here : Latest t roots marks p (get_or (set next p y) p 0)
-      here = subst⁻¹ (Latest t roots marks p) (get_or-set_same next p y 0 (omega (arith, w.for_each, w.over.few))) latest
-
-      by_place : (q : ℕ) → q < p + 1 → Dec (q ≡ p) → Latest t roots marks q (get_or (set next p y) q 0)
-      by_place q l (yes same) = subst⁻¹ (λ (q : ℕ). Latest t roots marks q (get_or (set next p y) q 0)) same here
-      by_place q l (no other) = subst⁻¹ (Latest t roots marks q) (get_or-set_other next p q y 0 other) (w.done q (omega arith))
+giving_none few lent n_is = record { over = over_all few lent n_is; for_each = refl; done = λ q l. absurd (omega arith) }

@@ -2,8 +2,8 @@
 --     cleared_unmarked                 a cleared buffer has no marks
 --     given_few, starts_lent, starts_unmarked, starts_ready, running_starts    the start of the procedure
 --     gave_lent, gave_ready            what the roots that gave way are lent, and that a marking may begin with the marks
---     running_since, running_more, running_falls, running_ends    a round, with which the roots fall; the end
---     end_fits, end_cleared            the marks are cleared again, and no byte beyond them was changed
+--     running_more, running_falls, running_ends    a round, with which the roots fall; the end
+--     end_cleared                      the marks are cleared again, and no byte beyond them was changed
 -- Assumes nothing.
 use mathlib.Core.Bool.{true, false, false≢true}
 use mathlib.Core.List.{List}
@@ -18,7 +18,7 @@ use Rattle.checkpoint_graph.specs.Graph.{Leads, State, state}
 use Rattle.consistency.specs.Ceilings.{Ceiling}
 use Rattle.marked_line.proofs.MarkPassLaws.{marks_are, marks_bit}
 use Rattle.marked_line.proofs.RootLaws.{behind_reachable, behind_ready, root_marked}
-use Rattle.marked_line.proofs.MarkRowLaws.{kept_both, kept_none, lent_kept}
+use Rattle.marked_line.proofs.MarkRowLaws.{kept_both, lent_kept}
 use Rattle.marked_line.specs.Marking.{Closed, GaveWay, Given, Kept, Lent, OnlyBehind, Reached, Ready}
 use Rattle.marked_line.specs.Marking.{RoundMade, Running, RoundReady, Unmarked, ZeroUnmarked, marks_in, stage_of}
 use Rattle.marking.proofs.RoundLaws.{round_falls, zero_unmarked}
@@ -246,17 +246,9 @@ module _ {t : Table} {ceilings roots start buffer : List ℕ} (w : Running t cei
       after = next_after;
     }
 
--- what was kept since, whatever was changed before
-pub running_since : {t : Table} {ceilings roots start buffer : List ℕ} → Running t ceilings roots start buffer
-    → Running t ceilings roots buffer buffer
-running_since w = record { ceiling = w.ceiling; stands = w.stands; kept = kept_none; rounds = w.rounds; after = w.after }
-
 -- ---- the end: the marks are cleared again, and no byte beyond them was changed
-module _ {t : Table} {start buffer : List ℕ} (k : Kept t start buffer) (fits : marks_size t ≤ length start) {size : ℕ}
-    (size_is : size ≡ marks_size t) where
-  pub end_fits : size ≤ length buffer
-  end_fits = omega (arith, k.same_length)
-
-  module _ {after : List ℕ} (after_is : after ≡ cleared size buffer) where
-    pub end_cleared : after ≡ cleared (marks_size t) start
-    end_cleared = after_is ∙ ap (λ (n : ℕ). cleared n buffer) size_is ∙ cleared_again (marks_size t) start buffer k.same_length k.beyond
+pub end_cleared : {t : Table} {start buffer after : List ℕ} {size : ℕ} → Kept t start buffer → size ≡ marks_size t
+    → after ≡ cleared size buffer
+    → after ≡ cleared (marks_size t) start
+end_cleared {t} {start} {buffer} k size_is after_is =
+    after_is ∙ ap (λ (n : ℕ). cleared n buffer) size_is ∙ cleared_again (marks_size t) start buffer k.same_length k.beyond

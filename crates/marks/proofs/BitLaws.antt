@@ -3,7 +3,7 @@
 --     member_or                        the bits of a number that is or_ed with another
 --     with_here, with_elsewhere, with_length, with_beyond    a buffer with a bit set
 --     onwards_all                      behind a set bit of a row all are set
---     Rowing, row_none, row_inside, row_more, row_ends, row_stops    the invariant of the loop that sets a row of bits
+--     Rowing, row_inside, row_more, row_stops    the invariant of the loop that sets a row of bits
 --     cleared-length .. cleared_bit, filled_cleared, cleared_again    a buffer whose first bytes are cleared
 --     unset_fewer, unset_falls         how many bits are not set; none cleared, and one set
 -- Assumes nothing.
@@ -118,18 +118,6 @@ pub record Rowing (from end : ℕ) (before after : List ℕ) (b : ℕ) : Type 0 
   pub others : (x : ℕ) → (from ≤ x → b ≤ x) → bit_at after x ≡ bit_at before x
   pub beyond : (i : ℕ) → end ≤ 8 * i → get_or after i 0 ≡ get_or before i 0
 
-pub row_none : {from end : ℕ} {before : List ℕ} → Onwards from end before → end ≤ 8 * length before → Rowing from end before before from
-row_none {from} {end} o room = record {
-  given = o;
-  room = room;
-  begun = le_refl from;
-  within = omega arith;
-  same_length = refl;
-  all_set = λ x l l'. absurd (omega arith);
-  others = λ x _. refl;
-  beyond = λ i _. refl;
-}
-
 module _ {from end : ℕ} {before after : List ℕ} {b : ℕ} (r : Rowing from end before after b) where
   pub row_inside : b < end → b / 8 < length after
   row_inside l = omega (arith, r.room)
@@ -150,15 +138,6 @@ module _ {from end : ℕ} {before after : List ℕ} {b : ℕ} (r : Rowing from e
       set_here : (x : ℕ) → from ≤ x → x < b + 1 → Dec (x ≡ b) → bit_at (with_bit after b) x ≡ true
       set_here x m m' (yes same) = subst⁻¹ (λ (x : ℕ). bit_at (with_bit after b) x ≡ true) same (with_here after b (row_inside l))
       set_here x m m' (no other) = with_elsewhere after b (row_inside l) x other ∙ r.all_set x m (omega arith)
-
-  -- the row is at its end
-  pub row_ends : end ≤ b → SetFrom from end before after
-  row_ends l = record {
-    same_length = r.same_length;
-    all_set = λ x m m'. r.all_set x m (omega arith);
-    others = λ x out. r.others x (λ m. omega (arith, out m, r.within));
-    beyond = r.beyond;
-  }
 
   -- or it meets a bit that is set, and so are those behind it
   pub row_stops : b < end → bit_at after b ≡ true → SetFrom from end before after

@@ -2,19 +2,10 @@
 -- sum of the roots, since a round with a marked root brings one down.
 use mathlib.Core.Path.{sym, ◌∙◌}
 use Rattle.marked_line.proofs.MarkRowLaws.{kept_both}
-use Rattle.marked_line.proofs.StageLaws.{running_ends, running_falls, running_more, running_since}
+use Rattle.marked_line.proofs.StageLaws.{running_ends, running_falls, running_more}
 use Rattle.tables.proofs.AcceptLaws.{facts}
 use Rattle.tables.proofs.ReadLaws.{processes_few}
 use Rattle.marked_line.proofs.last_roots.Goals as goal
-
-pub loop-roots-init : goal.loop-roots-init
-loop-roots-init c = running_since c.start-roots.ensures
-
-pub root_marked-requires : goal.root_marked-requires
-root_marked-requires c = c.loop-roots.invariant.stands.lent
-
-pub next_round-roots-requires : goal.next_round-roots-requires
-next_round-roots-requires c = c.loop-roots.invariant.stands
 
 pub loop-roots-smaller : goal.loop-roots-smaller
 loop-roots-smaller c =

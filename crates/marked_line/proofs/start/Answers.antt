@@ -1,5 +1,4 @@
 -- `start` meets its contract: the marks are cleared, the states behind the ceilings marked, and then all that is reachable.
-use native.Mathlib.Omega.{arith}
 use Rattle.marked_line.proofs.StageLaws.{given_few, running_starts, starts_lent, starts_ready, starts_unmarked}
 use Rattle.tables.proofs.AcceptLaws.{facts}
 use Rattle.tables.proofs.ReadLaws.{processes_few}
@@ -7,9 +6,6 @@ use Rattle.marked_line.proofs.start.Goals as goal
 
 pub number_array-roots-requires : goal.number_array-roots-requires
 number_array-roots-requires c = given_few (processes_few _ c.args.layout.now.accepted) c.requires
-
-pub clear-requires : goal.clear-requires
-clear-requires c = omega (arith, c.size.ensures, c.requires.room)
 
 pub mark_behind-requires : goal.mark_behind-requires
 mark_behind-requires c =

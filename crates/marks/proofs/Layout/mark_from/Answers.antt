@@ -1,5 +1,4 @@
 -- `Layout::mark_from` meets its contract: the row is inside.
-use mathlib.Core.Path.{sym}
 use native.Mathlib.Omega.{arith}
 use Rattle.marks.proofs.LayoutLaws.{process_inside}
 use Rattle.marks.proofs.Layout.mark_from.Goals as goal
@@ -9,6 +8,3 @@ set_from-requires c = record {
   end_bound = omega (arith, process_inside _ _ c.requires.known, c.requires.room, c.row_end.ensures);
   onwards = rw (c.bit.ensures, c.row_end.ensures) c.requires.onwards;
 }
-
-pub returns : goal.returns
-returns c = rw (sym c.bit.ensures, sym c.row_end.ensures) c.set_from.ensures
