@@ -10,7 +10,6 @@ ghost use Rattle.consistency.specs.Ceilings.{holder_lines, line_of};
 ghost use Rattle.holder_lines.specs.Propagation.{propagates_from};
 ghost use Rattle.process_set.specs.Sets.{member};
 ghost use Rattle.tables.specs.Arrays.{array_of};
-ghost use Rattle.tables.specs.Checks.{table_refusal};
 ghost use Rattle.tables.specs.Format.{decode};
 ghost use Rattle.tables.specs.Lists.{tabulate};
 ghost use Rattle.tables.specs.Numbers.{put_at};
@@ -19,25 +18,22 @@ ghost use Rattle.tables.specs.Table.{process_count};
 use lines::{ceiling_of_set, settled_line};
 use number_writer::store_numbers;
 use process_set::bit;
-use tables::messages::MessageParts;
-use tables::parts;
+use tables::accepted::RunTable;
 
 // Whether a rollback of each process of an accepted table to its last checkpoint propagates.
-pub fn propagating(table: &[u8]) -> [bool; 32]
-    requires { table_refusal table.now ≡ 0 }
-    ensures { result ≡ tabulate 32 (propagates_from (decode table.now)) }
+pub fn propagating(table: RunTable) -> [bool; 32]
+    ensures { result ≡ tabulate 32 (propagates_from (decode table.entry.bytes.now)) }
 {
-    propagation::propagating(parts::counts(table), MessageParts::of(table))
+    propagation::propagating(table.counts(), table.messages())
 }
 
 // The line of process k alone in an accepted table. Where a rollback of k does not propagate, it is the
 // ceiling, and nothing is looked at. Else a few passes are tried first where `few` says so, and it says
 // afterwards whether they are worth another try.
-pub fn line_of_holder(table: &[u8], k: usize, propagates: bool, few: &mut bool) -> [u16; 32]
-    requires table_value { table_refusal table.now ≡ 0 }
+pub fn line_of_holder(table: RunTable, k: usize, propagates: bool, few: &mut bool) -> [u16; 32]
     requires k_bound { k < 32 }
-    requires propagates_value { propagates ≡ propagates_from (decode table.now) k }
-    ensures { result ≡ array_of (line_of (decode table.now) (member (2 ^ k))) }
+    requires propagates_value { propagates ≡ propagates_from (decode table.bytes.now) k }
+    ensures { result ≡ array_of (line_of (decode table.entry.bytes.now) (member (2 ^ k))) }
 {
     let ceiling = ceiling_of_set(table, bit(k));
     if !propagates {
@@ -48,14 +44,13 @@ pub fn line_of_holder(table: &[u8], k: usize, propagates: bool, few: &mut bool) 
 
 // Writes the lines of all single holders to the front of a scratch that has room for N × N numbers. Once
 // a few passes did not settle a line, they are not tried for the next ones.
-pub fn fill_lines(table: &[u8], scratch: &mut [u16])
-    requires table_value { table_refusal table.now ≡ 0 }
-    requires table_in_bounds { process_count (decode table.now) * process_count (decode table.now) ≤ length
-        scratch.old }
+pub fn fill_lines(table: RunTable, scratch: &mut [u16])
+    requires table_in_bounds { process_count (decode table.bytes.now) * process_count (decode table.bytes.now)
+        ≤ length scratch.old }
     ensures { scratch.new
-        ≡ put_at scratch.old 0 (holder_lines (decode table.now)) }
+        ≡ put_at scratch.old 0 (holder_lines (decode table.entry.bytes.now)) }
 {
-    let n = parts::process_count(table);
+    let n = table.process_count();
     let propagates = propagating(table);
     let mut few = true;
     for k in 0..n {

@@ -6,7 +6,6 @@ ghost use Rattle.std.specs.Prelude.{◌≡◌, ◌*◌, ◌≤◌, get_or, lengt
 ghost use Rattle.consistency.specs.Ceilings.{holder_lines, line_of};
 ghost use Rattle.holder_lines.specs.Scratch.{LinesOf};
 ghost use Rattle.process_set.specs.Sets.{member};
-ghost use Rattle.tables.specs.Checks.{table_refusal};
 ghost use Rattle.tables.specs.Format.{decode};
 ghost use Rattle.tables.specs.Lists.{rows};
 ghost use Rattle.tables.specs.Numbers.{put_at, u16s};
@@ -16,19 +15,19 @@ use holder_lines::fill_lines;
 use holder_lines::scratch::HeldLines;
 use member_lines::line_of_members;
 use number_writer::put_numbers;
-use tables::parts;
+use tables::accepted::RunTable;
 
 // Writes the lines of sets of an accepted table, one after another, to the front of a buffer that has room
 // for them, from a scratch that has the lines of single holders.
-fn put_each(table: &[u8], sets: &[u32], scratch: &[u16], answer: &mut [u8])
-    requires lines_of { LinesOf table.now scratch.now }
-    requires sets_in_bounds { 2 * process_count (decode table.now) * length sets.now ≤ length answer.old }
+fn put_each(table: RunTable, sets: &[u32], scratch: &[u16], answer: &mut [u8])
+    requires lines_of { LinesOf table.bytes.now scratch.now }
+    requires sets_in_bounds { 2 * process_count (decode table.bytes.now) * length sets.now ≤ length answer.old }
     ensures { answer.new ≡ put_at answer.old 0 (u16s (rows
-        (λ k. line_of (decode table.now) (member (get_or sets.now k 0)))
+        (λ k. line_of (decode table.entry.bytes.now) (member (get_or sets.now k 0)))
         (length sets.now))) }
 {
-    let n = parts::process_count(table);
-    let counts = parts::count_array(table);
+    let n = table.process_count();
+    let counts = table.count_array();
     let lines = HeldLines {
         numbers: scratch,
         n,
@@ -43,15 +42,14 @@ fn put_each(table: &[u8], sets: &[u32], scratch: &[u16], answer: &mut [u8])
 
 // Writes the lines of single holders to the front of a scratch that has room for them, and those of sets, one
 // after another, to the front of a buffer that has room for them.
-pub fn put_lines_of_sets(table: &[u8], sets: &[u32], scratch: &mut [u16], answer: &mut [u8])
-    requires table_value { table_refusal table.now ≡ 0 }
-    requires table_in_bounds { process_count (decode table.now) * process_count (decode table.now) ≤ length
-        scratch.old }
-    requires sets_in_bounds { 2 * process_count (decode table.now) * length sets.now ≤ length answer.old }
+pub fn put_lines_of_sets(table: RunTable, sets: &[u32], scratch: &mut [u16], answer: &mut [u8])
+    requires table_in_bounds { process_count (decode table.bytes.now) * process_count (decode table.bytes.now)
+        ≤ length scratch.old }
+    requires sets_in_bounds { 2 * process_count (decode table.bytes.now) * length sets.now ≤ length answer.old }
     ensures holders { scratch.new
-        ≡ put_at scratch.old 0 (holder_lines (decode table.now)) }
+        ≡ put_at scratch.old 0 (holder_lines (decode table.entry.bytes.now)) }
     ensures lines { answer.new ≡ put_at answer.old 0 (u16s (rows
-        (λ k. line_of (decode table.now) (member (get_or sets.now k 0)))
+        (λ k. line_of (decode table.entry.bytes.now) (member (get_or sets.now k 0)))
         (length sets.now))) }
 {
     fill_lines(table, scratch);

@@ -15,39 +15,39 @@ use crate::writer::SheetWriter;
 use crate::writing::{Column, Part};
 use holder_lines::scratch::HeldLines;
 use sheet_entries::{checkpoints, messages};
-use tables::parts;
+use tables::accepted::RunTable;
 
 // K, the number of checkpoints that are kept.
-pub fn count_checkpoints(table: &[u8], scratch: &[u16]) -> usize
-    requires { LinesOf table.now scratch.now }
-    ensures { result ≡ length (kept_checkpoints (decode table.now)) }
+pub fn count_checkpoints(table: RunTable, scratch: &[u16]) -> usize
+    requires { LinesOf table.bytes.now scratch.now }
+    ensures { result ≡ length (kept_checkpoints (decode table.entry.bytes.now)) }
 {
-    let n = parts::process_count(table);
+    let n = table.process_count();
     let lines = HeldLines {
         numbers: scratch,
         n,
     };
-    checkpoints::count_kept(lines, parts::counts(table))
+    checkpoints::count_kept(lines, table.counts())
 }
 
 // Q, the number of messages that are kept.
-pub fn count_messages(table: &[u8], scratch: &[u16]) -> usize
-    requires { LinesOf table.now scratch.now }
-    ensures { result ≡ length (kept_messages (decode table.now)) }
+pub fn count_messages(table: RunTable, scratch: &[u16]) -> usize
+    requires { LinesOf table.bytes.now scratch.now }
+    ensures { result ≡ length (kept_messages (decode table.entry.bytes.now)) }
 {
-    let n = parts::process_count(table);
+    let n = table.process_count();
     let lines = HeldLines {
         numbers: scratch,
         n,
     };
-    let m = parts::message_count(table);
-    messages::count_kept(lines, parts::sends(table), parts::receipts(table), m)
+    let m = table.message_count();
+    messages::count_kept(lines, table.sends(), table.receipts(), m)
 }
 
 // Writes the keep sheet, given K and Q, to the front of a buffer that has room for it.
-pub fn put_sheet(table: &[u8], scratch: &[u16], kept: usize, logged: usize, answer: &mut [u8])
-    requires { CanPutSheet table.now scratch.now kept logged answer.old }
-    ensures { answer.new ≡ put_at answer.old 0 (sheet (decode table.now)) }
+pub fn put_sheet(table: RunTable, scratch: &[u16], kept: usize, logged: usize, answer: &mut [u8])
+    requires { CanPutSheet table.bytes.now scratch.now kept logged answer.old }
+    ensures { answer.new ≡ put_at answer.old 0 (sheet (decode table.entry.bytes.now)) }
 {
     let mut writer = SheetWriter {
         buffer: answer,

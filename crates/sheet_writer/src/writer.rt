@@ -7,6 +7,7 @@ ghost use Rattle.sheet_writer.specs.Writers.{written};
 ghost use Rattle.tables.specs.Format.{decode};
 
 use crate::writing::{Part, put_part};
+use tables::accepted::RunTable;
 
 #[derive(Drop)]
 pub struct SheetWriter<'a> {
@@ -16,9 +17,9 @@ pub struct SheetWriter<'a> {
 
 impl<'a> SheetWriter<'a> {
     // Puts a part of the sheet, and goes on to the next place.
-    pub fn put_next(&mut self, part: Part, table: &[u8], scratch: &[u16])
-        requires { CanPut part table.now scratch.now self.old.at self.old.buffer.now }
-        ensures written { self.new ≡ written self.old (numbers_of part (decode table.now)) }
+    pub fn put_next(&mut self, part: Part, table: RunTable, scratch: &[u16])
+        requires { CanPut part table.bytes.now scratch.now self.old.at self.old.buffer.now }
+        ensures written { self.new ≡ written self.old (numbers_of part (decode table.entry.bytes.now)) }
         ensures same_reference { self.new.buffer.ghost_name ≡ self.old.buffer.ghost_name }
     {
         let at = self.at;
@@ -26,9 +27,9 @@ impl<'a> SheetWriter<'a> {
     }
 
     // Puts a part of the sheet, and hands the writer back at the next place.
-    pub fn put(self, part: Part, table: &[u8], scratch: &[u16]) -> SheetWriter<'a>
-        requires { CanPut part table.now scratch.now self.at self.buffer.now }
-        ensures { result ≡ written self.entry (numbers_of part (decode table.now)) }
+    pub fn put(self, part: Part, table: RunTable, scratch: &[u16]) -> SheetWriter<'a>
+        requires { CanPut part table.bytes.now scratch.now self.at self.buffer.now }
+        ensures { result ≡ written self.entry (numbers_of part (decode table.entry.bytes.now)) }
     {
         let mut writer = self;
         writer.put_next(part, table, scratch);

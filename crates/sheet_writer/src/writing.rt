@@ -11,8 +11,8 @@ ghost use Rattle.tables.specs.Parts.{Counts, Messages};
 use holder_lines::scratch::HeldLines;
 use sheet_entries::checkpoints::next_kept;
 use sheet_entries::messages::{is_kept, lowest_line};
+use tables::accepted::RunTable;
 use tables::numbers::{put_u16, u16_at};
-use tables::parts;
 
 // The two arrays of the kept checkpoints: their processes, and their numbers.
 #[derive(Clone, Copy, PartialEq, Eq, Debug)]
@@ -128,26 +128,26 @@ fn put_positions(
 }
 
 // Puts a part of the sheet of an accepted table, given a scratch with the lines of its single holders.
-pub fn put_part(buffer: &mut [u8], at: usize, part: Part, table: &[u8], scratch: &[u16]) -> usize
-    requires { CanPut part table.now scratch.now at buffer.old }
+pub fn put_part(buffer: &mut [u8], at: usize, part: Part, table: RunTable, scratch: &[u16]) -> usize
+    requires { CanPut part table.bytes.now scratch.now at buffer.old }
     ensures { Put buffer.old buffer.new at
-        (numbers_of part (decode table.now)) result }
+        (numbers_of part (decode table.entry.bytes.now)) result }
 {
-    let n = parts::process_count(table);
+    let n = table.process_count();
     let lines = HeldLines {
         numbers: scratch,
         n,
     };
     match part {
         Part::Sizes(kept, logged) => put_sizes(buffer, at, kept, logged),
-        Part::Kept(column) => put_column(buffer, at, column, lines, parts::counts(table)),
+        Part::Kept(column) => put_column(buffer, at, column, lines, table.counts()),
         Part::Positions => put_positions(
             buffer,
             at,
             lines,
-            parts::sends(table),
-            parts::receipts(table),
-            parts::message_count(table),
+            table.sends(),
+            table.receipts(),
+            table.message_count(),
         ),
     }
 }

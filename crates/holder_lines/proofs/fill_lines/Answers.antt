@@ -4,7 +4,7 @@ use Rattle.holder_lines.proofs.FillLaws.{lining_all, lining_mark, lining_more, l
 use Rattle.holder_lines.proofs.fill_lines.Goals as goal
 
 pub loop-k-init : goal.loop-k-init
-loop-k-init c = lining_none c.requires.table_value c.requires.table_in_bounds c.process_count-n.ensures c.propagating-propagates.ensures
+loop-k-init c = lining_none c.args.table.accepted c.requires.table_in_bounds c.process_count-n.ensures c.propagating-propagates.ensures
 
 pub line_of_holder-line-requires-clause-propagates_value : goal.line_of_holder-line-requires-clause-propagates_value
 line_of_holder-line-requires-clause-propagates_value c = lining_mark c.loop-k.invariant (omega arith)

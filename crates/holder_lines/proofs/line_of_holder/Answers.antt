@@ -13,15 +13,15 @@ use Rattle.holder_lines.proofs.line_of_holder.Goals.{After-ceiling_of_set-ceilin
 
 -- the ceiling is that of a set of one
 ceiling_is : (c : After-ceiling_of_set-ceiling)
-    → c.ceiling_of_set-ceiling.result ≡ array_of (ceiling_of (decode c.args.table.now) (member (2 ^ c.args.k)))
+    → c.ceiling_of_set-ceiling.result ≡ array_of (ceiling_of (decode c.args.table.bytes.now) (member (2 ^ c.args.k)))
 ceiling_is c = rw c.bit.ensures at c.ceiling_of_set-ceiling.ensures
 
 pub returns-then-not-propagates : goal.returns-then-not-propagates
 returns-then-not-propagates c =
     ceiling_is (goal.at.returns-then-not-propagates c).After-ceiling_of_set-ceiling
-    ∙ ap array_of (holder_ceiling _ c.requires.table_value _ (sym c.requires.propagates_value ∙ c.if-not-propagates.true))
+    ∙ ap array_of (holder_ceiling _ c.args.table.accepted _ (sym c.requires.propagates_value ∙ c.if-not-propagates.true))
 
 pub returns : goal.returns
 returns c =
     c.settled_line.ensures ∙ ap (line_under _) (ceiling_is (goal.at.returns c).After-ceiling_of_set-ceiling)
-    ∙ set_read _ c.requires.table_value _
+    ∙ set_read _ c.args.table.accepted _

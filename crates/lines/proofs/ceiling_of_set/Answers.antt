@@ -5,7 +5,7 @@ use Rattle.tables.proofs.ReadLaws.{counts_known}
 use Rattle.lines.proofs.ceiling_of_set.Goals as goal
 
 pub ceiling-requires : goal.ceiling-requires
-ceiling-requires c = counts_known _ c.requires c.process_count-n.ensures c.counts.ensures
+ceiling-requires c = counts_known _ c.args.table.accepted c.process_count.ensures c.counts.ensures
 
 pub returns : goal.returns
-returns c = c.ceiling.ensures ∙ ceiling_read _ c.requires c.process_count-n.ensures c.counts.ensures _
+returns c = c.ceiling.ensures ∙ ceiling_read _ c.args.table.accepted c.process_count.ensures c.counts.ensures _

@@ -6,7 +6,7 @@ use Rattle.tables.proofs.ReadLaws.{processes_few}
 use Rattle.lines.proofs.put_line.Goals as goal
 
 pub slice_bounds-line-end : goal.slice_bounds-line-end
-slice_bounds-line-end c = omega (arith, processes_few _ c.requires.table_value)
+slice_bounds-line-end c = omega (arith, processes_few _ c.args.table.accepted)
 
 pub slice_bounds-put_numbers-end : goal.slice_bounds-put_numbers-end
-slice_bounds-put_numbers-end c = sym (length-take-le _ _ (omega (arith, processes_few _ c.requires.table_value)))
+slice_bounds-put_numbers-end c = sym (length-take-le _ _ (omega (arith, processes_few _ c.args.table.accepted)))

@@ -3,4 +3,4 @@ use Rattle.lines.proofs.LineReads.{set_front}
 use Rattle.lines.proofs.put_line_of_set.Goals as goal
 
 pub returns : goal.returns
-returns c = rw (set_front _ c.requires.table_value _ _ c.line_of_set.ensures) at c.put_line.ensures
+returns c = rw (set_front _ c.args.table.accepted _ _ c.line_of_set.ensures) at c.put_line.ensures

@@ -7,4 +7,4 @@ use Rattle.lines.proofs.recovery_line.Goals as goal
 
 pub returns : goal.returns
 unfolding all_processes
-returns c = c.line_of_set.ensures ∙ ap array_of (all_hold_lem _ c.requires)
+returns c = c.line_of_set.ensures ∙ ap array_of (all_hold_lem _ c.args.table.accepted)

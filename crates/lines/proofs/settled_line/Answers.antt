@@ -6,7 +6,7 @@ use Rattle.tables.proofs.ReadLaws.{processes_few}
 use Rattle.lines.proofs.settled_line.Goals as goal
 
 pub settle-requires : goal.settle-requires
-settle-requires c = record { n_le_most_processes = omega (arith, processes_few _ c.requires, c.process_count.ensures) }
+settle-requires c = record { n_le_most_processes = omega (arith, processes_few _ c.args.table.accepted, c.process_count.ensures) }
 
 pub returns : goal.returns
-returns c = c.settle.ensures ∙ line_read _ c.of.result c.of.ensures.count c.of.ensures.sends c.of.ensures.receipts _
+returns c = c.settle.ensures ∙ line_read _ c.messages.result c.messages.ensures.count c.messages.ensures.sends c.messages.ensures.receipts _

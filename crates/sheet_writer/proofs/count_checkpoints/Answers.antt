@@ -10,7 +10,7 @@ pub invariant_of-lines : goal.invariant_of-lines
 invariant_of-lines c = record { holds = holds_lines c.requires c.process_count-n.ensures }
 
 pub count_kept-requires : goal.count_kept-requires
-count_kept-requires c = counts_known _ c.requires.accepted c.process_count-n.ensures c.counts.ensures
+count_kept-requires c = counts_known _ c.args.table.accepted c.process_count-n.ensures c.counts.ensures
 
 pub returns : goal.returns
 returns c = c.count_kept.ensures ∙ ap length (checkpoints_found c.requires c.process_count-n.ensures c.counts.ensures)

@@ -7,8 +7,8 @@ use Rattle.tables.proofs.ReadLaws.{ReadMessages, messages_known, messages_read}
 use Rattle.sheet_writer.proofs.count_messages.Goals as goal
 use Rattle.sheet_writer.proofs.count_messages.Goals.{After-receipts}
 
-messages : (c : After-receipts) → ReadMessages c.args.table.now c.message_count-m.result c.sends.result.now c.receipts.result.now
-messages c = messages_read c.requires.accepted c.message_count-m.ensures c.sends.ensures c.receipts.ensures
+messages : (c : After-receipts) → ReadMessages c.args.table.bytes.now c.message_count-m.result c.sends.result.now c.receipts.result.now
+messages c = messages_read c.args.table.accepted c.message_count-m.ensures c.sends.ensures c.receipts.ensures
 
 pub invariant_of-lines : goal.invariant_of-lines
 invariant_of-lines c = record { holds = holds_lines c.requires c.process_count-n.ensures }

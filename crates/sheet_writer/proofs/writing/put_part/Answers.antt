@@ -14,7 +14,7 @@ invariant_of-lines c = record { holds = holds_lines c.requires.given c.process_c
 
 pub put_column-requires : goal.put_column-requires
 put_column-requires c =
-    let counts = counts_known _ c.requires.given.accepted c.process_count-n.ensures c.counts.ensures in
+    let counts = counts_known _ c.args.table.accepted c.process_count-n.ensures c.counts.ensures in
     let numbers = column_is c.requires.given c.process_count-n.ensures c.counts.ensures c.in-Kept.is in
     record {
       counts = counts;
@@ -26,8 +26,8 @@ invariant_of-lines-in-Positions c = record { holds = holds_lines c.requires.give
 
 pub put_positions-requires : goal.put_positions-requires
 put_positions-requires c =
-    let messages : ReadMessages c.args.table.now c.message_count.result c.sends.result.now
-    c.receipts.result.now = messages_read c.requires.given.accepted c.message_count.ensures c.sends.ensures c.receipts.ensures in
+    let messages : ReadMessages c.args.table.bytes.now c.message_count.result c.sends.result.now
+    c.receipts.result.now = messages_read c.args.table.accepted c.message_count.ensures c.sends.ensures c.receipts.ensures in
     let numbers = positions_are c.requires.given c.process_count-n.ensures messages c.in-Positions.is in
     record {
       messages = messages_known messages (omega (arith, c.process_count-n.ensures));
@@ -45,7 +45,7 @@ returns-in-Kept c =
 
 pub returns-in-Positions : goal.returns-in-Positions
 returns-in-Positions c =
-    let messages : ReadMessages c.args.table.now c.message_count.result c.sends.result.now
-    c.receipts.result.now = messages_read c.requires.given.accepted c.message_count.ensures c.sends.ensures c.receipts.ensures in
+    let messages : ReadMessages c.args.table.bytes.now c.message_count.result c.sends.result.now
+    c.receipts.result.now = messages_read c.args.table.accepted c.message_count.ensures c.sends.ensures c.receipts.ensures in
     rw (positions_are c.requires.given c.process_count-n.ensures messages c.in-Positions.is)
     at c.put_positions.ensures

@@ -14,11 +14,11 @@ put_number-next-requires c = picked_room _ c.loop-position.invariant c.loop-posi
 pub loop-position-preserved : goal.loop-position-preserved
 loop-position-preserved c =
     elim c.if-is_kept.branch [
-      then-is_kept w ↦
-        rw (w.buffer-is, w.next-is)
-        (picked_more _ c.loop-position.invariant c.loop-position-test.true c.is_kept.ensures w.if-is_kept.true w.put_number-next.ensures)
-    | else-is_kept w ↦
-        rw (w.buffer-is, w.next-is) (picked_skip _ c.loop-position.invariant c.loop-position-test.true c.is_kept.ensures w.if-is_kept.false)
+      | then-is_kept w ↦
+          rw (w.buffer-is, w.next-is)
+          (picked_more _ c.loop-position.invariant c.loop-position-test.true c.is_kept.ensures w.if-is_kept.true w.put_number-next.ensures)
+      | else-is_kept w ↦
+          rw (w.buffer-is, w.next-is) (picked_skip _ c.loop-position.invariant c.loop-position-test.true c.is_kept.ensures w.if-is_kept.false)
     ]
 
 pub returns : goal.returns
