@@ -2,13 +2,12 @@
 ghost use Rattle.std.specs.Prelude.{false, ◌≡◌};
 ghost use Rattle.list_checks.specs.Entries.{ListedEntries, skips_older};
 ghost use Rattle.steps.specs.Steps.{bad_position, not_rising, passes_over};
-ghost use Rattle.tables.specs.Checks.{table_refusal};
 ghost use Rattle.tables.specs.Format.{decode};
 ghost use Rattle.tables.specs.Lists.{any};
 
 use crate::positions::entry_waits;
+use tables::accepted::RunTable;
 use tables::numbers::u16_at;
-use tables::parts;
 
 // Whether an older entry that waits for the process, and is not listed, has the sender of a listed one. One walk up
 // to the last position marks the senders of such entries.
@@ -38,12 +37,11 @@ pub fn skips_older(sends: &[u8], receipts: &[u8], process: u16, list: &[u16]) ->
 }
 
 // Whether a list passes over an older waiting message of the channel of one of its positions.
-pub fn passes_over(table: &[u8], process: u16, list: &[u16]) -> bool
-    requires table_value { table_refusal table.now ≡ 0 }
-    requires list_value { any (bad_position (decode table.now) process) list.now ≡ false }
+pub fn passes_over(table: RunTable, process: u16, list: &[u16]) -> bool
+    requires list_value { any (bad_position (decode table.bytes.now) process) list.now ≡ false }
     requires list_value_2 { not_rising list.now ≡ false }
     ensures { result
-        ≡ any (passes_over (decode table.now) list.now) list.now }
+        ≡ any (passes_over (decode table.entry.bytes.now) list.now) list.now }
 {
-    skips_older(parts::sends(table), parts::receipts(table), process, list)
+    skips_older(table.sends(), table.receipts(), process, list)
 }

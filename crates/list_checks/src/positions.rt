@@ -2,12 +2,11 @@
 ghost use Rattle.std.specs.Prelude.{◌≡◌, ◌+◌, ◌*◌, ◌<◌, length};
 ghost use Rattle.list_checks.specs.Entries.{bad_entry, entry_waits};
 ghost use Rattle.steps.specs.Steps.{bad_position, not_rising};
-ghost use Rattle.tables.specs.Checks.{table_refusal};
 ghost use Rattle.tables.specs.Format.{decode};
 ghost use Rattle.tables.specs.Lists.{any};
 
+use tables::accepted::RunTable;
 use tables::numbers::u16_at;
-use tables::parts;
 
 // Whether an entry of a list is not above the one before it.
 pub fn not_rising(list: &[u16]) -> bool
@@ -36,10 +35,8 @@ pub fn not_waiting(receipts: &[u8], m: usize, process: u16, list: &[u16]) -> boo
 }
 
 // Whether a position of the list is not that of a message that waits for the process.
-pub fn bad_position(table: &[u8], process: u16, list: &[u16]) -> bool
-    requires { table_refusal table.now ≡ 0 }
-    ensures { result ≡ any (bad_position (decode table.now) process) list.now }
+pub fn bad_position(table: RunTable, process: u16, list: &[u16]) -> bool
+    ensures { result ≡ any (bad_position (decode table.entry.bytes.now) process) list.now }
 {
-    let m = parts::message_count(table);
-    not_waiting(parts::receipts(table), m, process, list)
+    not_waiting(table.receipts(), table.message_count(), process, list)
 }

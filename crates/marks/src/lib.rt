@@ -4,12 +4,12 @@
 ghost use Rattle.std.specs.Prelude.{suc, ◌≡◌, ◌+◌, ◌*◌, ◌/◌, ◌≤◌, ◌<◌, length};
 ghost use Rattle.marks.specs.Bits.{Onwards, SetFrom, bit_at, first_bit, marked_in, with_bit};
 ghost use Rattle.marks.specs.Room.{cleared, marks_size};
-ghost use Rattle.tables.specs.Checks.{table_refusal};
 ghost use Rattle.tables.specs.Format.{decode};
 ghost use Rattle.tables.specs.Lists.{tabulate};
 ghost use Rattle.tables.specs.Table.{count_of, process_count};
 
-use tables::{lookups, parts};
+use tables::accepted::RunTable;
+use tables::lookups;
 
 // Whether bit b is set.
 fn is_set(marks: &[u8], b: usize) -> bool
@@ -50,13 +50,12 @@ pub fn clear(marks: &mut [u8], size: usize)
 }
 
 // The first bit of each process of an accepted table, and behind the last one the number of all bits.
-fn first_bits(table: &[u8]) -> [usize; 33]
-    requires { table_refusal table.now ≡ 0 }
-    ensures { result ≡ tabulate 33 (first_bit (decode table.now).counts) }
+fn first_bits(table: RunTable) -> [usize; 33]
+    ensures { result ≡ tabulate 33 (first_bit (decode table.entry.bytes.now).counts) }
 {
     let mut first = [0usize; 33];
     for p in 0..32 {
-        first[p + 1] = first[p] + 1 + usize::from(lookups::count(table, p));
+        first[p + 1] = first[p] + 1 + usize::from(lookups::count(table.bytes, p));
     }
     first
 }
@@ -65,17 +64,15 @@ fn first_bits(table: &[u8]) -> [usize; 33]
 // stands in byte b / 8.
 #[derive(Clone, Copy)]
 pub struct Layout<'a> {
-    pub table: &'a [u8],
+    pub table: RunTable<'a>,
     first: [usize; 33],
-    pub ghost accepted: { table_refusal table.now ≡ 0 },
-    ghost first_are: { first ≡ tabulate 33 (first_bit (decode table.now).counts) },
+    ghost first_are: { first ≡ tabulate 33 (first_bit (decode table.bytes.now).counts) },
 }
 
 impl<'a> Layout<'a> {
     // That of a table.
-    pub fn of(table: &'a [u8]) -> Self
-        requires { table_refusal table.now ≡ 0 }
-        ensures { result.table.now ≡ table.now }
+    pub fn of(table: RunTable<'a>) -> Self
+        ensures { result.table.bytes.now ≡ table.entry.bytes.now }
     {
         Layout {
             table,
@@ -85,57 +82,56 @@ impl<'a> Layout<'a> {
 
     // The bytes that the marks take.
     pub fn size(&self) -> usize
-        ensures { result ≡ marks_size (decode self.now.table.now) }
+        ensures { result ≡ marks_size (decode self.now.table.bytes.now) }
     {
-        let n = parts::process_count(self.table);
+        let n = self.table.process_count();
         self.first[n].div_ceil(8)
     }
 
     // The bit of state y of process p, and of the one behind its last.
     fn bit(&self, p: usize, y: usize) -> usize
-        requires known { p < process_count (decode self.now.table.now) }
-        requires there { y ≤ count_of (decode self.now.table.now) p + 1 }
-        ensures { result ≡ first_bit (decode self.now.table.now).counts p + y }
+        requires known { p < process_count (decode self.now.table.bytes.now) }
+        requires there { y ≤ count_of (decode self.now.table.bytes.now) p + 1 }
+        ensures { result ≡ first_bit (decode self.now.table.bytes.now).counts p + y }
     {
         self.first[p] + y
     }
 
     // Where the bits of process p end.
     fn row_end(&self, p: usize) -> usize
-        requires { p < process_count (decode self.now.table.now) }
-        ensures { result ≡ first_bit (decode self.now.table.now).counts (suc p) }
+        requires { p < process_count (decode self.now.table.bytes.now) }
+        ensures { result ≡ first_bit (decode self.now.table.bytes.now).counts (suc p) }
     {
         self.first[p + 1]
     }
 
     // Whether state y of process p is marked.
     pub fn is_marked(&self, marks: &[u8], p: usize, y: u16) -> bool
-        requires known { p < process_count (decode self.now.table.now) }
-        requires there { y ≤ count_of (decode self.now.table.now) p }
-        requires room { marks_size (decode self.now.table.now) ≤ length marks.now }
-        ensures { result ≡ marked_in (decode self.now.table.now) marks.now p y }
+        requires known { p < process_count (decode self.now.table.bytes.now) }
+        requires there { y ≤ count_of (decode self.now.table.bytes.now) p }
+        requires room { marks_size (decode self.now.table.bytes.now) ≤ length marks.now }
+        ensures { result ≡ marked_in (decode self.now.table.bytes.now) marks.now p y }
     {
         is_set(marks, self.bit(p, usize::from(y)))
     }
 
     // Marks the states of process p from y on. Behind one that is marked they all are.
     pub fn mark_from(&self, marks: &mut [u8], p: usize, y: usize)
-        requires known { p < process_count (decode self.now.table.now) }
-        requires there { y ≤ count_of (decode self.now.table.now) p + 1 }
-        requires room { marks_size (decode self.now.table.now) ≤ length marks.old }
-        requires onwards { Onwards (first_bit (decode self.now.table.now).counts p + y)
-            (first_bit (decode self.now.table.now).counts (suc p)) marks.old }
-        ensures { SetFrom (first_bit (decode self.now.table.now).counts p + y)
-            (first_bit (decode self.now.table.now).counts (suc p)) marks.old marks.new }
+        requires known { p < process_count (decode self.now.table.bytes.now) }
+        requires there { y ≤ count_of (decode self.now.table.bytes.now) p + 1 }
+        requires room { marks_size (decode self.now.table.bytes.now) ≤ length marks.old }
+        requires onwards { Onwards (first_bit (decode self.now.table.bytes.now).counts p + y)
+            (first_bit (decode self.now.table.bytes.now).counts (suc p)) marks.old }
+        ensures { SetFrom (first_bit (decode self.now.table.bytes.now).counts p + y)
+            (first_bit (decode self.now.table.bytes.now).counts (suc p)) marks.old marks.new }
     {
         set_from(marks, self.bit(p, y), self.row_end(p));
     }
 }
 
 // The bytes that the marks of an accepted table take.
-pub fn marks_size(table: &[u8]) -> usize
-    requires { table_refusal table.now ≡ 0 }
-    ensures { result ≡ marks_size (decode table.now) }
+pub fn marks_size(table: RunTable) -> usize
+    ensures { result ≡ marks_size (decode table.entry.bytes.now) }
 {
     Layout::of(table).size()
 }

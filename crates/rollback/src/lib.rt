@@ -10,9 +10,9 @@ ghost use Rattle.tables.specs.Table.{message_count, process_count};
 ghost use Rattle.rollback.specs.Rollback.{AtLine, receipt_left};
 
 use table_writer::{put_entry, put_head};
+use tables::accepted::RunTable;
 use tables::format::sends_at;
 use tables::numbers::u16_at;
-use tables::parts;
 
 // The receipt number that a message is left with, beside the line's number at its receiver: 0 where it
 // is after the line.
@@ -26,17 +26,14 @@ fn receipt_left(received: u16, height: u16) -> u16
 }
 
 // How many messages of an accepted table stay, given its recovery line.
-pub fn count_remaining(table: &[u8], line: [u16; 32]) -> usize
-    requires { AtLine table.now line }
-    ensures { result ≡ message_count (after_rollback (decode table.now)) }
+pub fn count_remaining(table: RunTable, line: [u16; 32]) -> usize
+    requires { AtLine table.bytes.now line }
+    ensures { result ≡ message_count (after_rollback (decode table.entry.bytes.now)) }
 {
-    let m = parts::message_count(table);
-    let sends = parts::sends(table);
+    let messages = table.messages();
     let mut remaining = 0;
-    for k in 0..m {
-        let sender = u16_at(sends, 4 * k) as usize;
-        let sent = u16_at(sends, 4 * k + 2);
-        if sent < line[sender] {
+    for k in 0..messages.count {
+        if messages.sent(k) < line[messages.sender(k)] {
             remaining += 1;
         }
     }
@@ -44,11 +41,11 @@ pub fn count_remaining(table: &[u8], line: [u16; 32]) -> usize
 }
 
 // The counts that a rollback leaves, given the recovery line of an accepted table: L + 1 at each process.
-fn counts_left(table: &[u8], line: [u16; 32]) -> [u16; 32]
-    requires { AtLine table.now line }
-    ensures { result ≡ array_of (after_rollback (decode table.now)).counts }
+fn counts_left(table: RunTable, line: [u16; 32]) -> [u16; 32]
+    requires { AtLine table.bytes.now line }
+    ensures { result ≡ array_of (after_rollback (decode table.entry.bytes.now)).counts }
 {
-    let n = parts::process_count(table);
+    let n = table.process_count();
     let mut counts = [0u16; 32];
     for p in 0..n {
         counts[p] = line[p] + 1;
@@ -57,21 +54,21 @@ fn counts_left(table: &[u8], line: [u16; 32]) -> [u16; 32]
 }
 
 // Writes the sends of the m messages that stay, at a place of a buffer that has room for them, and
-// behind these their receipts.
-fn put_messages(table: &[u8], line: [u16; 32], m: usize, buffer: &mut [u8], at: usize)
-    requires at_line { AtLine table.now line }
-    requires m_value { m ≡ message_count (after_rollback (decode table.now)) }
+// behind these their receipts. Processes are read as the u16 that they are written as, which the methods of
+// `MessageParts` do not give.
+fn put_messages(table: RunTable, line: [u16; 32], m: usize, buffer: &mut [u8], at: usize)
+    requires at_line { AtLine table.bytes.now line }
+    requires m_value { m ≡ message_count (after_rollback (decode table.bytes.now)) }
     requires m_in_bounds { at + 8 * m ≤ length buffer.old }
     ensures { buffer.new
         ≡ put_at (put_at buffer.old at
-        (u16s (sends_of (after_rollback (decode table.now)).messages)))
-        (at + 4 * m) (u16s (receipts_of (after_rollback (decode table.now)).messages)) }
+        (u16s (sends_of (after_rollback (decode table.entry.bytes.now)).messages)))
+        (at + 4 * m) (u16s (receipts_of (after_rollback (decode table.entry.bytes.now)).messages)) }
 {
-    let all = parts::message_count(table);
-    let sends = parts::sends(table);
-    let receipts = parts::receipts(table);
+    let sends = table.sends();
+    let receipts = table.receipts();
     let mut place = at;
-    for k in 0..all {
+    for k in 0..table.message_count() {
         let sender = u16_at(sends, 4 * k);
         let sent = u16_at(sends, 4 * k + 2);
         if line[sender as usize] <= sent {
@@ -92,14 +89,14 @@ fn put_messages(table: &[u8], line: [u16; 32], m: usize, buffer: &mut [u8], at: 
 
 // Writes the table that a rollback of an accepted table leaves, given its recovery line and how many
 // messages stay, to the front of a buffer that has room for it.
-pub fn put_rollback(table: &[u8], line: [u16; 32], m: usize, answer: &mut [u8])
-    requires at_line { AtLine table.now line }
-    requires m_value { m ≡ message_count (after_rollback (decode table.now)) }
-    requires m_in_bounds { table_length (process_count (decode table.now)) m ≤ length answer.old }
+pub fn put_rollback(table: RunTable, line: [u16; 32], m: usize, answer: &mut [u8])
+    requires at_line { AtLine table.bytes.now line }
+    requires m_value { m ≡ message_count (after_rollback (decode table.bytes.now)) }
+    requires m_in_bounds { table_length (process_count (decode table.bytes.now)) m ≤ length answer.old }
     ensures { answer.new
-        ≡ put_at answer.old 0 (encode (after_rollback (decode table.now))) }
+        ≡ put_at answer.old 0 (encode (after_rollback (decode table.entry.bytes.now))) }
 {
-    let n = parts::process_count(table);
+    let n = table.process_count();
     let counts = counts_left(table, line);
     put_head(answer, &counts[..n], m);
     put_messages(table, line, m, answer, sends_at(n));

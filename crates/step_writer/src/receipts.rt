@@ -10,9 +10,9 @@ ghost use Rattle.step_writer.specs.Receipts.{CanReceive, after_receiving, receip
 
 use number_writer::copy_numbers;
 use table_writer::put_head;
+use tables::accepted::RunTable;
 use tables::format::{receipts_at, sends_at};
 use tables::numbers::put_u16;
-use tables::parts;
 
 // Sets the receipt number of each listed message, in place, in a part of receipts that has its entry.
 pub fn set_receipts(receipts: &mut [u8], list: &[u16], number: u16)
@@ -44,50 +44,43 @@ fn put_receipts(buffer: &mut [u8], at: usize, receipts: &[u8], m: usize, list: &
 
 // Writes the table after a known process received a list of messages that wait for it, with its count grown
 // by the checkpoints that it took, none or one, to the front of a buffer that has room for it.
-fn put_received(table: &[u8], process: u16, list: &[u16], taken: u16, answer: &mut [u8])
-    requires can_receive { CanReceive table.now process list.now }
+fn put_received(table: RunTable, process: u16, list: &[u16], taken: u16, answer: &mut [u8])
+    requires can_receive { CanReceive table.bytes.now process list.now }
     requires taken_bound { taken ≤ 1 }
-    requires table_in_bounds { table_length (process_count (decode table.now)) (message_count (decode table.now))
-        ≤ length answer.old }
+    requires table_in_bounds { table_length (process_count (decode table.bytes.now))
+        (message_count (decode table.bytes.now)) ≤ length answer.old }
     ensures { answer.new ≡ put_at answer.old 0
-        (encode (after_receiving (decode table.now) process list.now taken)) }
+        (encode (after_receiving (decode table.entry.bytes.now) process list.now taken)) }
 {
-    let n = parts::process_count(table);
-    let m = parts::message_count(table);
-    let mut counts = parts::count_array(table);
+    let n = table.process_count();
+    let m = table.message_count();
+    let mut counts = table.count_array();
     let number = counts[process as usize];
     counts[process as usize] = number + taken;
     put_head(answer, &counts[..n], m);
-    copy_numbers(answer, sends_at(n), parts::sends(table), 2 * m);
-    put_receipts(
-        answer,
-        receipts_at(n, m),
-        parts::receipts(table),
-        m,
-        list,
-        number,
-    );
+    copy_numbers(answer, sends_at(n), table.sends(), 2 * m);
+    put_receipts(answer, receipts_at(n, m), table.receipts(), m, list, number);
 }
 
 // Writes the table after a receipt. Receipt and checkpoint are two calls: each contract names its own step, as the
 // manual has it, and no number of checkpoints.
-pub fn put_receipt(table: &[u8], process: u16, list: &[u16], answer: &mut [u8])
-    requires can_receive { CanReceive table.now process list.now }
-    requires table_in_bounds { table_length (process_count (decode table.now)) (message_count (decode table.now))
-        ≤ length answer.old }
+pub fn put_receipt(table: RunTable, process: u16, list: &[u16], answer: &mut [u8])
+    requires can_receive { CanReceive table.bytes.now process list.now }
+    requires table_in_bounds { table_length (process_count (decode table.bytes.now))
+        (message_count (decode table.bytes.now)) ≤ length answer.old }
     ensures { answer.new ≡ put_at answer.old 0
-        (encode (after_receipt (decode table.now) process list.now)) }
+        (encode (after_receipt (decode table.entry.bytes.now) process list.now)) }
 {
     put_received(table, process, list, 0, answer);
 }
 
 // Writes the table after a checkpoint.
-pub fn put_checkpoint(table: &[u8], process: u16, list: &[u16], answer: &mut [u8])
-    requires can_receive { CanReceive table.now process list.now }
-    requires table_in_bounds { table_length (process_count (decode table.now)) (message_count (decode table.now))
-        ≤ length answer.old }
+pub fn put_checkpoint(table: RunTable, process: u16, list: &[u16], answer: &mut [u8])
+    requires can_receive { CanReceive table.bytes.now process list.now }
+    requires table_in_bounds { table_length (process_count (decode table.bytes.now))
+        (message_count (decode table.bytes.now)) ≤ length answer.old }
     ensures { answer.new ≡ put_at answer.old 0
-        (encode (after_checkpoint (decode table.now) process list.now)) }
+        (encode (after_checkpoint (decode table.entry.bytes.now) process list.now)) }
 {
     put_received(table, process, list, 1, answer);
 }

@@ -1,7 +1,6 @@
 // Send: the table with one message more.
 ghost use Rattle.std.specs.Prelude.{[], ◌∷◌, ◌++◌, ◌≡◌, ◌+◌, ◌*◌, ◌<◌, ◌≤◌, length};
 ghost use Rattle.steps.specs.Steps.{after_send};
-ghost use Rattle.tables.specs.Checks.{table_refusal};
 ghost use Rattle.tables.specs.Format.{decode, encode, table_length};
 ghost use Rattle.tables.specs.Lists.{tabulate};
 ghost use Rattle.tables.specs.Numbers.{put_at, u16_at, u16s};
@@ -9,8 +8,8 @@ ghost use Rattle.tables.specs.Table.{message_count, process_count};
 
 use number_writer::copy_numbers;
 use table_writer::{put_entry, put_head};
+use tables::accepted::RunTable;
 use tables::format::{receipts_at, sends_at};
-use tables::parts;
 
 // Copies an array of m entries, and one entry more, to a place of a buffer that has room for them.
 fn put_longer(buffer: &mut [u8], at: usize, part: &[u8], m: usize, process: u16, checkpoint: u16)
@@ -25,26 +24,18 @@ fn put_longer(buffer: &mut [u8], at: usize, part: &[u8], m: usize, process: u16,
 }
 
 // Writes the table after a send from a known process to the front of a buffer that has room for it.
-pub fn put_send(table: &[u8], from: u16, to: u16, answer: &mut [u8])
-    requires table_value { table_refusal table.now ≡ 0 }
-    requires from_bound { from < process_count (decode table.now) }
-    requires table_in_bounds { table_length (process_count (decode table.now)) (message_count (decode table.now) + 1)
-        ≤ length answer.old }
+pub fn put_send(table: RunTable, from: u16, to: u16, answer: &mut [u8])
+    requires from_bound { from < process_count (decode table.bytes.now) }
+    requires table_in_bounds { table_length (process_count (decode table.bytes.now))
+        (message_count (decode table.bytes.now) + 1) ≤ length answer.old }
     ensures { answer.new
-        ≡ put_at answer.old 0 (encode (after_send (decode table.now) from to)) }
+        ≡ put_at answer.old 0 (encode (after_send (decode table.entry.bytes.now) from to)) }
 {
-    let n = parts::process_count(table);
-    let m = parts::message_count(table);
-    let counts = parts::count_array(table);
+    let n = table.process_count();
+    let m = table.message_count();
+    let counts = table.count_array();
     let sent = counts[from as usize] - 1;
     put_head(answer, &counts[..n], m + 1);
-    put_longer(answer, sends_at(n), parts::sends(table), m, from, sent);
-    put_longer(
-        answer,
-        receipts_at(n, m + 1),
-        parts::receipts(table),
-        m,
-        to,
-        0,
-    );
+    put_longer(answer, sends_at(n), table.sends(), m, from, sent);
+    put_longer(answer, receipts_at(n, m + 1), table.receipts(), m, to, 0);
 }

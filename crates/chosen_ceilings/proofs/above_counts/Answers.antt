@@ -14,4 +14,4 @@ returns c =
     any_from_yields_List (λ p. ltb p.1 p.0) c.any.new.self _ _ c.any.ensures.ran
     (YieldsList-from_zip (YieldsList-from_slice c.args.ceilings.now cc) (YieldsList-from_slice c.count_array-counts.result cc))
     (λ x b q k. search (rules, tests))
-    ∙ chosen_above _ c.requires.table_value _ c.requires.ceilings_len c.count_array-counts.ensures
+    ∙ chosen_above _ c.args.table.accepted _ c.requires.ceilings_len c.count_array-counts.ensures

@@ -7,8 +7,8 @@ use Rattle.chosen_ceilings.proofs.put_line_under.Goals as goal
 
 pub number_array-requires : goal.number_array-requires
 number_array-requires c =
-    omega (arith, processes_few _ c.requires.table_value)
+    omega (arith, processes_few _ c.args.table.accepted)
 
 pub returns : goal.returns
 returns c =
-    rw (under_read _ c.requires.table_value _ c.requires.ceilings_len c.number_array.ensures _ c.line_under.ensures) at c.put_line.ensures
+    rw (under_read _ c.args.table.accepted _ c.requires.ceilings_len c.number_array.ensures _ c.line_under.ensures) at c.put_line.ensures

@@ -9,10 +9,10 @@ pub loop-p-init : goal.loop-p-init
 loop-p-init c = firsts_none _
 
 pub overflow_add-first : goal.overflow_add-first
-overflow_add-first c = omega (arith, firsts_here _ c.loop-p.invariant (omega arith), first_small _ c.requires c.loop-p.p)
+overflow_add-first c = omega (arith, firsts_here _ c.loop-p.invariant (omega arith), first_small _ c.args.table.accepted c.loop-p.p)
 
 pub overflow_add-first-in-loop-p : goal.overflow_add-first-in-loop-p
-overflow_add-first-in-loop-p c = omega (arith, firsts_here _ c.loop-p.invariant (omega arith), first_small _ c.requires c.loop-p.p)
+overflow_add-first-in-loop-p c = omega (arith, firsts_here _ c.loop-p.invariant (omega arith), first_small _ c.args.table.accepted c.loop-p.p)
 
 pub loop-p-preserved : goal.loop-p-preserved
 loop-p-preserved c = firsts_more _ c.loop-p.invariant (omega arith) (c.from.ensures ∙ c.count.ensures)

@@ -7,4 +7,4 @@ use Rattle.tables.specs.Format.{decode}
 use Rattle.marks.proofs.first_bits.Given as goal
 
 abbrev pub invariant-loop-p : goal.invariant-loop-p
-invariant-loop-p l = Filled (first_bit (decode l.table).counts) (l.p + 1) (replicate 33 0) l.first
+invariant-loop-p l = Filled (first_bit (decode l.table.bytes.now).counts) (l.p + 1) (replicate 33 0) l.first

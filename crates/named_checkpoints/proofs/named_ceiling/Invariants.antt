@@ -5,4 +5,4 @@ use Rattle.named_checkpoints.proofs.NamedLaws.{NamedPut}
 use Rattle.named_checkpoints.proofs.named_ceiling.Given as goal
 
 abbrev pub invariant-loop-p : goal.invariant-loop-p
-invariant-loop-p l = NamedPut l.table l.processes l.states l.ceiling (length l.yielded)
+invariant-loop-p l = NamedPut l.names.table.bytes.now l.names.processes.now l.names.states.now l.ceiling (length l.yielded)

@@ -5,4 +5,4 @@ use Rattle.named_checkpoints.proofs.NamedLaws.{line_put}
 use Rattle.named_checkpoints.proofs.named_line.Goals as goal
 
 pub returns : goal.returns
-returns c = c.line_under.ensures ∙ line_put _ c.requires.table_value _ _ c.named_ceiling.ensures
+returns c = c.line_under.ensures ∙ line_put _ c.args.names.table.accepted _ _ c.named_ceiling.ensures

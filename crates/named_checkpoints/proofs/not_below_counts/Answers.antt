@@ -15,13 +15,13 @@ use Rattle.named_checkpoints.proofs.not_below_counts.Goals as goal
 
 pub any-requires-clause-callable : goal.any-requires-clause-callable
 any-requires-clause-callable c =
-    serves_from_places (both c.args.processes.now c.args.states.now (cc) (cc))
+    serves_from_places (both c.args.names.processes.now c.args.names.states.now (cc) (cc))
     (λ x q r. search rules)
-    (λ x k l e. let small : x.0.now < 32 = omega (arith, known_at c.requires.parallel k l e, processes_few _ c.requires.table_value) in search rules)
+    (λ x k l e. let small : x.0.now < 32 = omega (arith, known_at c.args.names.parallel k l e, processes_few _ c.args.names.table.accepted) in search rules)
 
 pub returns : goal.returns
 returns c =
     any_from_yields_List (λ p. leb (get_or c.count_array-counts.result p.0 0) p.1) c.any.new.self _ _ c.any.ensures.ran
-    (both c.args.processes.now c.args.states.now (cc) (cc))
+    (both c.args.names.processes.now c.args.names.states.now (cc) (cc))
     (λ x b q k. search (rules, tests))
-    ∙ not_below_found _ c.requires.table_value _ _ c.requires.parallel c.count_array-counts.ensures
+    ∙ not_below_found _ c.args.names.table.accepted _ _ c.args.names.parallel c.count_array-counts.ensures

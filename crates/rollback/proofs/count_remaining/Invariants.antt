@@ -4,4 +4,4 @@ use Rattle.rollback.proofs.RollbackLaws.{RemainingCounted}
 use Rattle.rollback.proofs.count_remaining.Given as goal
 
 abbrev pub invariant-loop-k : goal.invariant-loop-k
-invariant-loop-k l = RemainingCounted l.table l.line l.m l.sends l.remaining l.k
+invariant-loop-k l = RemainingCounted l.table.bytes.now l.line l.messages.count l.messages.sends.now l.remaining l.k

@@ -12,7 +12,7 @@ use Rattle.rollback.proofs.counts_left.Goals as goal
 pub loop-p-init : goal.loop-p-init
 unfolding process_count
 loop-p-init c =
-    (omega (arith, processes_few _ c.requires.accepted, c.process_count-n.ensures), filling_none)
+    (omega (arith, processes_few _ c.args.table.accepted, c.process_count-n.ensures), filling_none)
 
 pub overflow_add-counts : goal.overflow_add-counts
 unfolding process_count

@@ -9,4 +9,4 @@ use Rattle.tables.specs.Table.{most_processes}
 use Rattle.rollback.proofs.counts_left.Given as goal
 
 abbrev pub invariant-loop-p : goal.invariant-loop-p
-invariant-loop-p l = (l.n ≤ most_processes) × Filling (λ q. get_or (after_rollback (decode l.table)).counts q 0) l.n l.p l.counts
+invariant-loop-p l = (l.n ≤ most_processes) × Filling (λ q. get_or (after_rollback (decode l.table.bytes.now)).counts q 0) l.n l.p l.counts

@@ -14,7 +14,7 @@ room c = gathering_room c.loop-k.invariant c.loop-k-test.true c.u16_at-sender.en
 
 pub loop-k-init : goal.loop-k-init
 loop-k-init c =
-    gathering_none c.requires.at_line c.requires.m_value c.requires.m_in_bounds c.message_count-all.ensures c.sends-sends.ensures c.receipts-receipts.ensures
+    gathering_none c.requires.at_line c.requires.m_value c.requires.m_in_bounds c.message_count-k-end.ensures c.sends-sends.ensures c.receipts-receipts.ensures
 
 pub bounds-line-sender : goal.bounds-line-sender
 bounds-line-sender c = sender_small c.loop-k.invariant.given.messages.read c.loop-k-test.true c.u16_at-sender.ensures

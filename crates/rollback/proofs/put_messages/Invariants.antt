@@ -5,5 +5,5 @@ use Rattle.rollback.proofs.RollbackLaws.{Gathering}
 use Rattle.rollback.proofs.put_messages.Given as goal
 
 abbrev pub invariant-loop-k : goal.invariant-loop-k
-invariant-loop-k l = Gathering l.table l.line l.m l.at l.initial.buffer l.all l.sends l.receipts l.k l.place
+invariant-loop-k l = Gathering l.table.bytes.now l.line l.m l.at l.initial.buffer l.k-end l.sends l.receipts l.k l.place
     l.buffer

@@ -14,22 +14,22 @@ use Rattle.rollback.proofs.put_rollback.Goals.{After-counts_left-counts}
 
 -- the first N counts are a list of N
 front : (c : After-counts_left-counts) → length (take c.process_count-n.result c.counts_left-counts.result) ≡ c.process_count-n.result
-front c = length-take-le _ _ (omega (arith, processes_few _ c.requires.at_line.accepted))
+front c = length-take-le _ _ (omega (arith, processes_few _ c.args.table.accepted))
 
 -- ---- the head
 pub slice_bounds-counts-end : goal.slice_bounds-counts-end
-slice_bounds-counts-end c = omega (arith, processes_few _ c.requires.at_line.accepted)
+slice_bounds-counts-end c = omega (arith, processes_few _ c.args.table.accepted)
 
 pub slice_bounds-put_head-end : goal.slice_bounds-put_head-end
 slice_bounds-put_head-end c = sym (front (goal.at.slice_bounds-put_head-end c).After-counts_left-counts)
 
 pub put_head-requires-clause-m_bound : goal.put_head-requires-clause-m_bound
 put_head-requires-clause-m_bound c =
-    omega (arith, rollback_fewer (decode c.args.table.now), messages_few _ c.requires.at_line.accepted)
+    omega (arith, rollback_fewer (decode c.args.table.bytes.now), messages_few _ c.args.table.accepted)
 
 -- ---- the messages
 pub sends_at-requires : goal.sends_at-requires
-sends_at-requires c = omega (arith, processes_few _ c.requires.at_line.accepted)
+sends_at-requires c = omega (arith, processes_few _ c.args.table.accepted)
 
 pub returns : goal.returns
 returns c =

@@ -7,9 +7,9 @@ use Rattle.list_checks.proofs.positions.bad_position.Goals as goal
 
 pub not_waiting-requires : goal.not_waiting-requires
 not_waiting-requires c =
-    (messages_read c.requires c.message_count-m.ensures refl c.receipts.ensures).receipts_size
+    (messages_read c.args.table.accepted c.message_count.ensures refl c.receipts.ensures).receipts_size
 
 pub returns : goal.returns
 returns c =
     c.not_waiting.ensures
-    ∙ bad_positions (messages_read c.requires c.message_count-m.ensures refl c.receipts.ensures) _ _
+    ∙ bad_positions (messages_read c.args.table.accepted c.message_count.ensures refl c.receipts.ensures) _ _

@@ -6,7 +6,7 @@ use Rattle.marks.proofs.Layout.row_end.Goals as goal
 use Rattle.marks.proofs.Layout.row_end.Goals.{Start}
 
 there : (c : Start) → suc c.args.p ≤ 32
-there c = few _ c.args.self.now.accepted c.requires
+there c = few _ c.args.self.now.table.accepted c.requires
 
 pub overflow_add-result : goal.overflow_add-result
 overflow_add-result c = omega (arith, there c)
@@ -18,4 +18,4 @@ pub bounds-self-p : goal.bounds-self-p
 bounds-self-p c = omega (arith, there (goal.at.bounds-self-p c).Start)
 
 pub returns : goal.returns
-returns c = end_read _ c.args.self.now.accepted c.args.self.now.first_are c.requires
+returns c = end_read _ c.args.self.now.table.accepted c.args.self.now.first_are c.requires

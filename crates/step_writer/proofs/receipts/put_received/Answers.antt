@@ -13,44 +13,44 @@ use Rattle.step_writer.proofs.receipts.put_received.Goals as goal
 use Rattle.step_writer.proofs.receipts.put_received.Goals.{After-count_array-counts}
 
 -- what was read of the table
-known : (c : After-count_array-counts) → Read c.args.table.now c.process_count-n.result c.message_count-m.result c.count_array-counts.result
-known c = table_read c.requires.can_receive.accepted c.process_count-n.ensures c.message_count-m.ensures c.count_array-counts.ensures
+known : (c : After-count_array-counts) → Read c.args.table.bytes.now c.process_count-n.result c.message_count-m.result c.count_array-counts.result
+known c = table_read c.args.table.accepted c.process_count-n.ensures c.message_count-m.ensures c.count_array-counts.ensures
 
 -- ---- the head
 pub bounds-counts-process : goal.bounds-counts-process
-bounds-counts-process c = omega (arith, processes_few _ c.requires.can_receive.accepted)
+bounds-counts-process c = omega (arith, processes_few _ c.args.table.accepted)
 
 pub overflow_add-counts : goal.overflow_add-counts
 overflow_add-counts c =
     omega (arith, count_small (known (goal.at.overflow_add-counts c).After-count_array-counts) c.requires.can_receive.known)
 
 pub bounds-counts-process-2 : goal.bounds-counts-process-2
-bounds-counts-process-2 c = omega (arith, processes_few _ c.requires.can_receive.accepted)
+bounds-counts-process-2 c = omega (arith, processes_few _ c.args.table.accepted)
 
 pub slice_bounds-counts-end : goal.slice_bounds-counts-end
-slice_bounds-counts-end c = omega (arith, processes_few _ c.requires.can_receive.accepted, length-set {A = ℕ})
+slice_bounds-counts-end c = omega (arith, processes_few _ c.args.table.accepted, length-set {A = ℕ})
 
 pub slice_bounds-put_head-end : goal.slice_bounds-put_head-end
 slice_bounds-put_head-end c =
-    sym (length-take-le _ _ (omega (arith, processes_few _ c.requires.can_receive.accepted, length-set {A = ℕ})))
+    sym (length-take-le _ _ (omega (arith, processes_few _ c.args.table.accepted, length-set {A = ℕ})))
 
 pub put_head-requires-clause-m_bound : goal.put_head-requires-clause-m_bound
-put_head-requires-clause-m_bound c = omega (arith, messages_few _ c.requires.can_receive.accepted)
+put_head-requires-clause-m_bound c = omega (arith, messages_few _ c.args.table.accepted)
 
 -- ---- the sends and the receipts
 pub sends_at-requires : goal.sends_at-requires
-sends_at-requires c = omega (arith, processes_few _ c.requires.can_receive.accepted)
+sends_at-requires c = omega (arith, processes_few _ c.args.table.accepted)
 
 pub copy_numbers-requires-clause-n_in_bounds : goal.copy_numbers-requires-clause-n_in_bounds
-copy_numbers-requires-clause-n_in_bounds c = omega (arith, ap length c.sends.ensures, sends_size _ c.requires.can_receive.accepted)
+copy_numbers-requires-clause-n_in_bounds c = omega (arith, ap length c.sends.ensures, sends_size _ c.args.table.accepted)
 
 pub receipts_at-requires : goal.receipts_at-requires
 receipts_at-requires c =
-    omega (arith, processes_few _ c.requires.can_receive.accepted, messages_few _ c.requires.can_receive.accepted)
+    omega (arith, processes_few _ c.args.table.accepted, messages_few _ c.args.table.accepted)
 
 pub put_receipts-requires-clause-receipts_len : goal.put_receipts-requires-clause-receipts_len
 put_receipts-requires-clause-receipts_len c =
-    omega (arith, ap length c.receipts.ensures, receipts_size _ c.requires.can_receive.accepted)
+    omega (arith, ap length c.receipts.ensures, receipts_size _ c.args.table.accepted)
 
 pub put_receipts-requires-clause-by_index : goal.put_receipts-requires-clause-by_index
 put_receipts-requires-clause-by_index c = positions_below c.requires.can_receive c.message_count-m.ensures
