@@ -115,7 +115,7 @@ impl<'a> Layout<'a> {
         is_set(marks, self.bit(p, usize::from(y)))
     }
 
-    // Marks the states of process p from y on. Behind one that is marked they all are.
+    // Marks the states of process p from y on. Behind one that is marked they all are, so it stops there.
     pub fn mark_from(&self, marks: &mut [u8], p: usize, y: usize)
         requires known { p < process_count (decode self.now.table.bytes.now) }
         requires there { y ≤ count_of (decode self.now.table.bytes.now) p + 1 }
