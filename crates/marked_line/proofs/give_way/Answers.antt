@@ -5,7 +5,7 @@ use Rattle.tables.proofs.ReadLaws.{processes_few}
 use Rattle.marked_line.proofs.give_way.Goals as goal
 
 pub loop-p-init : goal.loop-p-init
-loop-p-init c = giving_none (processes_few _ c.args.layout.now.accepted) c.requires.lent c.process_count-n.ensures
+loop-p-init c = giving_none (processes_few _ c.args.layout.now.table.accepted) c.requires.lent c.process_count-n.ensures
 
 pub latest_unmarked-requires : goal.latest_unmarked-requires
 unfolding ZeroUnmarked

@@ -9,13 +9,13 @@ use Rattle.marked_line.proofs.last_roots.Goals as goal
 
 pub loop-roots-smaller : goal.loop-roots-smaller
 loop-roots-smaller c =
-    running_falls c.loop-roots.invariant (processes_few _ c.args.layout.now.accepted) (sym c.loop-roots-test.true ∙ c.root_marked.ensures)
+    running_falls c.loop-roots.invariant (processes_few _ c.args.layout.now.table.accepted) (sym c.loop-roots-test.true ∙ c.root_marked.ensures)
     c.next_round-roots.ensures
 
 pub loop-roots-preserved : goal.loop-roots-preserved
 loop-roots-preserved c =
-    running_more c.loop-roots.invariant (processes_few _ c.args.layout.now.accepted) (sym c.loop-roots-test.true ∙ c.root_marked.ensures)
-    c.next_round-roots.ensures (facts _ c.args.layout.now.accepted).well_formed
+    running_more c.loop-roots.invariant (processes_few _ c.args.layout.now.table.accepted) (sym c.loop-roots-test.true ∙ c.root_marked.ensures)
+    c.next_round-roots.ensures (facts _ c.args.layout.now.table.accepted).well_formed
 
 pub returns : goal.returns
 returns c = record {

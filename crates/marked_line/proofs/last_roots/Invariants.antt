@@ -8,7 +8,7 @@ use Rattle.tables.specs.Table.{process_count}
 use Rattle.marked_line.proofs.last_roots.Given as goal
 
 abbrev pub invariant-loop-roots : goal.invariant-loop-roots
-invariant-loop-roots l = Running (decode l.layout.table.now) l.ceilings l.roots l.initial.marks l.marks
+invariant-loop-roots l = Running (decode l.layout.table.bytes.now) l.ceilings l.roots l.initial.marks l.marks
 
 abbrev pub decreases-loop-roots : goal.decreases-loop-roots
-decreases-loop-roots l = sum (take (process_count (decode l.layout.table.now)) l.roots)
+decreases-loop-roots l = sum (take (process_count (decode l.layout.table.bytes.now)) l.roots)

@@ -13,13 +13,13 @@ use Rattle.marked_line.proofs.latest_unmarked.Goals as goal
 use Rattle.marked_line.proofs.latest_unmarked.Goals.{After-find}
 
 found : (c : After-find)
-    → IfSome c.find.result (λ y. (y ≤ c.args.root) × (marked_in (decode c.args.layout.now.table.now) c.args.marks.now c.args.p y ≡ false))
+    → IfSome c.find.result (λ y. (y ≤ c.args.root) × (marked_in (decode c.args.layout.now.table.bytes.now) c.args.marks.now c.args.p y ≡ false))
 found c = search (rules, tests, ranges)
 
 -- the search takes a number of a range where a list is read at it, and so one is
 passed : (c : After-find) (y : ℕ) → get_or c.args.marks.now y 0 ≡ get_or c.args.marks.now y 0 → 0 < y → y ≤ c.args.root
-    → MatchOption c.find.result (marked_in (decode c.args.layout.now.table.now) c.args.marks.now c.args.p y ≡ true)
-    (λ y'. y' < y → marked_in (decode c.args.layout.now.table.now) c.args.marks.now c.args.p y ≡ true)
+    → MatchOption c.find.result (marked_in (decode c.args.layout.now.table.bytes.now) c.args.marks.now c.args.p y ≡ true)
+    (λ y'. y' < y → marked_in (decode c.args.layout.now.table.bytes.now) c.args.marks.now c.args.p y ≡ true)
 passed c y read l l' = search (rules, tests, ranges)
 
 pub returns : goal.returns

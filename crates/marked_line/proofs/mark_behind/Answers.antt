@@ -7,7 +7,7 @@ use Rattle.tables.proofs.ReadLaws.{processes_few}
 use Rattle.marked_line.proofs.mark_behind.Goals as goal
 
 pub loop-p-init : goal.loop-p-init
-loop-p-init c = behind_begins (processes_few _ c.args.layout.now.accepted) c.requires.lent c.process_count-n.ensures c.requires.unmarked
+loop-p-init c = behind_begins (processes_few _ c.args.layout.now.table.accepted) c.requires.lent c.process_count-n.ensures c.requires.unmarked
 
 pub mark_from-requires : goal.mark_from-requires
 mark_from-requires c =

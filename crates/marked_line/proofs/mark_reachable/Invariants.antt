@@ -6,7 +6,7 @@ use Rattle.tables.specs.Table.{process_count}
 use Rattle.marked_line.proofs.mark_reachable.Given as goal
 
 abbrev pub invariant-loop : goal.invariant-loop
-invariant-loop l = Growing (decode l.layout.table.now) l.roots l.initial.marks l.marks
+invariant-loop l = Growing (decode l.layout.table.bytes.now) l.roots l.initial.marks l.marks
 
 abbrev pub decreases-loop : goal.decreases-loop
-decreases-loop l = unset l.marks (first_bit (decode l.layout.table.now).counts (process_count (decode l.layout.table.now)))
+decreases-loop l = unset l.marks (first_bit (decode l.layout.table.bytes.now).counts (process_count (decode l.layout.table.bytes.now)))

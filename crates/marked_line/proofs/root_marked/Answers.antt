@@ -15,19 +15,19 @@ pub any-requires-clause-callable : goal.any-requires-clause-callable
 any-requires-clause-callable c =
     serves_from_Range (λ p q k. search (rules, tests))
     (λ p l below.
-    let over = over_all (processes_few _ c.args.layout.now.accepted) c.requires c.process_count-n.ensures in
+    let over = over_all (processes_few _ c.args.layout.now.table.accepted) c.requires c.process_count-n.ensures in
     let known = over_known over below in
     let bound = root-there over below in
     let there = root_within over below in
     search rules)
 
 some : (c : After-any) → c.any.result ≡ true → (p : ℕ) × (p < c.process_count-n.result)
-    × (root_marked (decode c.args.layout.now.table.now) c.args.roots.now c.args.marks.now p ≡ true)
+    × (root_marked (decode c.args.layout.now.table.bytes.now) c.args.roots.now c.args.marks.now p ≡ true)
 some c e = search (rules, tests, ranges)
 
 none : (c : After-any) → c.any.result ≡ false → (p : ℕ) → p < c.process_count-n.result
-    → root_marked (decode c.args.layout.now.table.now) c.args.roots.now c.args.marks.now p ≡ false
+    → root_marked (decode c.args.layout.now.table.bytes.now) c.args.roots.now c.args.marks.now p ≡ false
 none c e p l = search (rules, tests, ranges)
 
 pub returns : goal.returns
-returns c = asked_all (decode c.args.layout.now.table.now) c.args.roots.now c.args.marks.now c.any.result c.process_count-n.ensures (some c) (none c)
+returns c = asked_all (decode c.args.layout.now.table.bytes.now) c.args.roots.now c.args.marks.now c.any.result c.process_count-n.ensures (some c) (none c)
