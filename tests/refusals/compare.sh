@@ -308,6 +308,20 @@ inside && match($0, /number = [0-9]+/) { print substr($0, RSTART + 9, RLENGTH - 
 expected table none no no
 same crates/tables/specs/Checks.antt
 
+# What the calls refuse by name: the names of the code, by whose order they compare, the number that it gives to each, and
+# the number by definition.
+reads crates/tables/src/refusal.rt crates/tables/specs/Refusals.antt
+awk '/^pub enum Refusal / { inside = 1; next }
+/^}/ { inside = 0 }
+inside && match($0, /[A-Za-z]+/) { name[++n] = substr($0, RSTART, RLENGTH) }
+match($0, /Refusal::[A-Za-z]+ => [0-9]+,/) { split(substr($0, RSTART + 9, RLENGTH - 10), part, " => "); number[part[1]] = part[2] }
+END { for (i = 1; i <= n; i++) print number[name[i]] " " name[i] }' crates/tables/src/refusal.rt >"$work/found"
+expected all rust no no
+same crates/tables/src/refusal.rt
+sed -n 's/^refusal_number \([A-Za-z]*\) = \([0-9]*\)$/\2 \1/p' crates/tables/specs/Refusals.antt >"$work/found"
+expected all rust no no
+same crates/tables/specs/Refusals.antt
+
 # ---- the checks of each call
 
 # Compares what a file tells of the calls, name: checks, with the rows of the calls that are asked for.

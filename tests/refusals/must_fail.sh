@@ -16,11 +16,12 @@ prefix=refusals
 
 fresh() {
     rm -rf "$copy"
-    mkdir -p "$copy/docs" "$copy/tests/refusals" "$copy/tests/reference" "$copy/bindings/rust" "$copy/crates/tables/specs" || exit 1
+    mkdir -p "$copy/docs" "$copy/tests/refusals" "$copy/tests/reference" "$copy/bindings/rust" "$copy/crates/tables/specs" "$copy/crates/tables/src" || exit 1
     cp "$here/compare.sh" "$copy/tests/refusals" && cp "$root/docs/refusals.txt" "$root/docs/MANUAL.md" "$copy/docs" &&
         cp -r "$root/include" "$root/man" "$copy" && cp -r "$root/bindings/rust/src" "$copy/bindings/rust" &&
         cp -r "$root/tests/reference/src" "$copy/tests/reference" &&
-        cp "$root/crates/tables/specs/Checks.antt" "$copy/crates/tables/specs" || exit 1
+        cp "$root/crates/tables/src/refusal.rt" "$copy/crates/tables/src" &&
+        cp "$root/crates/tables/specs/Checks.antt" "$root/crates/tables/specs/Refusals.antt" "$copy/crates/tables/specs" || exit 1
 }
 
 tested() {
@@ -247,6 +248,13 @@ differs docs/MANUAL.md '/^| 25 |/s/more than 256/256 or more/' '25 (call)'
 differs docs/MANUAL.md '/^| `uint32_t keeper_lines_of_sets(/d' keeper_lines_of_sets
 differs docs/MANUAL.md '/^| `uint32_t keeper_lines_of_sets(/s/25, 12/12, 25/' keeper_lines_of_sets
 differs docs/MANUAL.md '/^| `uint32_t keeper_listing(/s/| 16 |/| |/' keeper_listing
+
+# The names of the code, and their definition.
+differs crates/tables/src/refusal.rt '/^    ChannelOutOfOrder,/{h;d;};/^    AnswerTooShort,/G' ChannelOutOfOrder
+differs crates/tables/src/refusal.rt 's/Refusal::MarksTooShort => 19,/Refusal::MarksTooShort => 15,/' MarksTooShort
+differs crates/tables/src/refusal.rt '/^    TableFull,/d' TableFull
+differs crates/tables/specs/Refusals.antt 's/^refusal_number BadList = 13/refusal_number BadList = 24/' BadList
+differs crates/tables/specs/Refusals.antt '/^refusal_number WrongLength = /d' WrongLength
 
 # The binding.
 differs bindings/rust/src/refusal.rs 's/SendToItself = 11/SendToItself = 12/' SendToItself
