@@ -15,6 +15,7 @@ pub fn lowest_line(lines: HeldLines) -> [u16; 32]
 {
     let mut lowest = [0u16; 32];
     for i in 0..lines.n {
+        // None stands below 65535 where each stands at it.
         lowest[i] = next_kept(lines, i, 0, 65535).unwrap_or(65535);
     }
     lowest

@@ -6,6 +6,6 @@ use Rattle.text_writer.proofs.put_byte.Goals.{then-at-text, else-at-text}
 pub returns : goal.returns
 returns c =
     elim c.if-at-text.branch [
-      then-at-text w ↦ rw w.text-is (laid_byte _ _ _ w.if-at-text.true)
-    | else-at-text w ↦ rw w.text-is (laid_beyond _ _ _ w.if-at-text.false)
+      | then-at-text w ↦ rw w.text-is (laid_byte _ _ _ w.if-at-text.true)
+      | else-at-text w ↦ rw w.text-is (laid_beyond _ _ _ w.if-at-text.false)
     ]
