@@ -24,7 +24,7 @@ use crate::sizes::{
 use chosen_ceilings::put_line_under;
 use holder_lines::fill_lines;
 use marked_line::put_marked_line;
-use named_checkpoints::{misses_named, named_line};
+use named_checkpoints::{NamedCheckpoints, misses_named, named_line};
 use refusals::{
     ceilings_refusal, checkpoint_refusal, marking_refusal, names_refusal, receipt_refusal,
     send_refusal, set_refusal, sheet_refusal,
@@ -61,7 +61,7 @@ pub fn recovery_line(bytes: &[u8], answer: &mut [u8]) -> Result<usize, Refusal>
 {
     let table = check(bytes)?;
     let size = fitting(line_size(table), answer.len())?;
-    lines::put_line_of_set(table.bytes, process_set::ALL, answer);
+    lines::put_line_of_set(table, process_set::ALL, answer);
     Ok(size)
 }
 
@@ -74,7 +74,7 @@ pub fn line_of_set(bytes: &[u8], set: u32, answer: &mut [u8]) -> Result<usize, R
 {
     let table = set_refusal(bytes, set)?;
     let size = fitting(line_size(table), answer.len())?;
-    lines::put_line_of_set(table.bytes, set, answer);
+    lines::put_line_of_set(table, set, answer);
     Ok(size)
 }
 
@@ -93,7 +93,7 @@ pub fn lines_of_sets(
 {
     let table = sets_refusal(bytes, sets, scratch.len())?;
     let size = fitting(lines_size(table, sets.len()), answer.len())?;
-    put_lines_of_sets(table.bytes, sets, scratch, answer);
+    put_lines_of_sets(table, sets, scratch, answer);
     Ok(size)
 }
 
@@ -106,7 +106,7 @@ pub fn line_under(bytes: &[u8], ceilings: &[u16], answer: &mut [u8]) -> Result<u
 {
     let table = ceilings_refusal(bytes, ceilings)?;
     let size = fitting(line_size(table), answer.len())?;
-    put_line_under(table.bytes, ceilings, answer);
+    put_line_under(table, ceilings, answer);
     Ok(size)
 }
 
@@ -127,7 +127,7 @@ pub fn marked_line(
 {
     let table = marking_refusal(bytes, ceilings, marks.len())?;
     let size = fitting(line_size(table), answer.len())?;
-    put_marked_line(table.bytes, ceilings, marks, answer);
+    put_marked_line(table, ceilings, marks, answer);
     Ok(size)
 }
 
@@ -146,12 +146,17 @@ pub fn stand_together(
         answer.new (length_in result before) }
 {
     let table = names_refusal(bytes, processes, states)?;
-    let line = named_line(table.bytes, processes, states);
-    if misses_named(line, processes, states) {
+    let names = NamedCheckpoints {
+        table,
+        processes,
+        states,
+    };
+    let line = named_line(names);
+    if misses_named(line, names) {
         return Ok(0);
     }
     let size = fitting(line_size(table), answer.len())?;
-    lines::put_line(table.bytes, line, answer);
+    lines::put_line(table, line, answer);
     Ok(size)
 }
 
@@ -164,7 +169,7 @@ pub fn send(bytes: &[u8], from: u16, to: u16, answer: &mut [u8]) -> Result<usize
 {
     let table = send_refusal(bytes, from, to)?;
     let size = fitting(send_size(table), answer.len())?;
-    put_send(table.bytes, from, to, answer);
+    put_send(table, from, to, answer);
     Ok(size)
 }
 
@@ -183,7 +188,7 @@ pub fn receive(
 {
     let table = receipt_refusal(bytes, process, list)?;
     let size = fitting(same_size(table), answer.len())?;
-    put_receipt(table.bytes, process, list, answer);
+    put_receipt(table, process, list, answer);
     Ok(size)
 }
 
@@ -197,7 +202,7 @@ pub fn save(bytes: &[u8], process: u16, list: &[u16], answer: &mut [u8]) -> Resu
 {
     let table = checkpoint_refusal(bytes, process, list)?;
     let size = fitting(same_size(table), answer.len())?;
-    put_checkpoint(table.bytes, process, list, answer);
+    put_checkpoint(table, process, list, answer);
     Ok(size)
 }
 
@@ -209,10 +214,10 @@ pub fn fall_back(bytes: &[u8], answer: &mut [u8]) -> Result<usize, Refusal>
         answer.new size) }
 {
     let table = check(bytes)?;
-    let line = lines::recovery_line(table.bytes);
-    let m = count_remaining(table.bytes, line);
+    let line = lines::recovery_line(table);
+    let m = count_remaining(table, line);
     let size = fitting(rollback_size(table, m), answer.len())?;
-    put_rollback(table.bytes, line, m, answer);
+    put_rollback(table, line, m, answer);
     Ok(size)
 }
 
@@ -225,10 +230,10 @@ pub fn keep_sheet(bytes: &[u8], scratch: &mut [u16], answer: &mut [u8]) -> Resul
     ensures demand { OnOk result (HoldsSheet (decode bytes.now) answer.new) }
 {
     let table = sheet_refusal(bytes, scratch.len())?;
-    fill_lines(table.bytes, scratch);
-    let kept = count_checkpoints(table.bytes, scratch);
-    let logged = count_messages(table.bytes, scratch);
+    fill_lines(table, scratch);
+    let kept = count_checkpoints(table, scratch);
+    let logged = count_messages(table, scratch);
     let size = fitting(sheet_size(kept, logged), answer.len())?;
-    put_sheet(table.bytes, scratch, kept, logged, answer);
+    put_sheet(table, scratch, kept, logged, answer);
     Ok(size)
 }

@@ -17,7 +17,7 @@ use chosen_ceilings::above_counts;
 use list_checks::passing::passes_over;
 use list_checks::positions::{bad_position, not_rising};
 use marks::marks_size;
-use named_checkpoints::{not_below_counts, unknown_process};
+use named_checkpoints::{NamedCheckpoints, not_below_counts, unknown_process};
 use process_set::has_high_bit;
 use run_table::checks::check;
 use tables::accepted::RunTable;
@@ -75,7 +75,7 @@ pub fn ceilings_refusal<'a>(bytes: &'a [u8], ceilings: &[u16]) -> Result<RunTabl
     if ceilings.len() != table.process_count() {
         return Err(Refusal::WrongCeilingCount);
     }
-    if above_counts(table.bytes, ceilings) {
+    if above_counts(table, ceilings) {
         return Err(Refusal::CeilingTooHigh);
     }
     Ok(table)
@@ -92,7 +92,7 @@ pub fn marking_refusal<'a>(
     ensures table { IfOk result (λ table. table.bytes.now ≡ bytes.now) }
 {
     let table = ceilings_refusal(bytes, ceilings)?;
-    if marks < marks_size(table.bytes) {
+    if marks < marks_size(table) {
         return Err(Refusal::MarksTooShort);
     }
     Ok(table)
@@ -112,10 +112,15 @@ pub fn names_refusal<'a>(
     if processes.len() != states.len() {
         return Err(Refusal::UnequalLists);
     }
-    if unknown_process(table.bytes, processes) || not_rising(processes) {
+    if unknown_process(table, processes) || not_rising(processes) {
         return Err(Refusal::BadNamedProcess);
     }
-    if not_below_counts(table.bytes, processes, states) {
+    let names = NamedCheckpoints {
+        table,
+        processes,
+        states,
+    };
+    if not_below_counts(names) {
         return Err(Refusal::NamedStateTooHigh);
     }
     Ok(table)
@@ -153,10 +158,10 @@ pub fn receipt_refusal<'a>(
     if unknown(table, process) {
         return Err(Refusal::UnknownProcess);
     }
-    if bad_position(table.bytes, process, list) || not_rising(list) {
+    if bad_position(table, process, list) || not_rising(list) {
         return Err(Refusal::BadList);
     }
-    if passes_over(table.bytes, process, list) {
+    if passes_over(table, process, list) {
         return Err(Refusal::MessagePassedOver);
     }
     Ok(table)

@@ -29,9 +29,10 @@ returns-then-unknown_process-clause-refusal c =
           (rw c.in_ok-table.ensures.table at (sym c.unknown_process.ensures ∙ w.if-unknown_process.false)) (sym w.not_rising.ensures ∙ w.if-not_rising.true)
     ])
 
-pub not_below_counts-requires-clause-parallel : goal.not_below_counts-requires-clause-parallel
-not_below_counts-requires-clause-parallel c =
-    parallel _ _ _ c.if-processes-states.false (sym c.unknown_process.ensures ∙ c.if-unknown_process.false)
+pub invariant_of-names : goal.invariant_of-names
+invariant_of-names c = record {
+  parallel = parallel _ _ _ c.if-processes-states.false (sym c.unknown_process.ensures ∙ c.if-unknown_process.false)
+}
 
 pub returns-then-not_below_counts-clause-refusal : goal.returns-then-not_below_counts-clause-refusal
 unfolding stand_together_checks

@@ -2,7 +2,7 @@
 use Rattle.call_checks.proofs.RefusalLaws.{QuietCall, quiet_names}
 use Rattle.call_checks.specs.CallChecks.{stand_together_checks}
 use Rattle.keeper.proofs.OutcomeLaws.{exit}
-use Rattle.keeper.proofs.StandingAnswers.{MeetsStanding, StandingOutcome, names_few, names_parallel, standing-no, standing-yes, standing_refused}
+use Rattle.keeper.proofs.StandingAnswers.{MeetsStanding, StandingOutcome, names_parallel, standing-no, standing-yes, standing_refused}
 use Rattle.keeper.proofs.StandingAnswers.{standing_short, told}
 use Rattle.keeper.proofs.answers.stand_together.Goals as goal
 use Rattle.keeper.proofs.answers.stand_together.Goals.{After-from_residual-in_err-size, Else-misses_named}
@@ -23,12 +23,10 @@ returns-in_err-table-clause-outcome c =
     λ before. (all before).0
 
 -- the line is found
-pub named_line-line-requires-clause-parallel : goal.named_line-line-requires-clause-parallel
-named_line-line-requires-clause-parallel c =
-    rw c.in_ok-table.ensures.table (names_parallel _ _ _ (quiet_names _ _ _ c.in_ok-table.ensures.refusal refl))
-
-pub misses_named-requires : goal.misses_named-requires
-misses_named-requires c = names_few _ _ _ (quiet_names _ _ _ c.in_ok-table.ensures.refusal refl)
+pub invariant_of-names : goal.invariant_of-names
+invariant_of-names c = record {
+  parallel = rw c.in_ok-table.ensures.table (names_parallel _ _ _ (quiet_names _ _ _ c.in_ok-table.ensures.refusal refl))
+}
 
 -- a no
 pub returns-then-misses_named : goal.returns-then-misses_named
