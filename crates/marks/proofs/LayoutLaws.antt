@@ -17,11 +17,11 @@ use lib.ListN.{get_or, length, replicate, set}
 use Rattle.marks.specs.Bits.{first_bit, most_bits}
 use Rattle.marks.specs.Room.{marks_size}
 use Rattle.tables.proofs.AcceptLaws.{facts}
-use Rattle.tables.proofs.ArrayLaws.{filled_more, filled_none}
+use Rattle.tables.proofs.ArrayLaws.{array_at, filled_more, filled_none}
 use Rattle.tables.proofs.FormatLaws.{count_beyond}
 use Rattle.tables.proofs.ListLaws.{get_or_tabulate, sum_more, tabulate-get_or}
 use Rattle.tables.proofs.ReadLaws.{processes_few}
-use Rattle.tables.specs.Arrays.{Filled}
+use Rattle.tables.specs.Arrays.{Filled, array_of}
 use Rattle.tables.specs.Checks.{table_refusal}
 use Rattle.tables.specs.Format.{decode}
 use Rattle.tables.specs.Lists.{sum, tabulate}
@@ -95,15 +95,17 @@ module _ (table : List ℕ) {first : List ℕ} {p : ℕ} (f : Filled (first_bit 
   pub firsts_here : get_or first p 0 ≡ first_bit (decode table).counts p
   firsts_here = f.front p (omega arith) (omega arith)
 
-  pub firsts_more : {count : ℕ} → count ≡ count_of (decode table) p
+  -- a count was read of them as an array
+  pub firsts_more : table_refusal table ≡ 0 → {array : List ℕ} → array ≡ array_of (decode table).counts → {count : ℕ} → count ≡ get_or array p 0
       → Filled (first_bit (decode table).counts) (p + 1 + 1) (replicate 33 0) (set first (p + 1) (get_or first p 0 + 1 + count))
-  unfolding count_of
-  firsts_more {count} e = filled_more f next refl
+  unfolding process_count
+  firsts_more accepted are {count} e = filled_more f next refl
     where
       next : get_or first p 0 + 1 + count ≡ first_bit (decode table).counts (p + 1)
       next =
           let place : p + 1 ≡ suc p = omega arith in
-          omega (arith, e, firsts_here, ap (first_bit (decode table).counts) place, first_more (decode table).counts p)
+          let count_is = e ∙ ap (λ (l : List ℕ). get_or l p 0) are ∙ array_at (decode table).counts (processes_few table accepted) p in
+          omega (arith, count_is, firsts_here, ap (first_bit (decode table).counts) place, first_more (decode table).counts p)
 
 -- an entry of the array; behind the last process stands the number of all bits
 pub first_at : (t : Table) {first : List ℕ} → first ≡ tabulate 33 (first_bit t.counts) → (p : ℕ) → p ≤ 32

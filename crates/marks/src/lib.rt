@@ -9,7 +9,6 @@ ghost use Rattle.tables.specs.Lists.{tabulate};
 ghost use Rattle.tables.specs.Table.{count_of, process_count};
 
 use tables::accepted::RunTable;
-use tables::lookups;
 
 // Whether bit b is set.
 fn is_set(marks: &[u8], b: usize) -> bool
@@ -53,9 +52,10 @@ pub fn clear(marks: &mut [u8], size: usize)
 fn first_bits(table: RunTable) -> [usize; 33]
     ensures { result ≡ tabulate 33 (first_bit (decode table.entry.bytes.now).counts) }
 {
+    let counts = table.count_array();
     let mut first = [0usize; 33];
-    for p in 0..32 {
-        first[p + 1] = first[p] + 1 + usize::from(lookups::count(table.bytes, p));
+    for (p, &count) in counts.iter().enumerate() {
+        first[p + 1] = first[p] + 1 + usize::from(count);
     }
     first
 }
