@@ -19,42 +19,40 @@ use holder_lines::scratch::HeldLines;
 use keeper::answers::{keep_sheet, told};
 use lines::recovery_line;
 use rounding::rounded_quotient;
+use tables::accepted::RunTable;
 use tables::numbers::u16_at;
 use tables::refusal::Refusal;
-use tables::{lookups, parts};
+use tables::lookups;
 
 // The bytes of a buffer that every listing fits: what `fits`, below, promises.
 pub const LISTING_ROOM: usize = 80000;
 
 // How many checkpoints the run of an accepted table holds.
-fn checkpoint_total(table: &[u8]) -> usize
-    requires { table_refusal table.now ≡ 0 }
-    ensures { result ≡ checkpoint_total (decode table.now) }
+fn checkpoint_total(table: RunTable) -> usize
+    ensures { result ≡ checkpoint_total (decode table.entry.bytes.now) }
 {
     let mut total = 0;
-    for p in 0..parts::process_count(table) {
-        total += lookups::count(table, p) as usize;
+    for p in 0..table.process_count() {
+        total += lookups::count(table.bytes, p) as usize;
     }
     total
 }
 
 // The share of the checkpoints that are kept, of 100, given their number.
-fn share_of(table: &[u8], kept: usize) -> u32
-    requires table_value { table_refusal table.now ≡ 0 }
-    requires kept_value { kept ≡ length (kept_checkpoints (decode table.now)) }
-    ensures { result ≡ share (decode table.now) }
+fn share_of(table: RunTable, kept: usize) -> u32
+    requires { kept ≡ length (kept_checkpoints (decode table.bytes.now)) }
+    ensures { result ≡ share (decode table.entry.bytes.now) }
 {
     rounded_quotient(100 * kept, checkpoint_total(table)) as u32
 }
 
 // Puts the listing of an accepted table, from the lines of single holders at the front of a scratch and
 // the keep sheet at the front of a buffer.
-fn put_listing(text: &mut [u8], table: &[u8], scratch: &[u16], sheet: &[u8]) -> usize
-    requires table_value { table_refusal table.now ≡ 0 }
-    requires answered { Answered (decode table.now) scratch.now sheet.now }
-    ensures { Laid text.old text.new 0 (listing (decode table.now)) result }
+fn put_listing(text: &mut [u8], table: RunTable, scratch: &[u16], sheet: &[u8]) -> usize
+    requires { Answered (decode table.bytes.now) scratch.now sheet.now }
+    ensures { Laid text.old text.new 0 (listing (decode table.entry.bytes.now)) result }
 {
-    let n = parts::process_count(table);
+    let n = table.process_count();
     let kept = u16_at(sheet, 0) as usize;
     let logged = u16_at(sheet, 2) as usize;
     let line = recovery_line(table);
@@ -82,7 +80,7 @@ fn put_text(
     ensures { Laid text.old text.new 0 (listing_of table.now) result }
 {
     match kept {
-        Ok(_) => put_listing(text, table, scratch, sheet),
+        Ok(_) => put_listing(text, RunTable { bytes: table }, scratch, sheet),
         Err(refusal) => rows::put_row(text, 0, b"refused", u32::from(refusal)),
     }
 }

@@ -8,7 +8,7 @@ pub loop-p-init : goal.loop-p-init
 loop-p-init c = summed_none _
 
 pub overflow_add-total : goal.overflow_add-total
-overflow_add-total c = omega (arith, c.loop-p.invariant, processes_few _ c.requires)
+overflow_add-total c = omega (arith, c.loop-p.invariant, processes_few _ c.args.table.accepted)
 
 pub loop-p-preserved : goal.loop-p-preserved
 loop-p-preserved c = summed_more _ _ _ c.loop-p.invariant (omega arith) _ c.count.ensures (omega arith)

@@ -4,4 +4,4 @@ use Rattle.listing_text.proofs.checkpoint_total.Given as goal
 use Rattle.tables.specs.Format.{decode}
 
 abbrev pub invariant-loop-p : goal.invariant-loop-p
-invariant-loop-p l = Summed (decode l.table) l.total l.p
+invariant-loop-p l = Summed (decode l.table.bytes.now) l.total l.p

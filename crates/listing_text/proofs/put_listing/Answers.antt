@@ -10,11 +10,11 @@ use Rattle.listing_text.proofs.put_listing.Goals.{After-recovery_line-line}
 
 -- what was read is the table's
 reading : (c : After-recovery_line-line)
-    → Reading c.args.table.now c.process_count-n.result c.recovery_line-line.result c.args.scratch.now c.args.sheet.now c.u16_at-kept.result
+    → Reading c.args.table.bytes.now c.process_count-n.result c.recovery_line-line.result c.args.scratch.now c.args.sheet.now c.u16_at-kept.result
     c.u16_at-logged.result
 reading c = record {
-  accepted = c.requires.table_value;
-  answered = c.requires.answered;
+  accepted = c.args.table.accepted;
+  answered = c.requires;
   n_is = c.process_count-n.ensures;
   line_is = c.recovery_line-line.ensures;
   k_is = c.u16_at-kept.ensures;
@@ -23,11 +23,11 @@ reading c = record {
 
 pub u16_at-kept-requires : goal.u16_at-kept-requires
 u16_at-kept-requires c =
-    omega (arith, sheet_long _ _ _ c.requires.answered)
+    omega (arith, sheet_long _ _ _ c.requires)
 
 pub u16_at-logged-requires : goal.u16_at-logged-requires
 u16_at-logged-requires c =
-    omega (arith, sheet_long _ _ _ c.requires.answered)
+    omega (arith, sheet_long _ _ _ c.requires)
 
 pub slice_bounds-line-end : goal.slice_bounds-line-end
 slice_bounds-line-end c =
@@ -68,11 +68,7 @@ put_messages-after_messages-requires c =
     }
 
 pub share_of-requires : goal.share_of-requires
-share_of-requires c =
-    record {
-      table_value = c.requires.table_value;
-      kept_value = kept_is (reading (goal.at.share_of-requires c).After-recovery_line-line);
-    }
+share_of-requires c = kept_is (reading (goal.at.share_of-requires c).After-recovery_line-line)
 
 pub put_row-requires : goal.put_row-requires
 unfolding share_row

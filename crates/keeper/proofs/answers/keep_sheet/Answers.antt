@@ -28,9 +28,9 @@ pub returns-in_err-table-clause-lines : goal.returns-in_err-table-clause-lines
 returns-in_err-table-clause-lines c =
     scratch_kept _ _ c.in_err-table.ensures.refusal (refused_some _)
 
-pub fill_lines-requires-clause-table_in_bounds : goal.fill_lines-requires-clause-table_in_bounds
-fill_lines-requires-clause-table_in_bounds c =
-    rw c.in_ok-table.ensures.table (scratch_long _ _ (quiet_sheet _ _ c.in_ok-table.ensures.refusal refl))
+pub fill_lines-requires : goal.fill_lines-requires
+fill_lines-requires c =
+    record { table_in_bounds = rw c.in_ok-table.ensures.table (scratch_long _ _ (quiet_sheet _ _ c.in_ok-table.ensures.refusal refl)) }
 
 pub count_checkpoints-kept-requires : goal.count_checkpoints-kept-requires
 count_checkpoints-kept-requires c =
