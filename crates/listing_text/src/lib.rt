@@ -20,9 +20,9 @@ use keeper::answers::{keep_sheet, told};
 use lines::recovery_line;
 use rounding::rounded_quotient;
 use tables::accepted::RunTable;
+use tables::lookups;
 use tables::numbers::u16_at;
 use tables::refusal::Refusal;
-use tables::lookups;
 
 // The bytes of a buffer that every listing fits: what `fits`, below, promises.
 pub const LISTING_ROOM: usize = 80000;
