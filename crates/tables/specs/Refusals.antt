@@ -1,4 +1,4 @@
--- The refusals, by the names of docs/refusals.txt, and their numbers. Assumes nothing.
+-- Of the code: the refusals, by the names of docs/refusals.txt, and their numbers. Assumes nothing.
 use Rattle.std.specs.Prelude.{Result, Ok, Err, ℕ}
 use Rattle.tables.specs.declared.refusal.Refusal.{Refusal}
 use Rattle.tables.specs.declared.refusal.Refusal.TheVariants.{AnswerTooShort, BadList, BadNamedProcess, CeilingTooHigh}

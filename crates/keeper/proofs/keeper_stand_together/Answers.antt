@@ -1,5 +1,4 @@
 -- The outcome, as numbers.
-use Rattle.keeper.proofs.OutcomeLaws.{told_holds}
 use Rattle.keeper.proofs.keeper_stand_together.Goals as goal
 
 pub returns : goal.returns

@@ -38,12 +38,12 @@ pub returns-then-not_below_counts-clause-refusal : goal.returns-then-not_below_c
 unfolding stand_together_checks
 returns-then-not_below_counts-clause-refusal c =
     catches (next (next (own_left _ _ (sym c.in_ok-table.ensures.refusal)) (ap not (eq-eqb _ _ c.if-processes-states.false)))
-        (neither _ _ (rw c.in_ok-table.ensures.table at (sym c.unknown_process.ensures ∙ c.if-unknown_process.false))
-        (sym c.not_rising.ensures ∙ c.if-not_rising.false))) (cc c.in_ok-table.ensures.table)
+    (neither _ _ (rw c.in_ok-table.ensures.table at (sym c.unknown_process.ensures ∙ c.if-unknown_process.false))
+    (sym c.not_rising.ensures ∙ c.if-not_rising.false))) (cc c.in_ok-table.ensures.table)
 
 pub returns-clause-refusal : goal.returns-clause-refusal
 unfolding stand_together_checks
 returns-clause-refusal c =
     none_left (next (next (next (own_left _ _ (sym c.in_ok-table.ensures.refusal)) (ap not (eq-eqb _ _ c.if-processes-states.false)))
-        (neither _ _ (rw c.in_ok-table.ensures.table at (sym c.unknown_process.ensures ∙ c.if-unknown_process.false))
-        (sym c.not_rising.ensures ∙ c.if-not_rising.false))) (cc c.in_ok-table.ensures.table))
+    (neither _ _ (rw c.in_ok-table.ensures.table at (sym c.unknown_process.ensures ∙ c.if-unknown_process.false))
+    (sym c.not_rising.ensures ∙ c.if-not_rising.false))) (cc c.in_ok-table.ensures.table))

@@ -33,16 +33,16 @@ returns-then-bad_position-clause-refusal c =
 good_list : (c : Else-not_rising) → (any (bad_position (decode c.args.bytes.now) c.args.process) c.args.list.now || not_rising c.args.list.now) ≡ false
 good_list c =
     neither _ _ (rw c.in_ok-table.ensures.table at (sym c.bad_position.ensures ∙ c.if-bad_position.false))
-        (sym c.not_rising.ensures ∙ c.if-not_rising.false)
+    (sym c.not_rising.ensures ∙ c.if-not_rising.false)
 
 pub returns-then-passes_over-clause-refusal : goal.returns-then-passes_over-clause-refusal
 unfolding receipt_call_checks receipt_checks
 returns-then-passes_over-clause-refusal c =
     catches (next (next (own_left _ _ (sym c.in_ok-table.ensures.refusal)) (cc c.in_ok-table.ensures.table))
-        (good_list (goal.at.returns-then-passes_over-clause-refusal c).Else-not_rising)) (cc c.in_ok-table.ensures.table)
+    (good_list (goal.at.returns-then-passes_over-clause-refusal c).Else-not_rising)) (cc c.in_ok-table.ensures.table)
 
 pub returns-clause-refusal : goal.returns-clause-refusal
 unfolding receipt_call_checks receipt_checks
 returns-clause-refusal c =
     none_left (next (next (next (own_left _ _ (sym c.in_ok-table.ensures.refusal)) (cc c.in_ok-table.ensures.table))
-        (good_list (goal.at.returns-clause-refusal c).Else-not_rising)) (cc c.in_ok-table.ensures.table))
+    (good_list (goal.at.returns-clause-refusal c).Else-not_rising)) (cc c.in_ok-table.ensures.table))

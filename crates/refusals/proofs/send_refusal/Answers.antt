@@ -35,16 +35,16 @@ pub returns-then-from-to-clause-refusal : goal.returns-then-from-to-clause-refus
 unfolding send_call_checks send_checks
 returns-then-from-to-clause-refusal c =
     catches (next (own_left _ _ (sym c.in_ok-table.ensures.refusal)) (known (goal.at.returns-then-from-to-clause-refusal c).Else-unknown-2))
-        (eq-eqb _ _ c.if-from-to.true)
+    (eq-eqb _ _ c.if-from-to.true)
 
 pub returns-then-full_of_messages-clause-refusal : goal.returns-then-full_of_messages-clause-refusal
 unfolding send_call_checks send_checks
 returns-then-full_of_messages-clause-refusal c =
     catches (next (next (own_left _ _ (sym c.in_ok-table.ensures.refusal)) (known (goal.at.returns-then-full_of_messages-clause-refusal c).Else-unknown-2))
-        (ne_eqb _ _ c.if-from-to.false)) (cc c.in_ok-table.ensures.table)
+    (ne_eqb _ _ c.if-from-to.false)) (cc c.in_ok-table.ensures.table)
 
 pub returns-clause-refusal : goal.returns-clause-refusal
 unfolding send_call_checks send_checks
 returns-clause-refusal c =
     none_left (next (next (next (own_left _ _ (sym c.in_ok-table.ensures.refusal)) (known (goal.at.returns-clause-refusal c).Else-unknown-2))
-        (ne_eqb _ _ c.if-from-to.false)) (cc c.in_ok-table.ensures.table))
+    (ne_eqb _ _ c.if-from-to.false)) (cc c.in_ok-table.ensures.table))

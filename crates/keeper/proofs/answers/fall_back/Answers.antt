@@ -1,13 +1,10 @@
 -- Its outcome, at each return.
-use Rattle.call_checks.proofs.RefusalLaws.{quiet_marking, quiet_names, quiet_receipt, quiet_receive, quiet_save, quiet_send, quiet_set, quiet_sets, quiet_sheet}
-use Rattle.call_checks.proofs.RefusalLaws.{quiet_table, quiet_under, marks_long, scratch_long, sets_few, sets_scratch_long}
-use Rattle.calls.proofs.AnswerLaws.{sixteen}
-use Rattle.calls.proofs.LineAnswers.{ceilings_accepted, line_judged}
+use Rattle.call_checks.proofs.RefusalLaws.{quiet_table}
 use Rattle.calls.specs.Calls.{rollback_answer}
-use Rattle.keeper.proofs.OutcomeLaws.{before_exit, exit, fits, short_exit}
-use Rattle.keeper.proofs.StepAnswers.{can_receive, checkpoint_judged, receipt_judged, rollback_judged, send_judged, sender_known}
+use Rattle.keeper.proofs.OutcomeLaws.{before_exit, fits, short_exit}
+use Rattle.keeper.proofs.StepAnswers.{rollback_judged}
 use Rattle.keeper.proofs.answers.fall_back.Goals as goal
-use Rattle.std.proofs.Common.{arith, refl, rules, sym, ap, ◌∙◌}
+use Rattle.std.proofs.Common.{arith, refl}
 use Rattle.steps.proofs.StepLaws.{rollback_fewer}
 use Rattle.tables.proofs.ReadLaws.{messages_few}
 use Rattle.tables.specs.Checks.{table_refusal}

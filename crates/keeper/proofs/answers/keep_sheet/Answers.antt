@@ -1,15 +1,15 @@
 -- Its outcome, at each return.
-use Rattle.call_checks.proofs.RefusalLaws.{quiet_marking, quiet_names, quiet_receipt, quiet_receive, quiet_save, quiet_send, quiet_set, quiet_sets, quiet_sheet}
-use Rattle.call_checks.proofs.RefusalLaws.{quiet_table, quiet_under, marks_long, scratch_long, sets_few, sets_scratch_long}
+use Rattle.call_checks.proofs.RefusalLaws.{quiet_sheet}
+use Rattle.call_checks.proofs.RefusalLaws.{scratch_long}
 use Rattle.calls.proofs.SheetAnswer.{scratch_filled, scratch_kept, sheet_judged}
 use Rattle.calls.specs.Calls.{keep_sheet_answer}
 use Rattle.holder_lines.proofs.ScratchLaws.{lines-stand}
 use Rattle.holder_lines.specs.Scratch.{LinesOf}
 use Rattle.keep_sheet.proofs.FewLaws.{kept_few}
-use Rattle.keeper.proofs.OutcomeLaws.{before_exit, exit, fits, short_exit}
+use Rattle.keeper.proofs.OutcomeLaws.{before_exit, fits, short_exit}
 use Rattle.keeper.proofs.answers.keep_sheet.Goals as goal
 use Rattle.keeper.proofs.answers.keep_sheet.Goals.{After-fill_lines}
-use Rattle.std.proofs.Common.{arith, refl, rules, sym, ap, ◌∙◌}
+use Rattle.std.proofs.Common.{arith, refl}
 use Rattle.tables.proofs.RefusedLaws.{refused_some}
 
 -- the scratch has the lines, from where they were filled

@@ -1,14 +1,12 @@
 -- Its outcome, at each return.
-use Rattle.call_checks.proofs.RefusalLaws.{quiet_marking, quiet_names, quiet_receipt, quiet_receive, quiet_save, quiet_send, quiet_set, quiet_sets, quiet_sheet}
-use Rattle.call_checks.proofs.RefusalLaws.{quiet_table, quiet_under, marks_long, scratch_long, sets_few, sets_scratch_long}
-use Rattle.calls.proofs.AnswerLaws.{sixteen}
-use Rattle.calls.proofs.LineAnswers.{ceilings_accepted, line_judged}
+use Rattle.call_checks.proofs.RefusalLaws.{quiet_set}
+use Rattle.calls.proofs.LineAnswers.{line_judged}
 use Rattle.calls.specs.Calls.{line_answer, line_of_set_answer}
 use Rattle.consistency.proofs.CeilingLaws.{set_ceiling}
 use Rattle.consistency.specs.Ceilings.{line_of}
-use Rattle.keeper.proofs.OutcomeLaws.{before_exit, exit, fits, short_exit}
+use Rattle.keeper.proofs.OutcomeLaws.{before_exit, fits, short_exit}
 use Rattle.keeper.proofs.answers.line_of_set.Goals as goal
-use Rattle.std.proofs.Common.{arith, refl, rules, sym, ap, ◌∙◌}
+use Rattle.std.proofs.Common.{refl}
 
 pub returns-in_err-table-clause-outcome : goal.returns-in_err-table-clause-outcome
 unfolding line_of_set_answer line_answer line_of

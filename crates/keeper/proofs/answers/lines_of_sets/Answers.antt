@@ -1,11 +1,11 @@
 -- Its outcome, at each return.
-use Rattle.call_checks.proofs.RefusalLaws.{quiet_marking, quiet_names, quiet_receipt, quiet_receive, quiet_save, quiet_send, quiet_set, quiet_sets, quiet_sheet}
-use Rattle.call_checks.proofs.RefusalLaws.{quiet_table, quiet_under, marks_long, scratch_long, sets_few, sets_scratch_long}
+use Rattle.call_checks.proofs.RefusalLaws.{quiet_sets}
+use Rattle.call_checks.proofs.RefusalLaws.{sets_few, sets_scratch_long}
 use Rattle.calls.proofs.SetAnswers.{sets_judged, sets_scratch_filled, sets_scratch_kept}
 use Rattle.calls.specs.Calls.{lines_of_sets, lines_of_sets_answer, scratch_of_sets}
 use Rattle.keeper.proofs.OutcomeLaws.{before_exit, exit, fits, short_exit}
 use Rattle.keeper.proofs.answers.lines_of_sets.Goals as goal
-use Rattle.std.proofs.Common.{◌≡◌, arith, refl, rules, sym, ap, ◌∙◌}
+use Rattle.std.proofs.Common.{◌≡◌, refl}
 use Rattle.tables.proofs.RefusedLaws.{refused_some}
 use Rattle.tables.specs.Refusals.{refusal_in}
 

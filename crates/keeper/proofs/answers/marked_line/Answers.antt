@@ -1,6 +1,5 @@
 -- Its outcome, at each return.
-use Rattle.call_checks.proofs.RefusalLaws.{QuietCall, marks_long, quiet_marking}
-use Rattle.call_checks.specs.CallChecks.{marked_line_checks}
+use Rattle.call_checks.proofs.RefusalLaws.{marks_long, quiet_marking}
 use Rattle.keeper.proofs.MarkingAnswers.{MarkedOutcome, MeetsByMarking, marked_answered, marked_ceiling, marked_refused, marked_short}
 use Rattle.keeper.proofs.OutcomeLaws.{exit}
 use Rattle.keeper.proofs.answers.marked_line.Goals as goal

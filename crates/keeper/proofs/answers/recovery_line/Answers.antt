@@ -1,16 +1,14 @@
 -- Its outcome, at each return.
-use Rattle.call_checks.proofs.RefusalLaws.{quiet_marking, quiet_names, quiet_receipt, quiet_receive, quiet_save, quiet_send, quiet_set, quiet_sets, quiet_sheet}
-use Rattle.call_checks.proofs.RefusalLaws.{quiet_table, quiet_under, marks_long, scratch_long, sets_few, sets_scratch_long}
-use Rattle.calls.proofs.AnswerLaws.{sixteen}
-use Rattle.calls.proofs.LineAnswers.{ceilings_accepted, line_judged}
+use Rattle.call_checks.proofs.RefusalLaws.{quiet_table}
+use Rattle.calls.proofs.LineAnswers.{line_judged}
 use Rattle.calls.specs.Calls.{line_answer, recovery_line_answer}
 use Rattle.consistency.proofs.CeilingLaws.{set_ceiling}
 use Rattle.consistency.specs.Ceilings.{line_of, recovery_line}
-use Rattle.keeper.proofs.OutcomeLaws.{before_exit, exit, fits, short_exit}
+use Rattle.keeper.proofs.OutcomeLaws.{before_exit, fits, short_exit}
 use Rattle.keeper.proofs.answers.recovery_line.Goals as goal
 use Rattle.lines.proofs.LineReads.{all_hold_lem}
 use Rattle.process_set.specs.Sets.{all_processes}
-use Rattle.std.proofs.Common.{arith, refl, rules, sym, ap, ◌∙◌}
+use Rattle.std.proofs.Common.{refl}
 use Rattle.tables.specs.Checks.{table_refusal}
 
 pub returns-in_err-table-clause-outcome : goal.returns-in_err-table-clause-outcome

@@ -1,6 +1,5 @@
 -- Its outcome, at each return.
-use Rattle.call_checks.proofs.RefusalLaws.{QuietCall, quiet_names}
-use Rattle.call_checks.specs.CallChecks.{stand_together_checks}
+use Rattle.call_checks.proofs.RefusalLaws.{quiet_names}
 use Rattle.keeper.proofs.OutcomeLaws.{exit}
 use Rattle.keeper.proofs.StandingAnswers.{MeetsStanding, StandingOutcome, names_parallel, standing-no, standing-yes, standing_refused}
 use Rattle.keeper.proofs.StandingAnswers.{standing_short, told}
