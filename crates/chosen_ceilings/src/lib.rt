@@ -10,8 +10,7 @@ ghost use Rattle.tables.specs.Numbers.{put_at, u16s};
 ghost use Rattle.tables.specs.Table.{most_processes, process_count};
 
 use lines::{line_under, put_line};
-use tables::accepted::RunTable;
-use tables::parts::number_array;
+use tables::parts::{RunTable, number_array};
 
 // Whether one of N ceilings is above the count of its process in an accepted table.
 pub fn above_counts(table: RunTable, ceilings: &[u16]) -> bool

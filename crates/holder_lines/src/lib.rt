@@ -18,7 +18,7 @@ ghost use Rattle.tables.specs.Table.{process_count};
 use lines::{ceiling_of_set, settled_line};
 use number_writer::store_numbers;
 use process_set::bit;
-use tables::accepted::RunTable;
+use tables::parts::RunTable;
 
 // Whether a rollback of each process of an accepted table to its last checkpoint propagates.
 pub fn propagating(table: RunTable) -> [bool; 32]

@@ -4,7 +4,7 @@ ghost use Rattle.call_checks.specs.CallChecks.{most_sets};
 ghost use Rattle.tables.specs.Format.{decode, table_length};
 ghost use Rattle.tables.specs.Table.{message_count, most_messages, process_count};
 
-use tables::accepted::RunTable;
+use tables::parts::RunTable;
 use tables::format::table_length;
 use tables::refusal::Refusal;
 

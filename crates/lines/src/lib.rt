@@ -16,7 +16,7 @@ ghost use Rattle.tables.specs.Table.{process_count};
 
 use number_writer::put_numbers;
 use settling::settle;
-use tables::accepted::RunTable;
+use tables::parts::RunTable;
 
 // The line under a ceiling in an accepted table. A few passes are tried first where `few` says so; it
 // says afterwards whether they are worth another try: not once they did not settle a line.

@@ -6,7 +6,7 @@ ghost use Rattle.tables.specs.Format.{decode};
 ghost use Rattle.tables.specs.Lists.{any};
 
 use crate::positions::entry_waits;
-use tables::accepted::RunTable;
+use tables::parts::RunTable;
 use tables::numbers::u16_at;
 
 // Whether an older entry that waits for the process, and is not listed, has the sender of a listed one. One walk up

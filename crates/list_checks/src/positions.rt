@@ -5,7 +5,7 @@ ghost use Rattle.steps.specs.Steps.{bad_position, not_rising};
 ghost use Rattle.tables.specs.Format.{decode};
 ghost use Rattle.tables.specs.Lists.{any};
 
-use tables::accepted::RunTable;
+use tables::parts::RunTable;
 use tables::numbers::u16_at;
 
 // Whether an entry of a list is not above the one before it.

@@ -19,7 +19,7 @@ use holder_lines::scratch::HeldLines;
 use keeper::answers::{keep_sheet, told};
 use lines::recovery_line;
 use rounding::rounded_quotient;
-use tables::accepted::RunTable;
+use tables::parts::RunTable;
 use tables::lookups;
 use tables::numbers::u16_at;
 use tables::refusal::Refusal;

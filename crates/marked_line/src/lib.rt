@@ -17,8 +17,7 @@ ghost use Rattle.tables.specs.Table.{count_of, process_count};
 
 use lines::put_line;
 use marks::{Layout, clear};
-use tables::accepted::RunTable;
-use tables::parts::number_array;
+use tables::parts::{RunTable, number_array};
 
 // Marks the states behind the roots, where nothing is marked.
 fn mark_behind(layout: &Layout, roots: &[u16], marks: &mut [u8])

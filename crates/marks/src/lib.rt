@@ -8,7 +8,7 @@ ghost use Rattle.tables.specs.Format.{decode};
 ghost use Rattle.tables.specs.Lists.{tabulate};
 ghost use Rattle.tables.specs.Table.{count_of, process_count};
 
-use tables::accepted::RunTable;
+use tables::parts::RunTable;
 
 // Whether bit b is set.
 fn is_set(marks: &[u8], b: usize) -> bool

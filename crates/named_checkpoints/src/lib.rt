@@ -11,7 +11,7 @@ ghost use Rattle.zigzag.specs.Names.{not_below_counts, unknown_named};
 ghost use Rattle.zigzag.specs.Together.{misses, named_ceiling, named_line};
 
 use lines::line_under;
-use tables::accepted::RunTable;
+use tables::parts::RunTable;
 
 // Whether one of the processes is none of an accepted table's.
 pub fn unknown_process(table: RunTable, processes: &[u16]) -> bool

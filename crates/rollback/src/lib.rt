@@ -10,7 +10,7 @@ ghost use Rattle.tables.specs.Table.{message_count, process_count};
 ghost use Rattle.rollback.specs.Rollback.{AtLine, receipt_left};
 
 use table_writer::{put_entry, put_head};
-use tables::accepted::RunTable;
+use tables::parts::RunTable;
 use tables::format::sends_at;
 use tables::numbers::u16_at;
 

@@ -10,7 +10,7 @@ ghost use Rattle.run_table.specs.EntryChecks.{first_place, message_checks, messa
 ghost use Rattle.run_table.specs.EntryChecks.{refusal_at, to_itself_at, unknown_at};
 
 use channels::behind_neighbour;
-use tables::accepted::RunTable;
+use tables::parts::RunTable;
 use tables::format::{
     COUNTS_AT, MOST_CHECKPOINTS, MOST_MESSAGES, MOST_PROCESSES, receipts_at, sends_at, table_length,
 };

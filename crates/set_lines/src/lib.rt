@@ -15,7 +15,7 @@ use holder_lines::fill_lines;
 use holder_lines::scratch::HeldLines;
 use member_lines::line_of_members;
 use number_writer::put_numbers;
-use tables::accepted::RunTable;
+use tables::parts::RunTable;
 
 // Writes the lines of sets of an accepted table, one after another, to the front of a buffer that has room
 // for them, from a scratch that has the lines of single holders.

@@ -10,7 +10,7 @@ ghost use Rattle.tables.specs.Refusals.{refusal_in};
 use process_set::some_high_bit;
 use refusals::short_of_lines;
 use run_table::checks::check;
-use tables::accepted::RunTable;
+use tables::parts::RunTable;
 use tables::refusal::Refusal;
 
 // The most sets that one call takes.

@@ -15,7 +15,7 @@ use crate::writer::SheetWriter;
 use crate::writing::{Column, Part};
 use holder_lines::scratch::HeldLines;
 use sheet_entries::{checkpoints, messages};
-use tables::accepted::RunTable;
+use tables::parts::RunTable;
 
 // K, the number of checkpoints that are kept.
 pub fn count_checkpoints(table: RunTable, scratch: &[u16]) -> usize

@@ -7,7 +7,7 @@ ghost use Rattle.sheet_writer.specs.Writers.{written};
 ghost use Rattle.tables.specs.Format.{decode};
 
 use crate::writing::{Part, put_part};
-use tables::accepted::RunTable;
+use tables::parts::RunTable;
 
 #[derive(Drop)]
 pub struct SheetWriter<'a> {

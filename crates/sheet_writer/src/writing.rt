@@ -11,7 +11,7 @@ ghost use Rattle.tables.specs.Parts.{Counts, Messages};
 use holder_lines::scratch::HeldLines;
 use sheet_entries::checkpoints::next_kept;
 use sheet_entries::messages::{is_kept, lowest_line};
-use tables::accepted::RunTable;
+use tables::parts::RunTable;
 use tables::numbers::{put_u16, u16_at};
 
 // The two arrays of the kept checkpoints: their processes, and their numbers.

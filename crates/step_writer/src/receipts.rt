@@ -10,7 +10,7 @@ ghost use Rattle.step_writer.specs.Receipts.{CanReceive, after_receiving, receip
 
 use number_writer::copy_numbers;
 use table_writer::put_head;
-use tables::accepted::RunTable;
+use tables::parts::RunTable;
 use tables::format::{receipts_at, sends_at};
 use tables::numbers::put_u16;
 

@@ -8,7 +8,7 @@ ghost use Rattle.tables.specs.Table.{message_count, process_count};
 
 use number_writer::copy_numbers;
 use table_writer::{put_entry, put_head};
-use tables::accepted::RunTable;
+use tables::parts::RunTable;
 use tables::format::{receipts_at, sends_at};
 
 // Copies an array of m entries, and one entry more, to a place of a buffer that has room for them.

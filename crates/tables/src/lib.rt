@@ -3,7 +3,6 @@
 // `run_table`.
 #![tactic(auto)]
 
-pub mod accepted;
 pub mod format;
 pub mod lookups;
 pub mod messages;

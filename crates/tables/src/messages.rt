@@ -2,13 +2,11 @@
 #![tactic(auto, unfolding(crate::specs::Format::message_at, crate::specs::Format::checkpoint_at))]
 
 ghost use Rattle.std.specs.Prelude.{◌≡◌, ◌<◌};
-ghost use Rattle.tables.specs.Checks.{table_refusal};
-ghost use Rattle.tables.specs.Format.{decode, message_at, receipts_part, sends_part};
+ghost use Rattle.tables.specs.Format.{message_at};
 ghost use Rattle.tables.specs.Parts.{Messages};
-ghost use Rattle.tables.specs.Table.{message_count, most_processes};
+ghost use Rattle.tables.specs.Table.{most_processes};
 
 use crate::numbers::u16_at;
-use crate::parts;
 
 // The sends and the receipts of so many messages between known processes.
 #[derive(Clone, Copy)]
@@ -20,20 +18,6 @@ pub struct MessageParts<'a> {
 }
 
 impl<'a> MessageParts<'a> {
-    // Those of an accepted table.
-    pub fn of(table: &'a [u8]) -> Self
-        requires { table_refusal table.now ≡ 0 }
-        ensures count { result.count ≡ message_count (decode table.now) }
-        ensures sends { result.sends.now ≡ sends_part table.now }
-        ensures receipts { result.receipts.now ≡ receipts_part table.now }
-    {
-        MessageParts {
-            sends: parts::sends(table),
-            receipts: parts::receipts(table),
-            count: parts::message_count(table),
-        }
-    }
-
     // The sender of message k.
     pub fn sender(self, k: usize) -> usize
         requires { k < self.count }

@@ -1,11 +1,11 @@
--- `parts::count_array` meets its contract: each count that is read is the table's, and the array that it fills is that of the counts.
+-- `RunTable::count_array` meets its contract: each count that is read is the table's, and the array that it fills is that of the counts.
 use Rattle.tables.proofs.ArrayLaws.{filling_array, filling_more, filling_none}
 use Rattle.tables.proofs.ReadLaws.{count_read, counts_read}
 use Rattle.tables.specs.Table.{count_of, process_count}
-use Rattle.tables.proofs.parts.count_array.Goals as goal
+use Rattle.tables.proofs.parts.RunTable.count_array.Goals as goal
 
 pub loop-p-init : goal.loop-p-init
-loop-p-init c = record { read = counts_read c.requires c.process_count-n.ensures c.counts-part.ensures; filling = filling_none }
+loop-p-init c = record { read = counts_read c.args.self.accepted c.process_count-n.ensures c.counts-part.ensures; filling = filling_none }
 
 pub loop-p-preserved : goal.loop-p-preserved
 unfolding count_of
