@@ -53,7 +53,7 @@ pub fn told(outcome: Result<usize, Refusal>, written: &mut usize) -> u32
 }
 
 // The recovery line.
-pub fn recovery_line(bytes: &[u8], answer: &mut [u8]) -> Result<usize, Refusal>
+pub(crate) fn recovery_line(bytes: &[u8], answer: &mut [u8]) -> Result<usize, Refusal>
     ensures outcome { Outcome (recovery_line_answer bytes.now (length answer.old)) result
         answer.old answer.new }
     ensures latest { OnOk result (HoldsLatest bytes.now
@@ -66,7 +66,7 @@ pub fn recovery_line(bytes: &[u8], answer: &mut [u8]) -> Result<usize, Refusal>
 }
 
 // The line of a set.
-pub fn line_of_set(bytes: &[u8], set: u32, answer: &mut [u8]) -> Result<usize, Refusal>
+pub(crate) fn line_of_set(bytes: &[u8], set: u32, answer: &mut [u8]) -> Result<usize, Refusal>
     ensures outcome { Outcome (line_of_set_answer bytes.now set (length answer.old)) result
         answer.old answer.new }
     ensures latest { OnOk result (HoldsLatest bytes.now
@@ -79,7 +79,7 @@ pub fn line_of_set(bytes: &[u8], set: u32, answer: &mut [u8]) -> Result<usize, R
 }
 
 // The lines of many sets.
-pub fn lines_of_sets(
+pub(crate) fn lines_of_sets(
     bytes: &[u8],
     sets: &[u32],
     scratch: &mut [u16],
@@ -98,7 +98,11 @@ pub fn lines_of_sets(
 }
 
 // The line under ceilings.
-pub fn line_under(bytes: &[u8], ceilings: &[u16], answer: &mut [u8]) -> Result<usize, Refusal>
+pub(crate) fn line_under(
+    bytes: &[u8],
+    ceilings: &[u16],
+    answer: &mut [u8],
+) -> Result<usize, Refusal>
     ensures outcome { Outcome
         (line_under_answer bytes.now ceilings.now (length answer.old)) result
         answer.old answer.new }
@@ -111,7 +115,7 @@ pub fn line_under(bytes: &[u8], ceilings: &[u16], answer: &mut [u8]) -> Result<u
 }
 
 // The line under ceilings, by marking.
-pub fn marked_line(
+pub(crate) fn marked_line(
     bytes: &[u8],
     ceilings: &[u16],
     marks: &mut [u8],
@@ -132,7 +136,7 @@ pub fn marked_line(
 }
 
 // Whether named checkpoints stand together.
-pub fn stand_together(
+pub(crate) fn stand_together(
     bytes: &[u8],
     processes: &[u16],
     states: &[u16],
@@ -161,7 +165,7 @@ pub fn stand_together(
 }
 
 // The table after a send.
-pub fn send(bytes: &[u8], from: u16, to: u16, answer: &mut [u8]) -> Result<usize, Refusal>
+pub(crate) fn send(bytes: &[u8], from: u16, to: u16, answer: &mut [u8]) -> Result<usize, Refusal>
     ensures outcome { Outcome (send_answer bytes.now from to (length answer.old)) result
         answer.old answer.new }
     ensures table { IfOk result (λ size. HoldsTable (step (decode bytes.now) (send from to))
@@ -174,7 +178,7 @@ pub fn send(bytes: &[u8], from: u16, to: u16, answer: &mut [u8]) -> Result<usize
 }
 
 // The table after a receipt.
-pub fn receive(
+pub(crate) fn receive(
     bytes: &[u8],
     process: u16,
     list: &[u16],
@@ -193,7 +197,12 @@ pub fn receive(
 }
 
 // The table after a checkpoint.
-pub fn save(bytes: &[u8], process: u16, list: &[u16], answer: &mut [u8]) -> Result<usize, Refusal>
+pub(crate) fn save(
+    bytes: &[u8],
+    process: u16,
+    list: &[u16],
+    answer: &mut [u8],
+) -> Result<usize, Refusal>
     ensures outcome { Outcome
         (checkpoint_answer bytes.now process list.now (length answer.old)) result
         answer.old answer.new }
@@ -207,7 +216,7 @@ pub fn save(bytes: &[u8], process: u16, list: &[u16], answer: &mut [u8]) -> Resu
 }
 
 // The table after a rollback.
-pub fn fall_back(bytes: &[u8], answer: &mut [u8]) -> Result<usize, Refusal>
+pub(crate) fn fall_back(bytes: &[u8], answer: &mut [u8]) -> Result<usize, Refusal>
     ensures outcome { Outcome (rollback_answer bytes.now (length answer.old)) result
         answer.old answer.new }
     ensures table { IfOk result (λ size. HoldsTable (step (decode bytes.now) rollback)

@@ -4,8 +4,8 @@ ghost use Rattle.call_checks.specs.CallChecks.{most_sets};
 ghost use Rattle.tables.specs.Format.{decode, table_length};
 ghost use Rattle.tables.specs.Table.{message_count, most_messages, process_count};
 
-use tables::parts::RunTable;
 use tables::format::table_length;
+use tables::parts::RunTable;
 use tables::refusal::Refusal;
 
 // A line of N numbers.
@@ -57,7 +57,7 @@ pub fn sheet_size(kept: usize, logged: usize) -> usize
 }
 
 // The size of an answer, where it fits an answer buffer of so many bytes.
-pub fn fitting(size: usize, room: usize) -> Result<usize, Refusal>
+pub(crate) fn fitting(size: usize, room: usize) -> Result<usize, Refusal>
     ensures { MatchResult result (λ length. (length ≡ size) × (size ≤ room))
         (λ refusal. (refusal ≡ Refusal.AnswerTooShort) × (room < size)) }
 {

@@ -6,8 +6,8 @@ ghost use Rattle.tables.specs.Format.{decode};
 ghost use Rattle.tables.specs.Lists.{any};
 
 use crate::positions::entry_waits;
-use tables::parts::RunTable;
 use tables::numbers::u16_at;
+use tables::parts::RunTable;
 
 // Whether an older entry that waits for the process, and is not listed, has the sender of a listed one. One walk up
 // to the last position marks the senders of such entries.

@@ -5,8 +5,8 @@ ghost use Rattle.steps.specs.Steps.{bad_position, not_rising};
 ghost use Rattle.tables.specs.Format.{decode};
 ghost use Rattle.tables.specs.Lists.{any};
 
-use tables::parts::RunTable;
 use tables::numbers::u16_at;
+use tables::parts::RunTable;
 
 // Whether an entry of a list is not above the one before it.
 pub fn not_rising(list: &[u16]) -> bool

@@ -19,9 +19,9 @@ use holder_lines::scratch::HeldLines;
 use keeper::answers::{keep_sheet, told};
 use lines::recovery_line;
 use rounding::rounded_quotient;
-use tables::parts::RunTable;
 use tables::lookups;
 use tables::numbers::u16_at;
+use tables::parts::RunTable;
 use tables::refusal::Refusal;
 
 // The bytes of a buffer that every listing fits: what `fits`, below, promises.

@@ -20,9 +20,9 @@ use marks::marks_size;
 use named_checkpoints::{NamedCheckpoints, not_below_counts, unknown_process};
 use process_set::has_high_bit;
 use run_table::checks::check;
-use tables::parts::RunTable;
 use tables::format::{MOST_CHECKPOINTS, MOST_MESSAGES};
 use tables::lookups;
+use tables::parts::RunTable;
 use tables::refusal::Refusal;
 
 // Whether a table has no such process.

@@ -10,9 +10,9 @@ ghost use Rattle.tables.specs.Table.{message_count, process_count};
 ghost use Rattle.rollback.specs.Rollback.{AtLine, receipt_left};
 
 use table_writer::{put_entry, put_head};
-use tables::parts::RunTable;
 use tables::format::sends_at;
 use tables::numbers::u16_at;
+use tables::parts::RunTable;
 
 // The receipt number that a message is left with, beside the line's number at its receiver: 0 where it
 // is after the line.

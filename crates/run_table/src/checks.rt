@@ -10,11 +10,11 @@ ghost use Rattle.run_table.specs.EntryChecks.{first_place, message_checks, messa
 ghost use Rattle.run_table.specs.EntryChecks.{refusal_at, to_itself_at, unknown_at};
 
 use channels::behind_neighbour;
-use tables::parts::RunTable;
 use tables::format::{
     COUNTS_AT, MOST_CHECKPOINTS, MOST_MESSAGES, MOST_PROCESSES, receipts_at, sends_at, table_length,
 };
 use tables::numbers::u16_at;
+use tables::parts::RunTable;
 use tables::refusal::Refusal;
 
 // Whether one of the n counts of a part is 0 or above 4,096 (check 5).

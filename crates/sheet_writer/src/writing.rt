@@ -11,8 +11,8 @@ ghost use Rattle.tables.specs.Parts.{Counts, Messages};
 use holder_lines::scratch::HeldLines;
 use sheet_entries::checkpoints::next_kept;
 use sheet_entries::messages::{is_kept, lowest_line};
-use tables::parts::RunTable;
 use tables::numbers::{put_u16, u16_at};
+use tables::parts::RunTable;
 
 // The two arrays of the kept checkpoints: their processes, and their numbers.
 #[derive(Clone, Copy, PartialEq, Eq, Debug)]

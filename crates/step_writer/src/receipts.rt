@@ -10,9 +10,9 @@ ghost use Rattle.step_writer.specs.Receipts.{CanReceive, after_receiving, receip
 
 use number_writer::copy_numbers;
 use table_writer::put_head;
-use tables::parts::RunTable;
 use tables::format::{receipts_at, sends_at};
 use tables::numbers::put_u16;
+use tables::parts::RunTable;
 
 // Sets the receipt number of each listed message, in place, in a part of receipts that has its entry.
 pub fn set_receipts(receipts: &mut [u8], list: &[u16], number: u16)

@@ -8,8 +8,8 @@ ghost use Rattle.tables.specs.Table.{message_count, process_count};
 
 use number_writer::copy_numbers;
 use table_writer::{put_entry, put_head};
-use tables::parts::RunTable;
 use tables::format::{receipts_at, sends_at};
+use tables::parts::RunTable;
 
 // Copies an array of m entries, and one entry more, to a place of a buffer that has room for them.
 fn put_longer(buffer: &mut [u8], at: usize, part: &[u8], m: usize, process: u16, checkpoint: u16)

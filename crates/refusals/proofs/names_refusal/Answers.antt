@@ -31,7 +31,7 @@ returns-then-unknown_process-clause-refusal c =
 
 pub invariant_of-names : goal.invariant_of-names
 invariant_of-names c = record {
-  parallel = parallel _ _ _ c.if-processes-states.false (sym c.unknown_process.ensures ∙ c.if-unknown_process.false)
+  parallel = parallel _ _ _ c.if-processes-states.false (sym c.unknown_process.ensures ∙ c.if-unknown_process.false);
 }
 
 pub returns-then-not_below_counts-clause-refusal : goal.returns-then-not_below_counts-clause-refusal

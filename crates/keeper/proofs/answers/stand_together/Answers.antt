@@ -24,7 +24,7 @@ returns-in_err-table-clause-outcome c =
 -- the line is found
 pub invariant_of-names : goal.invariant_of-names
 invariant_of-names c = record {
-  parallel = rw c.in_ok-table.ensures.table (names_parallel _ _ _ (quiet_names _ _ _ c.in_ok-table.ensures.refusal refl))
+  parallel = rw c.in_ok-table.ensures.table (names_parallel _ _ _ (quiet_names _ _ _ c.in_ok-table.ensures.refusal refl));
 }
 
 -- a no
