@@ -96,7 +96,8 @@ module _ (table : List ℕ) {first : List ℕ} {p : ℕ} (f : Filled (first_bit 
   firsts_here = f.front p (omega arith) (omega arith)
 
   -- a count was read of them as an array
-  pub firsts_more : table_refusal table ≡ 0 → {array : List ℕ} → array ≡ array_of (decode table).counts → {count : ℕ} → count ≡ get_or array p 0
+  pub firsts_more : table_refusal table ≡ 0 → {array : List ℕ} → array ≡ array_of (decode table).counts → {count : ℕ} → count
+      ≡ get_or array p 0
       → Filled (first_bit (decode table).counts) (p + 1 + 1) (replicate 33 0) (set first (p + 1) (get_or first p 0 + 1 + count))
   unfolding process_count
   firsts_more accepted are {count} e = filled_more f next refl

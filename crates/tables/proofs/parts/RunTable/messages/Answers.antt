@@ -4,4 +4,7 @@ use Rattle.tables.proofs.parts.RunTable.messages.Goals as goal
 
 pub invariant_of-result : goal.invariant_of-result
 invariant_of-result c =
-    record { given = messages_known (messages_read c.args.self.accepted c.message_count.ensures c.sends.ensures c.receipts.ensures) (processes_few _ c.args.self.accepted) }
+    record {
+      given = messages_known (messages_read c.args.self.accepted c.message_count.ensures c.sends.ensures c.receipts.ensures)
+          (processes_few _ c.args.self.accepted);
+    }
