@@ -10,7 +10,7 @@ ghost use Rattle.tables.specs.Parts.{Counts, Messages};
 
 use holder_lines::scratch::HeldLines;
 use sheet_entries::checkpoints::next_kept;
-use sheet_entries::messages::{is_kept, lowest_line};
+use sheet_entries::messages::LinesWithLowest;
 use tables::accepted::RunTable;
 use tables::numbers::{put_u16, u16_at};
 
@@ -117,10 +117,10 @@ fn put_positions(
     ensures { Put buffer.old buffer.new at
         (positions_of lines.entry.n (line_held lines.entry) sends.now receipts.now m) result }
 {
-    let lowest = lowest_line(lines);
+    let with_lowest = LinesWithLowest::of(lines);
     let mut next = at;
     for position in 0..m {
-        if is_kept(lines, &lowest, sends, receipts, position) {
+        if with_lowest.is_kept(sends, receipts, position) {
             next = put_number(buffer, next, position as u16);
         }
     }
