@@ -32,31 +32,44 @@ fn crosses_line(lines: HeldLines, sender: usize, sent: u16, receiver: usize, rec
     (0..lines.n).any(|k| lines.number(k, receiver) < received && sent < lines.number(k, sender))
 }
 
-// Whether message k of a part of sends and a part of receipts is kept, given the lowest line: a message
-// received at or before that line crosses no line.
-pub fn is_kept(
-    lines: HeldLines,
-    lowest: &[u16; 32],
-    sends: &[u8],
-    receipts: &[u8],
-    k: usize,
-) -> bool
-    requires there { MessageThere lines.n k sends.now receipts.now }
-    requires lowest_is { lowest.now ≡ lowest_line lines.n (line_held lines) }
-    ensures { result ≡ is_kept lines.entry.n (line_held lines.entry)
-        (message_at sends.now receipts.now k) }
-{
-    let receiver = u16_at(receipts, 4 * k) as usize;
-    let received = u16_at(receipts, 4 * k + 2);
-    if received == 0 {
-        return true;
+// Lines in a scratch, and the lowest line beside them.
+#[derive(Clone, Copy)]
+pub struct LinesWithLowest<'a> {
+    pub lines: HeldLines<'a>,
+    lowest: [u16; 32],
+    ghost lowest_is: { lowest ≡ lowest_line lines.n (line_held lines) },
+}
+
+impl<'a> LinesWithLowest<'a> {
+    // Lines with their lowest line, which is found.
+    pub fn of(lines: HeldLines<'a>) -> Self
+        ensures { result.lines ≡ lines.entry }
+    {
+        LinesWithLowest {
+            lines,
+            lowest: lowest_line(lines),
+        }
     }
-    if received <= lowest[receiver] {
-        return false;
+
+    // Whether message k of a part of sends and a part of receipts is kept: one received at or before the lowest
+    // line crosses no line.
+    pub fn is_kept(&self, sends: &[u8], receipts: &[u8], k: usize) -> bool
+        requires { MessageThere self.now.lines.n k sends.now receipts.now }
+        ensures { result ≡ is_kept self.now.lines.n (line_held self.now.lines)
+            (message_at sends.now receipts.now k) }
+    {
+        let receiver = u16_at(receipts, 4 * k) as usize;
+        let received = u16_at(receipts, 4 * k + 2);
+        if received == 0 {
+            return true;
+        }
+        if received <= self.lowest[receiver] {
+            return false;
+        }
+        let sender = u16_at(sends, 4 * k) as usize;
+        let sent = u16_at(sends, 4 * k + 2);
+        crosses_line(self.lines, sender, sent, receiver, received)
     }
-    let sender = u16_at(sends, 4 * k) as usize;
-    let sent = u16_at(sends, 4 * k + 2);
-    crosses_line(lines, sender, sent, receiver, received)
 }
 
 // How many of the m messages are kept.
@@ -65,8 +78,8 @@ pub fn count_kept(lines: HeldLines, sends: &[u8], receipts: &[u8], m: usize) -> 
     ensures { result ≡ length
         (positions_of lines.entry.n (line_held lines.entry) sends.now receipts.now m) }
 {
-    let lowest = lowest_line(lines);
+    let with_lowest = LinesWithLowest::of(lines);
     (0..m)
-        .filter(|k| is_kept(lines, &lowest, sends, receipts, *k))
+        .filter(|k| with_lowest.is_kept(sends, receipts, *k))
         .count()
 }

@@ -10,7 +10,12 @@ ghost use Rattle.tables.specs.Parts.{Counts, Messages};
 
 use holder_lines::scratch::HeldLines;
 use sheet_entries::checkpoints::next_kept;
+<<<<<<< HEAD
 use sheet_entries::messages::{is_kept, lowest_line};
+=======
+use sheet_entries::messages::LinesWithLowest;
+use tables::accepted::RunTable;
+>>>>>>> 55233e9cd869ec28386f4d745b630c87bfae7e64
 use tables::numbers::{put_u16, u16_at};
 use tables::parts::RunTable;
 
@@ -117,10 +122,10 @@ fn put_positions(
     ensures { Put buffer.old buffer.new at
         (positions_of lines.entry.n (line_held lines.entry) sends.now receipts.now m) result }
 {
-    let lowest = lowest_line(lines);
+    let with_lowest = LinesWithLowest::of(lines);
     let mut next = at;
     for position in 0..m {
-        if is_kept(lines, &lowest, sends, receipts, position) {
+        if with_lowest.is_kept(sends, receipts, position) {
             next = put_number(buffer, next, position as u16);
         }
     }
