@@ -10,12 +10,7 @@ ghost use Rattle.tables.specs.Parts.{Counts, Messages};
 
 use holder_lines::scratch::HeldLines;
 use sheet_entries::checkpoints::next_kept;
-<<<<<<< HEAD
-use sheet_entries::messages::{is_kept, lowest_line};
-=======
 use sheet_entries::messages::LinesWithLowest;
-use tables::accepted::RunTable;
->>>>>>> 55233e9cd869ec28386f4d745b630c87bfae7e64
 use tables::numbers::{put_u16, u16_at};
 use tables::parts::RunTable;
 
