@@ -58,10 +58,10 @@ pub fn behind_neighbour(last: &mut [u16], sends: &[u8], receipts: &[u8], k: usiz
     ensures lasts_2 { Lasts (channel_at sends.now receipts.now) (k + 1) last.new }
 {
     let channel = channel_at(sends, receipts, k);
-    let before = last[channel].checked_sub(1);
+    let before = (last[channel] as usize).checked_sub(1);
     last[channel] = (k + 1) as u16;
     match before {
-        Some(q) => out_of_turn(sends, receipts, q as usize, k),
+        Some(q) => out_of_turn(sends, receipts, q, k),
         None => false,
     }
 }
