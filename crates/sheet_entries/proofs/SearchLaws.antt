@@ -4,7 +4,7 @@
 --     select_next, select_last, tallied_next, tallied_last    from one number that passes a test to the next
 --     received-before                 a message that crosses no line
 --     .. -kept                        whether a message is kept
---     receiver_small, message_beside    message k, by its receiver
+--     message_beside    message k, by its receiver
 --     keeps_at                        what a loop over the messages tests
 --     kept_number, checkpoints_counted, checkpoints_few    the kept checkpoints of each process, counted
 -- Assumes nothing.
@@ -100,53 +100,42 @@ received-before : (l : Line) (m : Message) {x : ℕ} → x ≡ l m.receiver → 
 unfolding crosses
 received-before l m of-receiver b = rw (le-ltb (l m.receiver) m.received (omega arith)) (and-false (ltb m.sent (l m.sender)))
 
--- ---- whether message k is kept, by the numbers that were read of its entries
-module _ {n lowest k : ℕ} {scratch sends receipts : List ℕ} (beside : MessageBeside n lowest k scratch sends receipts)
-    {x : ℕ} (read-x : x ≡ u16_at receipts (4 * k + 2)) where
-  abbrev line : ℕ → Line
-  line = lines_in scratch n
-
-  abbrev this : Message
-  this = message_at sends receipts k
-
-  pub undelivered_kept : x ≡ 0 → true ≡ is_kept n line this
-  unfolding is_kept message_at checkpoint_at
+-- ---- whether a message is kept, by its numbers as they were read
+module _ (n : ℕ) (line : ℕ → Line) (m : Message) {x : ℕ} (read-x : x ≡ m.received) where
+  pub undelivered_kept : x ≡ 0 → true ≡ is_kept n line m
+  unfolding is_kept
   undelivered_kept none = rw (← read-x, none)
 
   module _ (some : x ≡ 0 → ⊥) where
-    -- received at or before the lowest line, it crosses no line
-    pub old_kept : x ≤ lowest → false ≡ is_kept n line this
-    unfolding is_kept crosses_line lowest_at message_at checkpoint_at
-    old_kept b =
-        let least = least_at_most (λ j. line j (process_at receipts k)) n in
-        let none = any_below_none _ n (λ j l. received-before (line j) this refl (omega (arith, beside.lowest_is, least j l))) in
-        sym (rw (ne_eqb (checkpoint_at receipts k) 0 (λ e. some (read-x ∙ e))) none)
-
-    pub delivered_kept : {j y i : ℕ} {r : Bool} → i ≡ u16_at receipts (4 * k) → j ≡ u16_at sends (4 * k) → y ≡ u16_at sends (4 * k + 2)
-        → r ≡ crosses_line n line (record { sender = j; sent = y; receiver = i; received = x }) → r ≡ is_kept n line this
-    unfolding is_kept message_at checkpoint_at process_at
+    pub delivered_kept : {j y i : ℕ} {r : Bool} → i ≡ m.receiver → j ≡ m.sender → y ≡ m.sent
+        → r ≡ crosses_line n line (record { sender = j; sent = y; receiver = i; received = x }) → r ≡ is_kept n line m
+    unfolding is_kept
     delivered_kept read-i read-j read-y e = rw (← read-x, ne_eqb x 0 some) (rw (read-i, read-j, read-y) at e)
 
--- ---- message k, by the lowest line and its receiver, as they were read
-module _ {n k : ℕ} {scratch sends receipts : List ℕ} (holds : HoldsLines n scratch) (there : MessageThere n k sends receipts)
-    {receiver : ℕ} (read : receiver ≡ u16_at receipts (4 * k)) where
-  pub receiver_small : receiver < most_processes
-  unfolding process_at
-  receiver_small = omega (arith, there.receiver_known, holds.few)
+    -- received at or before the lowest line, it crosses no line
+    pub old_kept : {lowest : ℕ} → lowest ≡ lowest_at n line m.receiver → x ≤ lowest → false ≡ is_kept n line m
+    unfolding is_kept crosses_line lowest_at
+    old_kept lowest_is b =
+        let least = least_at_most (λ j. line j m.receiver) n in
+        let none = any_below_none _ n (λ j l. received-before (line j) m refl (omega (arith, lowest_is, least j l))) in
+        sym (rw (ne_eqb m.received 0 (λ e. some (read-x ∙ e))) none)
 
-  pub message_beside : {lowest : List ℕ} → lowest ≡ lowest_line n (lines_in scratch n)
-      → MessageBeside n (get_or lowest receiver 0) k scratch sends receipts
-  unfolding lowest_line process_at
-  message_beside lowest_is =
-      let numbers = tabulate n (lowest_at n (lines_in scratch n)) in
-      let size = length-tabulate n (lowest_at n (lines_in scratch n)) in
-      record {
-        holds = holds;
-        there = there;
-        lowest_is =
-            ap₂ (λ (xs : List ℕ) (i : ℕ). get_or xs i 0) lowest_is read ∙ array_at numbers (omega (arith, size, holds.few)) _
-            ∙ get_or_tabulate n (lowest_at n (lines_in scratch n)) _ 0 there.receiver_known;
-      }
+-- ---- message k, by the lowest line and its receiver, as it was read
+pub message_beside : {n k : ℕ} {scratch sends receipts : List ℕ} → HoldsLines n scratch → MessageThere n k sends receipts
+    → {receiver : ℕ} → receiver ≡ (message_at sends receipts k).receiver
+    → {lowest : List ℕ} → lowest ≡ lowest_line n (lines_in scratch n)
+    → MessageBeside n (get_or lowest receiver 0) k scratch sends receipts
+unfolding lowest_line message_at
+message_beside {n} {scratch = scratch} holds there read lowest_is =
+    let numbers = tabulate n (lowest_at n (lines_in scratch n)) in
+    let size = length-tabulate n (lowest_at n (lines_in scratch n)) in
+    record {
+      holds = holds;
+      there = there;
+      lowest_is =
+          ap₂ (λ (xs : List ℕ) (i : ℕ). get_or xs i 0) lowest_is read ∙ array_at numbers (omega (arith, size, holds.few)) _
+          ∙ get_or_tabulate n (lowest_at n (lines_in scratch n)) _ 0 there.receiver_known;
+    }
 
 -- what a loop over the messages tests of message k
 abbrev pub keeps_at : ℕ → List ℕ → List ℕ → List ℕ → ℕ → Bool

@@ -7,7 +7,7 @@ ghost use Rattle.tables.specs.Parts.{MessageThere, Messages};
 
 use crate::checkpoints::next_kept;
 use holder_lines::scratch::HeldLines;
-use tables::numbers::u16_at;
+use tables::messages::MessageParts;
 
 // The lowest line: at each process the least number that any of the lines has there.
 pub fn lowest_line(lines: HeldLines) -> [u16; 32]
@@ -51,35 +51,38 @@ impl<'a> LinesWithLowest<'a> {
         }
     }
 
-    // Whether message k of a part of sends and a part of receipts is kept: one received at or before the lowest
-    // line crosses no line.
-    pub fn is_kept(&self, sends: &[u8], receipts: &[u8], k: usize) -> bool
-        requires { MessageThere self.now.lines.n k sends.now receipts.now }
+    // Whether message k is kept: one received at or before the lowest line crosses no line.
+    pub fn is_kept(&self, messages: MessageParts, k: usize) -> bool
+        requires { MessageThere self.now.lines.n k messages.sends.now messages.receipts.now }
         ensures { result ≡ is_kept self.now.lines.n (line_held self.now.lines)
-            (message_at sends.now receipts.now k) }
+            (message_at messages.entry.sends.now messages.entry.receipts.now k) }
     {
-        let receiver = u16_at(receipts, 4 * k) as usize;
-        let received = u16_at(receipts, 4 * k + 2);
+        let received = messages.received(k);
         if received == 0 {
             return true;
         }
+        let receiver = messages.receiver(k);
         if received <= self.lowest[receiver] {
             return false;
         }
-        let sender = u16_at(sends, 4 * k) as usize;
-        let sent = u16_at(sends, 4 * k + 2);
-        crosses_line(self.lines, sender, sent, receiver, received)
+        crosses_line(
+            self.lines,
+            messages.sender(k),
+            messages.sent(k),
+            receiver,
+            received,
+        )
     }
 }
 
-// How many of the m messages are kept.
-pub fn count_kept(lines: HeldLines, sends: &[u8], receipts: &[u8], m: usize) -> usize
-    requires { Messages lines.n m sends.now receipts.now }
-    ensures { result ≡ length
-        (positions_of lines.entry.n (line_held lines.entry) sends.now receipts.now m) }
+// How many of the messages are kept.
+pub fn count_kept(lines: HeldLines, messages: MessageParts) -> usize
+    requires { Messages lines.n messages.count messages.sends.now messages.receipts.now }
+    ensures { result ≡ length (positions_of lines.entry.n (line_held lines.entry)
+        messages.entry.sends.now messages.entry.receipts.now messages.entry.count) }
 {
     let with_lowest = LinesWithLowest::of(lines);
-    (0..m)
-        .filter(|k| with_lowest.is_kept(sends, receipts, *k))
+    (0..messages.count)
+        .filter(|k| with_lowest.is_kept(messages, *k))
         .count()
 }

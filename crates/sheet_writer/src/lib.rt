@@ -40,8 +40,7 @@ pub fn count_messages(table: RunTable, scratch: &[u16]) -> usize
         numbers: scratch,
         n,
     };
-    let m = table.message_count();
-    messages::count_kept(lines, table.sends(), table.receipts(), m)
+    messages::count_kept(lines, table.messages())
 }
 
 // Writes the keep sheet, given K and Q, to the front of a buffer that has room for it.

@@ -11,6 +11,7 @@ ghost use Rattle.tables.specs.Parts.{Counts, Messages};
 use holder_lines::scratch::HeldLines;
 use sheet_entries::checkpoints::next_kept;
 use sheet_entries::messages::LinesWithLowest;
+use tables::messages::MessageParts;
 use tables::numbers::{put_u16, u16_at};
 use tables::parts::RunTable;
 
@@ -103,24 +104,17 @@ fn put_column(
 }
 
 // Puts the positions of the kept messages.
-fn put_positions(
-    buffer: &mut [u8],
-    at: usize,
-    lines: HeldLines,
-    sends: &[u8],
-    receipts: &[u8],
-    m: usize,
-) -> usize
-    requires messages { Messages lines.n m sends.now receipts.now }
-    requires m_in_bounds { at + 2 * length (positions_of lines.n (line_held lines) sends.now receipts.now m)
-        ≤ length buffer.old }
-    ensures { Put buffer.old buffer.new at
-        (positions_of lines.entry.n (line_held lines.entry) sends.now receipts.now m) result }
+fn put_positions(buffer: &mut [u8], at: usize, lines: HeldLines, messages: MessageParts) -> usize
+    requires messages { Messages lines.n messages.count messages.sends.now messages.receipts.now }
+    requires m_in_bounds { at + 2 * length (positions_of lines.n (line_held lines)
+        messages.sends.now messages.receipts.now messages.count) ≤ length buffer.old }
+    ensures { Put buffer.old buffer.new at (positions_of lines.entry.n (line_held lines.entry)
+        messages.entry.sends.now messages.entry.receipts.now messages.entry.count) result }
 {
     let with_lowest = LinesWithLowest::of(lines);
     let mut next = at;
-    for position in 0..m {
-        if with_lowest.is_kept(sends, receipts, position) {
+    for position in 0..messages.count {
+        if with_lowest.is_kept(messages, position) {
             next = put_number(buffer, next, position as u16);
         }
     }
@@ -141,13 +135,6 @@ pub fn put_part(buffer: &mut [u8], at: usize, part: Part, table: RunTable, scrat
     match part {
         Part::Sizes(kept, logged) => put_sizes(buffer, at, kept, logged),
         Part::Kept(column) => put_column(buffer, at, column, lines, table.counts()),
-        Part::Positions => put_positions(
-            buffer,
-            at,
-            lines,
-            table.sends(),
-            table.receipts(),
-            table.message_count(),
-        ),
+        Part::Positions => put_positions(buffer, at, lines, table.messages()),
     }
 }

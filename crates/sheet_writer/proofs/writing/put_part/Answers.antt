@@ -4,11 +4,12 @@ use Rattle.holder_lines.proofs.ScratchLaws.{holds_lines}
 use Rattle.tables.proofs.ReadLaws.{ReadMessages, counts_known, messages_known, messages_read}
 use Rattle.sheet_writer.proofs.PartLaws.{column_is, positions_are, sizes_are}
 use Rattle.sheet_writer.proofs.writing.put_part.Goals as goal
-use Rattle.sheet_writer.proofs.writing.put_part.Goals.{After-message_count}
+use Rattle.sheet_writer.proofs.writing.put_part.Goals.{After-messages}
 
 -- the messages, as they were read
-messages : (c : After-message_count) → ReadMessages c.args.table.bytes.now c.message_count.result c.sends.result.now c.receipts.result.now
-messages c = messages_read c.args.table.accepted c.message_count.ensures c.sends.ensures c.receipts.ensures
+messages : (c : After-messages)
+    → ReadMessages c.args.table.bytes.now c.messages.result.count c.messages.result.sends.now c.messages.result.receipts.now
+messages c = messages_read c.args.table.accepted c.messages.ensures.count c.messages.ensures.sends c.messages.ensures.receipts
 
 pub put_sizes-requires : goal.put_sizes-requires
 put_sizes-requires c = rw (← sizes_are c.in-Sizes.is) at c.requires.room
@@ -30,7 +31,7 @@ invariant_of-lines-in-Positions c = record { holds = holds_lines c.requires.give
 
 pub put_positions-requires : goal.put_positions-requires
 put_positions-requires c =
-    let read = messages (goal.at.put_positions-requires c).After-message_count in
+    let read = messages (goal.at.put_positions-requires c).After-messages in
     record {
       messages = messages_known read (omega (arith, c.process_count-n.ensures));
       m_in_bounds = rw (positions_are c.requires.given c.process_count-n.ensures read c.in-Positions.is) c.requires.room;
@@ -46,5 +47,5 @@ returns-in-Kept c =
 
 pub returns-in-Positions : goal.returns-in-Positions
 returns-in-Positions c =
-    let read = messages (goal.at.returns-in-Positions c).After-message_count in
+    let read = messages (goal.at.returns-in-Positions c).After-messages in
     rw (positions_are c.requires.given c.process_count-n.ensures read c.in-Positions.is) at c.put_positions.ensures
