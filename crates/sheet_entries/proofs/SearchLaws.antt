@@ -12,7 +12,7 @@ use mathlib.Core.Bool.{Bool, true, false, and-false}
 use mathlib.Core.List.{List, [], ◌∷◌, ◌++◌}
 use mathlib.Core.Logic.{⊎_elim}
 use mathlib.Core.Path.{◌≡◌, refl, sym, ap, ap₂, ◌∙◌}
-use Prim.Native.Nat.{ℕ, zero, suc, ◌+◌, ◌*◌, ◌<◌, ◌≤◌, zero-le}
+use Prim.Native.Nat.{ℕ, zero, suc, ◌+◌, ◌<◌, ◌≤◌, zero-le}
 use native.Mathlib.Nat.{eq-or-lt_of_le, le_of_suc-le-suc, le_refl, mul-le-mul}
 use native.Mathlib.Omega.{arith}
 use borrow.Author.Tests.{eqb-false, eqb-true, ne_eqb, le-ltb}
@@ -27,9 +27,8 @@ use Rattle.keep_sheet.specs.Sheet.{crosses}
 use Rattle.tables.proofs.ArrayLaws.{array_at}
 use Rattle.tables.proofs.ListLaws.{any_below_none, found_below, get_or_tabulate, length-tabulate, none_below, rows_most, select_gap, select_more}
 use Rattle.tables.proofs.SelectLaws.{Tallied, select_few}
-use Rattle.tables.specs.Format.{checkpoint_at, count_at, message_at, process_at}
+use Rattle.tables.specs.Format.{count_at, message_at}
 use Rattle.tables.specs.Lists.{First, any_below, select, tabulate}
-use Rattle.tables.specs.Numbers.{u16_at}
 use Rattle.tables.specs.Parts.{MessageThere}
 use Rattle.tables.specs.Table.{Message, most_processes}
 use Rattle.sheet_entries.specs.Kept.{FirstBelow, MessageBeside, checkpoints_at, checkpoints_of, crosses_line, is_kept, kept_of, least_below, lowest_at}

@@ -1,22 +1,36 @@
--- The least of the lines' numbers at the process from the start on, below the count.
-use Rattle.std.proofs.Common.{arith, rules, ◌∙◌, sym}
-use borrow.Author.Tests.{tests}
-use Rattle.std.proofs.lemmas.Iterator.{YieldsList-from_map, YieldsList-from_range}
-use Rattle.std.proofs.lemmas.Iterator.Adapters.{option_map_id}
-use Rattle.std.proofs.lemmas.Iterator.Consumers.{YieldsList-at, YieldsList-from_filter, min_from_yields_List}
-use Rattle.holder_lines.specs.Held.{line_held}
-use Rattle.sheet_entries.proofs.ChainLaws.{between, first_of_least}
-use Rattle.sheet_entries.specs.Kept.{shows}
+-- A turn passes by the number of its line, or finds it; what is found at the end is the first.
 use Rattle.sheet_entries.proofs.checkpoints.next_kept.Goals as goal
+use Rattle.sheet_entries.proofs.checkpoints.next_kept.Goals.{After-loop-k, else-from-checkpoint, then-from-checkpoint+then-checkpoint-least}
+use Rattle.sheet_entries.proofs.checkpoints.next_kept.Goals.{else-from-checkpoint-via-then-from-checkpoint+else-checkpoint-least}
+use Rattle.sheet_entries.proofs.checkpoints.next_kept.Goals.{else-from-checkpoint-via-else-from-checkpoint}
+use Rattle.sheet_entries.specs.Kept.{shows}
+use Rattle.std.proofs.Common.{arith, ◌≡◌}
+use Rattle.tables.proofs.SelectLaws.{search_begins, search_ends, search_finds, search_passes}
 
-pub returns : goal.returns
+pub loop-k-init : goal.loop-k-init
+loop-k-init c = search_begins c.requires.from_le_count
+
+pub loop-k-preserved : goal.loop-k-preserved
+loop-k-preserved c =
+    elim c.if-from-checkpoint.branch [
+      | then-from-checkpoint+then-checkpoint-least w ↦
+          rw w.least-is
+          (search_finds c.loop-k.invariant c.loop-k-test.true c.number-checkpoint.ensures w.if-from-checkpoint.true w.if-checkpoint-least.true)
+      | else-from-checkpoint w ↦
+          rw w.least-is (elim w.else-from-checkpoint.branch [
+            | else-from-checkpoint-via-then-from-checkpoint+else-checkpoint-least v ↦
+                search_passes c.loop-k.invariant c.loop-k-test.true c.number-checkpoint.ensures (λ b. v.if-checkpoint-least.false)
+            | else-from-checkpoint-via-else-from-checkpoint v ↦
+                search_passes c.loop-k.invariant c.loop-k-test.true c.number-checkpoint.ensures (λ b. omega (arith, v.if-from-checkpoint.false))
+          ])
+    ]
+
+pub returns-then-least-count : goal.returns-then-least-count
 unfolding shows
-returns c =
-    let n = c.args.lines.n in
-    first_of_least _ _ _ n c.requires.from_le_count
-    (sym (option_map_id c.min.result)
-    ∙ min_from_yields_List c.filter.result c.min.result c.min.ensures.ran
-    (YieldsList-from_filter _ (between c.args.from c.args.count)
-    (YieldsList-at c.filter.ensures.source
-    (YieldsList-from_map _ (λ k. line_held c.args.lines k c.args.i) (YieldsList-from_range 0 n n c.map.ensures.source (omega arith)) c.map.ensures.closure
-    (λ x r q k. search rules))) c.filter.ensures.closure (λ x b q k. search (rules, tests))))
+returns-then-least-count c = (search_ends c.loop-k.invariant c.loop-k-test.false, c.if-least-count.true)
+
+pub returns-else-least-count : goal.returns-else-least-count
+unfolding shows
+returns-else-least-count c =
+    let same : c.loop-k.least ≡ c.args.count = omega (arith, c.loop-k.invariant.below) in
+    rw same at (search_ends c.loop-k.invariant c.loop-k-test.false)
