@@ -20,5 +20,4 @@ loop-k-preserved c = elim c.match-fault_at.branch [
 pub returns : goal.returns
 returns c =
     let last : c.loop-k.k ≡ c.args.self.m = omega (arith, c.loop-k.auto, c.loop-k-test.false, c.requires.within) in
-    c.loop-k.invariant ∙ ap (λ k. refusal_at (first_place (checks_below (checks_of c.args.self)
-    k))) last
+    c.loop-k.invariant ∙ ap (λ k. refusal_at (first_place (checks_below (checks_of c.args.self) k))) last
