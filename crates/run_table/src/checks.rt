@@ -2,13 +2,15 @@
 // before the next begins.
 ghost use Rattle.std.specs.Prelude.{◌≡◌, false, ◌+◌, ◌*◌, ◌<◌, length, slice_get, IfOk, MatchOption};
 ghost use Rattle.tables.specs.Checks.{table_refusal};
-ghost use Rattle.tables.specs.Format.{count_at, message_at, process_at};
+ghost use Rattle.tables.specs.Format.{count_at, process_at};
 ghost use Rattle.tables.specs.Lists.{any_below};
 ghost use Rattle.tables.specs.Refusals.{refusal_in};
-ghost use Rattle.run_table.specs.EntryChecks.{FirstMessage, Sized, bad_count_at, checks_at, checks_below};
-ghost use Rattle.run_table.specs.EntryChecks.{first_place, message_checks, message_refusals, parts_refusal};
-ghost use Rattle.run_table.specs.EntryChecks.{refusal_at, to_itself_at, unknown_at};
+ghost use Rattle.run_table.specs.Entries.{FirstOf, checks_of, refusal_of};
+ghost use Rattle.run_table.specs.EntryChecks.{bad_count_at, checks_at, checks_below};
+ghost use Rattle.run_table.specs.EntryChecks.{first_place, message_refusals, refusal_at, to_itself_at};
+ghost use Rattle.run_table.specs.EntryChecks.{unknown_at};
 
+use crate::entries::Entries;
 use channels::behind_neighbour;
 use tables::format::{
     COUNTS_AT, MOST_CHECKPOINTS, MOST_MESSAGES, MOST_PROCESSES, receipts_at, sends_at, table_length,
@@ -17,120 +19,115 @@ use tables::numbers::u16_at;
 use tables::parts::RunTable;
 use tables::refusal::Refusal;
 
-// Whether one of the n counts of a part is 0 or above 4,096 (check 5).
-fn bad_count(counts: &[u8], n: usize) -> bool
-    requires { length counts.now ≡ 2 * n }
-    ensures { result ≡ any_below n (bad_count_at counts.now) }
-{
-    for p in 0..n {
-        let count = u16_at(counts, 2 * p);
-        if count == 0 || MOST_CHECKPOINTS < count {
-            return true;
+impl<'a> Entries<'a> {
+    // Checks 5 to 9 and 23.
+    fn entry_checks(self) -> Result<(), Refusal>
+        ensures { refusal_in result ≡ refusal_of self.entry }
+    {
+        if self.bad_count() {
+            return Err(Refusal::CountOutOfRange);
+        }
+        match self.first_caught() {
+            Some(caught) => Err(self.first_fault(caught)),
+            None => Ok(()),
         }
     }
-    false
-}
 
-// Whether entry k of a part names a process of n or above.
-fn unknown_at(part: &[u8], n: usize, k: usize) -> bool
-    requires { 4 * k + 1 < length part.now }
-    ensures { result ≡ unknown_at n part.now k }
-{
-    n <= u16_at(part, 4 * k) as usize
-}
-
-// Whether message k has the same sender and receiver.
-fn to_itself_at(sends: &[u8], receipts: &[u8], k: usize) -> bool
-    requires k_in_bounds { 4 * k + 1 < length sends.now }
-    requires k_in_bounds_2 { 4 * k + 1 < length receipts.now }
-    ensures { result ≡ to_itself_at sends.now receipts.now k }
-{
-    u16_at(sends, 4 * k) == u16_at(receipts, 4 * k)
-}
-
-// The count of the process of entry k of a part, where it has one.
-fn count_for(counts: &[u8], part: &[u8], n: usize, k: usize) -> u16
-    requires counts_len { length counts.now ≡ 2 * n }
-    requires k_in_bounds { 4 * k + 1 < length part.now }
-    requires k_value { unknown_at n part.now k ≡ false }
-    ensures { result ≡ count_at counts.now (process_at part.now k) }
-{
-    let process = u16_at(part, 4 * k) as usize;
-    u16_at(counts, 2 * process)
-}
-
-// The refusal of message k, by the first check of messages that catches it. A process is known before its count
-// is read.
-fn fault_at(counts: &[u8], sends: &[u8], receipts: &[u8], n: usize, k: usize) -> Option<Refusal>
-    requires counts_len { length counts.now ≡ 2 * n }
-    requires k_in_bounds { 4 * k + 3 < length sends.now }
-    requires k_in_bounds_2 { 4 * k + 3 < length receipts.now }
-    ensures { result ≡ slice_get message_refusals (first_place (checks_at
-        (message_checks n counts.now sends.now receipts.now) k)) }
-{
-    if unknown_at(sends, n, k) || unknown_at(receipts, n, k) {
-        return Some(Refusal::UnknownProcessInMessage);
-    }
-    if to_itself_at(sends, receipts, k) {
-        return Some(Refusal::MessageToItsSender);
-    }
-    let sent = u16_at(sends, 4 * k + 2);
-    if count_for(counts, sends, n, k) <= sent {
-        return Some(Refusal::SendNumberTooHigh);
-    }
-    let received = u16_at(receipts, 4 * k + 2);
-    if count_for(counts, receipts, n, k) < received {
-        return Some(Refusal::ReceiptNumberTooHigh);
-    }
-    None
-}
-
-// The first of m messages that a check catches or that is out of turn. An accepted table, the usual case, is
-// gone through here alone.
-fn first_caught(counts: &[u8], sends: &[u8], receipts: &[u8], n: usize, m: usize) -> Option<usize>
-    requires { Sized n m counts.now sends.now receipts.now }
-    ensures { MatchOption result
-        (FirstMessage (message_checks n counts.now sends.now receipts.now)
-        (message_at sends.now receipts.now) m m)
-        (λ k. (k < m) × FirstMessage (message_checks n counts.now sends.now receipts.now)
-        (message_at sends.now receipts.now) m k) }
-{
-    let mut last = [0u16; 1024];
-    for k in 0..m {
-        if fault_at(counts, sends, receipts, n, k).is_some() {
-            return Some(k);
+    // Whether one of the n counts is 0 or above 4,096 (check 5).
+    fn bad_count(self) -> bool
+        ensures { result ≡ any_below self.entry.n (bad_count_at self.entry.counts.now) }
+    {
+        for p in 0..self.n {
+            let count = u16_at(self.counts, 2 * p);
+            if count == 0 || MOST_CHECKPOINTS < count {
+                return true;
+            }
         }
-        if behind_neighbour(&mut last, sends, receipts, k) {
-            return Some(k);
-        }
+        false
     }
-    None
-}
 
-// The refusal of m messages, of which the first that is caught or out of turn is message `from`: by the first
-// check of messages that catches one of them, or else of one that is out of turn. One look at each message is enough:
-// refusals compare by the checking order.
-fn first_fault(
-    counts: &[u8],
-    sends: &[u8],
-    receipts: &[u8],
-    n: usize,
-    m: usize,
-    from: usize,
-) -> Refusal
-    requires sized { Sized n m counts.now sends.now receipts.now }
-    requires first_message { FirstMessage (message_checks n counts.now sends.now receipts.now)
-        (message_at sends.now receipts.now) m from }
-    ensures { result ≡ refusal_at (first_place (checks_below
-        (message_checks n counts.now sends.now receipts.now) m)) }
-{
-    let mut first = Refusal::ChannelOutOfOrder;
-    for k in from..m {
-        if let Some(fault) = fault_at(counts, sends, receipts, n, k) {
-            first = first.min(fault);
+    // The first of the m messages that a check catches or that is out of turn. An accepted table, the usual
+    // case, is gone through here alone.
+    fn first_caught(self) -> Option<usize>
+        ensures { MatchOption result (FirstOf self.entry self.entry.m)
+            (λ k. (k < self.entry.m) × FirstOf self.entry k) }
+    {
+        let mut last = [0u16; 1024];
+        for k in 0..self.m {
+            if self.fault_at(k).is_some() {
+                return Some(k);
+            }
+            if behind_neighbour(&mut last, self.sends, self.receipts, k) {
+                return Some(k);
+            }
         }
+        None
     }
-    first
+
+    // The refusal of the m messages, of which the first that is caught or out of turn is message `from`: by the
+    // first check of messages that catches one of them, or else of one that is out of turn. One look at each
+    // message is enough: refusals compare by the checking order.
+    fn first_fault(self, from: usize) -> Refusal
+        requires { FirstOf self from }
+        ensures { result ≡ refusal_at (first_place (checks_below (checks_of self.entry) self.entry.m)) }
+    {
+        let mut first = Refusal::ChannelOutOfOrder;
+        for k in from..self.m {
+            if let Some(fault) = self.fault_at(k) {
+                first = first.min(fault);
+            }
+        }
+        first
+    }
+
+    // The refusal of message k, by the first check of messages that catches it. A process is known before its
+    // count is read.
+    fn fault_at(self, k: usize) -> Option<Refusal>
+        requires { k < self.m }
+        ensures { result ≡ slice_get message_refusals (first_place (checks_at (checks_of self.entry) k)) }
+    {
+        if self.unknown_at(self.sends, k) || self.unknown_at(self.receipts, k) {
+            return Some(Refusal::UnknownProcessInMessage);
+        }
+        if self.to_itself_at(k) {
+            return Some(Refusal::MessageToItsSender);
+        }
+        let sent = u16_at(self.sends, 4 * k + 2);
+        if self.count_for(self.sends, k) <= sent {
+            return Some(Refusal::SendNumberTooHigh);
+        }
+        let received = u16_at(self.receipts, 4 * k + 2);
+        if self.count_for(self.receipts, k) < received {
+            return Some(Refusal::ReceiptNumberTooHigh);
+        }
+        None
+    }
+
+    // Whether entry k of a part names a process of n or above.
+    fn unknown_at(self, part: &[u8], k: usize) -> bool
+        requires { 4 * k + 1 < length part.now }
+        ensures { result ≡ unknown_at self.entry.n part.now k }
+    {
+        self.n <= u16_at(part, 4 * k) as usize
+    }
+
+    // Whether message k has the same sender and receiver.
+    fn to_itself_at(self, k: usize) -> bool
+        requires { k < self.m }
+        ensures { result ≡ to_itself_at self.entry.sends.now self.entry.receipts.now k }
+    {
+        u16_at(self.sends, 4 * k) == u16_at(self.receipts, 4 * k)
+    }
+
+    // The count of the process of entry k of a part, where it has one.
+    fn count_for(self, part: &[u8], k: usize) -> u16
+        requires k_in_bounds { 4 * k + 1 < length part.now }
+        requires k_value { unknown_at self.n part.now k ≡ false }
+        ensures { result ≡ count_at self.entry.counts.now (process_at part.now k) }
+    {
+        let process = u16_at(part, 4 * k) as usize;
+        u16_at(self.counts, 2 * process)
+    }
 }
 
 // Bytes as an accepted table, or their refusal by the first of a table's checks that catches.
@@ -154,29 +151,13 @@ pub fn check(bytes: &[u8]) -> Result<RunTable<'_>, Refusal>
     }
     let sends_start = sends_at(n);
     let receipts_start = receipts_at(n, m);
-    let counts = &bytes[COUNTS_AT..sends_start];
-    let sends = &bytes[sends_start..receipts_start];
-    let receipts = &bytes[receipts_start..];
-    entry_checks(counts, sends, receipts, n, m)?;
+    let entries = Entries {
+        counts: &bytes[COUNTS_AT..sends_start],
+        sends: &bytes[sends_start..receipts_start],
+        receipts: &bytes[receipts_start..],
+        n,
+        m,
+    };
+    entries.entry_checks()?;
     Ok(RunTable { bytes })
-}
-
-// Checks 5 to 9 and 23, on the three parts of a table whose sizes and length are right.
-fn entry_checks(
-    counts: &[u8],
-    sends: &[u8],
-    receipts: &[u8],
-    n: usize,
-    m: usize,
-) -> Result<(), Refusal>
-    requires { Sized n m counts.now sends.now receipts.now }
-    ensures { refusal_in result ≡ parts_refusal n m counts.now sends.now receipts.now }
-{
-    if bad_count(counts, n) {
-        return Err(Refusal::CountOutOfRange);
-    }
-    match first_caught(counts, sends, receipts, n, m) {
-        Some(caught) => Err(first_fault(counts, sends, receipts, n, m, caught)),
-        None => Ok(()),
-    }
 }

@@ -3,6 +3,7 @@
 #![tactic(auto)]
 
 pub mod checks;
+mod entries;
 
 ghost use Rattle.std.specs.Prelude.{◌≡◌};
 ghost use Rattle.tables.specs.Checks.{table_refusal};

@@ -1,8 +1,8 @@
 -- Each call of `fault_at` answers one check of the list, in its order.
 use Rattle.run_table.proofs.ScanLaws.{above, below, not_above, not_below_lem}
-use Rattle.run_table.proofs.checks.fault_at.Goals as goal
-use Rattle.run_table.proofs.checks.fault_at.Goals.{Else-unknown_at-2, then-unknown_at-via-else-unknown_at+then-unknown_at-2}
-use Rattle.run_table.proofs.checks.fault_at.Goals.{then-unknown_at-via-then-unknown_at}
+use Rattle.run_table.proofs.entries.Entries.fault_at.Goals as goal
+use Rattle.run_table.proofs.entries.Entries.fault_at.Goals.{Else-unknown_at-2, then-unknown_at-via-else-unknown_at+then-unknown_at-2}
+use Rattle.run_table.proofs.entries.Entries.fault_at.Goals.{then-unknown_at-via-then-unknown_at}
 use Rattle.run_table.specs.EntryChecks.{first_place, unknown_at}
 use Rattle.std.proofs.Common.{false, sym, ◌∙◌, ◌≡◌}
 
@@ -16,7 +16,7 @@ returns-then-unknown_at c = elim c.then-unknown_at.branch [
 
 -- both processes are known
 known : (c : Else-unknown_at-2)
-    → (unknown_at c.args.n c.args.sends.now c.args.k ≡ false) × (unknown_at c.args.n c.args.receipts.now c.args.k ≡ false)
+    → (unknown_at c.args.self.n c.args.self.sends.now c.args.k ≡ false) × (unknown_at c.args.self.n c.args.self.receipts.now c.args.k ≡ false)
 known c = (sym c.unknown_at.ensures ∙ c.if-unknown_at.false, sym c.unknown_at-else-unknown_at.ensures ∙ c.if-unknown_at-2.false)
 
 pub returns-then-to_itself_at : goal.returns-then-to_itself_at

@@ -1,10 +1,10 @@
 -- The loop stops at a message that a check catches, or that is out of turn.
 use Rattle.run_table.proofs.ThroughLaws.{here, turned_all, turned_broken, turned_fault, turned_more, turned_none}
-use Rattle.run_table.proofs.checks.first_caught.Goals as goal
+use Rattle.run_table.proofs.entries.Entries.first_caught.Goals as goal
 use Rattle.std.proofs.Common.{sym, ◌∙◌}
 
 pub loop-k-init : goal.loop-k-init
-loop-k-init c = turned_none c.requires
+loop-k-init c = turned_none c.args.self.sized
 
 pub returns-then-is_some : goal.returns-then-is_some
 returns-then-is_some c = turned_fault c.loop-k.invariant c.loop-k-test.true c.fault_at.ensures (sym c.is_some.ensures ∙ c.if-is_some.true)

@@ -1,6 +1,6 @@
 -- The process and the count that `count_for` reads are those of the entry.
 use Rattle.run_table.proofs.ScanLaws.{process_known}
-use Rattle.run_table.proofs.checks.count_for.Goals as goal
+use Rattle.run_table.proofs.entries.Entries.count_for.Goals as goal
 use Rattle.std.proofs.Common.{arith}
 use Rattle.tables.specs.Format.{count_at, process_at}
 
