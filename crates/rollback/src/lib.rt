@@ -25,79 +25,86 @@ fn receipt_left(received: u16, height: u16) -> u16
     received
 }
 
-// How many messages of an accepted table stay, given its recovery line.
-pub fn count_remaining(table: RunTable, line: [u16; 32]) -> usize
-    requires { AtLine table.bytes.now line }
-    ensures { result ≡ message_count (after_rollback (decode table.entry.bytes.now)) }
-{
-    let messages = table.messages();
-    let mut remaining = 0;
-    for k in 0..messages.count {
-        if messages.sent(k) < line[messages.sender(k)] {
-            remaining += 1;
+// A rollback of an accepted table: the table, and its recovery line, to which it rolls back.
+#[derive(Clone, Copy)]
+pub struct Rollback<'a> {
+    pub table: RunTable<'a>,
+    pub line: [u16; 32],
+    pub ghost at_line: { AtLine table.bytes.now line },
+}
+
+impl<'a> Rollback<'a> {
+    // How many messages stay.
+    pub fn count_remaining(&self) -> usize
+        ensures { result ≡ message_count (after_rollback (decode self.now.table.bytes.now)) }
+    {
+        let messages = self.table.messages();
+        let mut remaining = 0;
+        for k in 0..messages.count {
+            if messages.sent(k) < self.line[messages.sender(k)] {
+                remaining += 1;
+            }
+        }
+        remaining
+    }
+
+    // The counts that it leaves: L + 1 at each process.
+    fn counts_left(&self) -> [u16; 32]
+        ensures { result ≡ array_of (after_rollback (decode self.now.table.bytes.now)).counts }
+    {
+        let n = self.table.process_count();
+        let mut counts = [0u16; 32];
+        for p in 0..n {
+            counts[p] = self.line[p] + 1;
+        }
+        counts
+    }
+
+    // Writes the sends of the m messages that stay, at a place of a buffer that has room for them, and
+    // behind these their receipts. Processes are read as the u16 that they are written as, which the methods of
+    // `MessageParts` do not give.
+    fn put_messages(&self, m: usize, buffer: &mut [u8], at: usize)
+        requires m_value { m ≡ message_count (after_rollback (decode self.now.table.bytes.now)) }
+        requires m_in_bounds { at + 8 * m ≤ length buffer.old }
+        ensures { buffer.new
+            ≡ put_at (put_at buffer.old at
+            (u16s (sends_of (after_rollback (decode self.now.table.bytes.now)).messages)))
+            (at + 4 * m) (u16s (receipts_of (after_rollback (decode self.now.table.bytes.now)).messages)) }
+    {
+        let sends = self.table.sends();
+        let receipts = self.table.receipts();
+        let mut place = at;
+        for k in 0..self.table.message_count() {
+            let sender = u16_at(sends, 4 * k);
+            let sent = u16_at(sends, 4 * k + 2);
+            if self.line[sender as usize] <= sent {
+                continue;
+            }
+            let receiver = u16_at(receipts, 4 * k);
+            let received = u16_at(receipts, 4 * k + 2);
+            put_entry(buffer, place, sender, sent);
+            put_entry(
+                buffer,
+                place + 4 * m,
+                receiver,
+                receipt_left(received, self.line[receiver as usize]),
+            );
+            place += 4;
         }
     }
-    remaining
-}
 
-// The counts that a rollback leaves, given the recovery line of an accepted table: L + 1 at each process.
-fn counts_left(table: RunTable, line: [u16; 32]) -> [u16; 32]
-    requires { AtLine table.bytes.now line }
-    ensures { result ≡ array_of (after_rollback (decode table.entry.bytes.now)).counts }
-{
-    let n = table.process_count();
-    let mut counts = [0u16; 32];
-    for p in 0..n {
-        counts[p] = line[p] + 1;
+    // Writes the table that it leaves, given how many messages stay, to the front of a buffer that has room
+    // for it.
+    pub fn put(&self, m: usize, answer: &mut [u8])
+        requires m_value { m ≡ message_count (after_rollback (decode self.now.table.bytes.now)) }
+        requires m_in_bounds { table_length (process_count (decode self.now.table.bytes.now)) m
+            ≤ length answer.old }
+        ensures { answer.new
+            ≡ put_at answer.old 0 (encode (after_rollback (decode self.now.table.bytes.now))) }
+    {
+        let n = self.table.process_count();
+        let counts = self.counts_left();
+        put_head(answer, &counts[..n], m);
+        self.put_messages(m, answer, sends_at(n));
     }
-    counts
-}
-
-// Writes the sends of the m messages that stay, at a place of a buffer that has room for them, and
-// behind these their receipts. Processes are read as the u16 that they are written as, which the methods of
-// `MessageParts` do not give.
-fn put_messages(table: RunTable, line: [u16; 32], m: usize, buffer: &mut [u8], at: usize)
-    requires at_line { AtLine table.bytes.now line }
-    requires m_value { m ≡ message_count (after_rollback (decode table.bytes.now)) }
-    requires m_in_bounds { at + 8 * m ≤ length buffer.old }
-    ensures { buffer.new
-        ≡ put_at (put_at buffer.old at
-        (u16s (sends_of (after_rollback (decode table.entry.bytes.now)).messages)))
-        (at + 4 * m) (u16s (receipts_of (after_rollback (decode table.entry.bytes.now)).messages)) }
-{
-    let sends = table.sends();
-    let receipts = table.receipts();
-    let mut place = at;
-    for k in 0..table.message_count() {
-        let sender = u16_at(sends, 4 * k);
-        let sent = u16_at(sends, 4 * k + 2);
-        if line[sender as usize] <= sent {
-            continue;
-        }
-        let receiver = u16_at(receipts, 4 * k);
-        let received = u16_at(receipts, 4 * k + 2);
-        put_entry(buffer, place, sender, sent);
-        put_entry(
-            buffer,
-            place + 4 * m,
-            receiver,
-            receipt_left(received, line[receiver as usize]),
-        );
-        place += 4;
-    }
-}
-
-// Writes the table that a rollback of an accepted table leaves, given its recovery line and how many
-// messages stay, to the front of a buffer that has room for it.
-pub fn put_rollback(table: RunTable, line: [u16; 32], m: usize, answer: &mut [u8])
-    requires at_line { AtLine table.bytes.now line }
-    requires m_value { m ≡ message_count (after_rollback (decode table.bytes.now)) }
-    requires m_in_bounds { table_length (process_count (decode table.bytes.now)) m ≤ length answer.old }
-    ensures { answer.new
-        ≡ put_at answer.old 0 (encode (after_rollback (decode table.entry.bytes.now))) }
-{
-    let n = table.process_count();
-    let counts = counts_left(table, line);
-    put_head(answer, &counts[..n], m);
-    put_messages(table, line, m, answer, sends_at(n));
 }

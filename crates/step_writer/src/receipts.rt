@@ -42,45 +42,61 @@ fn put_receipts(buffer: &mut [u8], at: usize, receipts: &[u8], m: usize, list: &
     set_receipts(&mut buffer[at..end], list, number);
 }
 
-// Writes the table after a known process received a list of messages that wait for it, with its count grown
-// by the checkpoints that it took, none or one, to the front of a buffer that has room for it.
-fn put_received(table: RunTable, process: u16, list: &[u16], taken: u16, answer: &mut [u8])
-    requires can_receive { CanReceive table.bytes.now process list.now }
-    requires taken_bound { taken ≤ 1 }
-    requires table_in_bounds { table_length (process_count (decode table.bytes.now))
-        (message_count (decode table.bytes.now)) ≤ length answer.old }
-    ensures { answer.new ≡ put_at answer.old 0
-        (encode (after_receiving (decode table.entry.bytes.now) process list.now taken)) }
-{
-    let n = table.process_count();
-    let m = table.message_count();
-    let mut counts = table.count_array();
-    let number = counts[process as usize];
-    counts[process as usize] = number + taken;
-    put_head(answer, &counts[..n], m);
-    copy_numbers(answer, sends_at(n), table.sends(), 2 * m);
-    put_receipts(answer, receipts_at(n, m), table.receipts(), m, list, number);
+// What a receipt or a checkpoint is given: an accepted table, a known process of it, and a list of messages that
+// wait for the process.
+#[derive(Clone, Copy)]
+pub struct Receipt<'a> {
+    pub table: RunTable<'a>,
+    pub process: u16,
+    pub list: &'a [u16],
+    pub ghost can_receive: { CanReceive table.bytes.now process list.now },
 }
 
-// Writes the table after a receipt. Receipt and checkpoint are two calls: each contract names its own step, as the
-// manual has it, and no number of checkpoints.
-pub fn put_receipt(table: RunTable, process: u16, list: &[u16], answer: &mut [u8])
-    requires can_receive { CanReceive table.bytes.now process list.now }
-    requires table_in_bounds { table_length (process_count (decode table.bytes.now))
-        (message_count (decode table.bytes.now)) ≤ length answer.old }
-    ensures { answer.new ≡ put_at answer.old 0
-        (encode (after_receipt (decode table.entry.bytes.now) process list.now)) }
-{
-    put_received(table, process, list, 0, answer);
-}
+impl<'a> Receipt<'a> {
+    // Writes the table after the process received the list, with its count grown by the checkpoints that it took,
+    // none or one, to the front of a buffer that has room for it.
+    fn put_received(&self, taken: u16, answer: &mut [u8])
+        requires taken_bound { taken ≤ 1 }
+        requires table_in_bounds { table_length (process_count (decode self.now.table.bytes.now))
+            (message_count (decode self.now.table.bytes.now)) ≤ length answer.old }
+        ensures { answer.new ≡ put_at answer.old 0 (encode (after_receiving
+            (decode self.now.table.bytes.now) self.now.process self.now.list.now taken)) }
+    {
+        let n = self.table.process_count();
+        let m = self.table.message_count();
+        let mut counts = self.table.count_array();
+        let number = counts[self.process as usize];
+        counts[self.process as usize] = number + taken;
+        put_head(answer, &counts[..n], m);
+        copy_numbers(answer, sends_at(n), self.table.sends(), 2 * m);
+        put_receipts(
+            answer,
+            receipts_at(n, m),
+            self.table.receipts(),
+            m,
+            self.list,
+            number,
+        );
+    }
 
-// Writes the table after a checkpoint.
-pub fn put_checkpoint(table: RunTable, process: u16, list: &[u16], answer: &mut [u8])
-    requires can_receive { CanReceive table.bytes.now process list.now }
-    requires table_in_bounds { table_length (process_count (decode table.bytes.now))
-        (message_count (decode table.bytes.now)) ≤ length answer.old }
-    ensures { answer.new ≡ put_at answer.old 0
-        (encode (after_checkpoint (decode table.entry.bytes.now) process list.now)) }
-{
-    put_received(table, process, list, 1, answer);
+    // Writes the table after the receipt. Receipt and checkpoint are two calls: each contract names its own step, as
+    // the manual has it, and no number of checkpoints.
+    pub fn put_receipt(&self, answer: &mut [u8])
+        requires table_in_bounds { table_length (process_count (decode self.now.table.bytes.now))
+            (message_count (decode self.now.table.bytes.now)) ≤ length answer.old }
+        ensures { answer.new ≡ put_at answer.old 0 (encode (after_receipt
+            (decode self.now.table.bytes.now) self.now.process self.now.list.now)) }
+    {
+        self.put_received(0, answer);
+    }
+
+    // Writes the table after the checkpoint.
+    pub fn put_checkpoint(&self, answer: &mut [u8])
+        requires table_in_bounds { table_length (process_count (decode self.now.table.bytes.now))
+            (message_count (decode self.now.table.bytes.now)) ≤ length answer.old }
+        ensures { answer.new ≡ put_at answer.old 0 (encode (after_checkpoint
+            (decode self.now.table.bytes.now) self.now.process self.now.list.now)) }
+    {
+        self.put_received(1, answer);
+    }
 }

@@ -1,4 +1,4 @@
--- `counts_left` meets its contract: each turn fills in the count that is left of a process.
+-- `Rollback::counts_left` meets its contract: each turn fills in the count that is left of a process.
 -- Assumes nothing.
 use native.Mathlib.Omega.{arith}
 use mathlib.Core.Path.{sym, ◌∙◌}
@@ -7,22 +7,22 @@ use Rattle.rollback.proofs.RollbackLaws.{count_left, line_small}
 use Rattle.tables.proofs.ArrayLaws.{filling_array, filling_more, filling_none}
 use Rattle.tables.proofs.ReadLaws.{processes_few}
 use Rattle.tables.specs.Table.{process_count}
-use Rattle.rollback.proofs.counts_left.Goals as goal
+use Rattle.rollback.proofs.Rollback.counts_left.Goals as goal
 
 pub loop-p-init : goal.loop-p-init
 unfolding process_count
 loop-p-init c =
-    (omega (arith, processes_few _ c.args.table.accepted, c.process_count-n.ensures), filling_none)
+    (omega (arith, processes_few _ c.args.self.now.table.accepted, c.process_count-n.ensures), filling_none)
 
 pub overflow_add-counts : goal.overflow_add-counts
 unfolding process_count
 overflow_add-counts c =
-    omega (arith, line_small c.requires {p = c.loop-p.p} (omega arith))
+    omega (arith, line_small c.args.self.now.at_line {p = c.loop-p.p} (omega arith))
 
 pub loop-p-preserved : goal.loop-p-preserved
 unfolding process_count
 loop-p-preserved c =
-    (c.loop-p.invariant.0, filling_more c.loop-p.invariant.1 c.loop-p-test.true (count_left c.requires (omega arith)))
+    (c.loop-p.invariant.0, filling_more c.loop-p.invariant.1 c.loop-p-test.true (count_left c.args.self.now.at_line (omega arith)))
 
 pub returns : goal.returns
 unfolding process_count

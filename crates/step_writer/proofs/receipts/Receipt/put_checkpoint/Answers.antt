@@ -1,7 +1,7 @@
--- `receipts::put_checkpoint` meets its contract: one checkpoint is taken.
+-- `Receipt::put_checkpoint` meets its contract: one checkpoint is taken.
 -- Assumes nothing.
 use Rattle.step_writer.proofs.ReceiptLaws.{checkpoint_put}
-use Rattle.step_writer.proofs.receipts.put_checkpoint.Goals as goal
+use Rattle.step_writer.proofs.receipts.Receipt.put_checkpoint.Goals as goal
 
 pub returns : goal.returns
 returns c =

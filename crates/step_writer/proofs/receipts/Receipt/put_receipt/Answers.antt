@@ -1,7 +1,7 @@
--- `receipts::put_receipt` meets its contract: no checkpoint is taken.
+-- `Receipt::put_receipt` meets its contract: no checkpoint is taken.
 -- Assumes nothing.
 use Rattle.step_writer.proofs.ReceiptLaws.{receipt_put}
-use Rattle.step_writer.proofs.receipts.put_receipt.Goals as goal
+use Rattle.step_writer.proofs.receipts.Receipt.put_receipt.Goals as goal
 
 pub returns : goal.returns
 returns c =

@@ -1,7 +1,0 @@
--- `count_remaining` meets its contract. The loop's invariant: as many are counted as remain of the first k messages.
--- Assumes nothing.
-use Rattle.rollback.proofs.RollbackLaws.{RemainingCounted}
-use Rattle.rollback.proofs.count_remaining.Given as goal
-
-abbrev pub invariant-loop-k : goal.invariant-loop-k
-invariant-loop-k l = RemainingCounted l.table.bytes.now l.line l.messages.count l.messages.sends.now l.remaining l.k
