@@ -1,6 +1,10 @@
-// Lines in a scratch, one after another.
+// Lines in a scratch, one after another; those of the single holders of a table.
 ghost use Rattle.std.specs.Prelude.{◌≡◌, ◌*◌, ◌<◌, drop, take};
-ghost use Rattle.holder_lines.specs.Scratch.{HoldsLines, lines_in};
+ghost use Rattle.holder_lines.specs.Scratch.{HoldsLines, LinesOf, lines_in};
+ghost use Rattle.tables.specs.Format.{decode};
+ghost use Rattle.tables.specs.Table.{process_count};
+
+use tables::parts::RunTable;
 
 // A scratch that begins with n lines of n numbers each.
 #[derive(Clone, Copy)]
@@ -27,5 +31,26 @@ impl<'a> HeldLines<'a> {
         ensures { result ≡ lines_in self.entry.numbers.now self.entry.n k i }
     {
         self.numbers[self.n * k + i]
+    }
+}
+
+// An accepted table, and a scratch that begins with the lines of its single holders.
+#[derive(Clone, Copy)]
+pub struct HolderLines<'a> {
+    pub table: RunTable<'a>,
+    pub scratch: &'a [u16],
+    pub ghost lines_of: { LinesOf table.bytes.now scratch.now },
+}
+
+impl<'a> HolderLines<'a> {
+    // The lines, N of them.
+    pub fn lines(self) -> HeldLines<'a>
+        ensures n { result.n ≡ process_count (decode self.entry.table.bytes.now) }
+        ensures lines_of { LinesOf self.entry.table.bytes.now result.numbers.now }
+    {
+        HeldLines {
+            numbers: self.scratch,
+            n: self.table.process_count(),
+        }
     }
 }

@@ -23,18 +23,19 @@ use crate::sizes::{
 };
 use chosen_ceilings::put_line_under;
 use holder_lines::fill_lines;
+use holder_lines::scratch::HolderLines;
 use marked_line::put_marked_line;
 use named_checkpoints::{NamedCheckpoints, misses_named, named_line};
 use refusals::{
     ceilings_refusal, checkpoint_refusal, marking_refusal, names_refusal, receipt_refusal,
     send_refusal, set_refusal, sheet_refusal,
 };
-use rollback::{count_remaining, put_rollback};
+use rollback::Rollback;
 use run_table::checks::check;
 use set_lines::put_lines_of_sets;
 use set_refusals::sets_refusal;
 use sheet_writer::{count_checkpoints, count_messages, put_sheet};
-use step_writer::receipts::{put_checkpoint, put_receipt};
+use step_writer::receipts::Receipt;
 use step_writer::send::put_send;
 use tables::refusal::Refusal;
 
@@ -192,7 +193,12 @@ pub(crate) fn receive(
 {
     let table = receipt_refusal(bytes, process, list)?;
     let size = fitting(same_size(table), answer.len())?;
-    put_receipt(table, process, list, answer);
+    let receipt = Receipt {
+        table,
+        process,
+        list,
+    };
+    receipt.put_receipt(answer);
     Ok(size)
 }
 
@@ -211,7 +217,12 @@ pub(crate) fn save(
 {
     let table = checkpoint_refusal(bytes, process, list)?;
     let size = fitting(same_size(table), answer.len())?;
-    put_checkpoint(table, process, list, answer);
+    let receipt = Receipt {
+        table,
+        process,
+        list,
+    };
+    receipt.put_checkpoint(answer);
     Ok(size)
 }
 
@@ -224,9 +235,10 @@ pub(crate) fn fall_back(bytes: &[u8], answer: &mut [u8]) -> Result<usize, Refusa
 {
     let table = check(bytes)?;
     let line = lines::recovery_line(table);
-    let m = count_remaining(table, line);
+    let rollback = Rollback { table, line };
+    let m = rollback.count_remaining();
     let size = fitting(rollback_size(table, m), answer.len())?;
-    put_rollback(table, line, m, answer);
+    rollback.put(m, answer);
     Ok(size)
 }
 
@@ -240,9 +252,10 @@ pub fn keep_sheet(bytes: &[u8], scratch: &mut [u16], answer: &mut [u8]) -> Resul
 {
     let table = sheet_refusal(bytes, scratch.len())?;
     fill_lines(table, scratch);
-    let kept = count_checkpoints(table, scratch);
-    let logged = count_messages(table, scratch);
+    let holders = HolderLines { table, scratch };
+    let kept = count_checkpoints(holders);
+    let logged = count_messages(holders);
     let size = fitting(sheet_size(kept, logged), answer.len())?;
-    put_sheet(table, scratch, kept, logged, answer);
+    put_sheet(holders, kept, logged, answer);
     Ok(size)
 }

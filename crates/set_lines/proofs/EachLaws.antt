@@ -1,6 +1,6 @@
 -- The lines of sets, from the lines of single holders, put one after another into a buffer.
 --     ToPut                        what the loop was given and read
---     lines-there, line_long       what it asks for: lines in the scratch; a line of n numbers
+--     line_long                    what it asks for: a line of n numbers
 --     set_line                     the minimum of the members' lines is the line of the set
 --     PutsLines                    its invariant
 --     puts_none, puts_all          how it begins and ends
@@ -17,8 +17,8 @@ use lib.Seq.{ext_get_or, get_or-take, length-take-le}
 use Rattle.consistency.proofs.CeilingLaws.{line_smallest, set-length, smallest_same}
 use Rattle.consistency.specs.Ceilings.{holder_line, line_of, smallest}
 use Rattle.consistency.specs.Lines.{Line, as_line}
-use Rattle.holder_lines.proofs.ScratchLaws.{entry_is, holds_lines}
-use Rattle.holder_lines.specs.Scratch.{HoldsLines, LinesOf, lines_in}
+use Rattle.holder_lines.proofs.ScratchLaws.{entry_is}
+use Rattle.holder_lines.specs.Scratch.{LinesOf, lines_in}
 use Rattle.number_writer.proofs.WriteLaws.{Written, written_all, written_more, written_none}
 use Rattle.process_set.specs.Sets.{member}
 use Rattle.tables.proofs.AcceptLaws.{facts}
@@ -43,9 +43,6 @@ module _ {bytes scratch : List ℕ} {n : ℕ} {counts : List ℕ} (w : ToPut byt
 
   few : n ≤ 32
   few = omega (arith, w.n_is, processes_few bytes w.given.accepted)
-
-  pub lines-there : HoldsLines n scratch
-  lines-there = holds_lines w.given w.n_is
 
   -- the minimum of the counts and of the members' lines
   module _ (set : ℕ) {line : List ℕ} (found : Filled (smallest n (member set) (lines_in scratch n) (as_line counts)) n counts line) where

@@ -4,7 +4,6 @@
 
 ghost use Rattle.std.specs.Prelude.{◌≡◌, ◌*◌, ◌≤◌, get_or, length};
 ghost use Rattle.consistency.specs.Ceilings.{holder_lines, line_of};
-ghost use Rattle.holder_lines.specs.Scratch.{LinesOf};
 ghost use Rattle.process_set.specs.Sets.{member};
 ghost use Rattle.tables.specs.Format.{decode};
 ghost use Rattle.tables.specs.Lists.{rows};
@@ -12,31 +11,27 @@ ghost use Rattle.tables.specs.Numbers.{put_at, u16s};
 ghost use Rattle.tables.specs.Table.{process_count};
 
 use holder_lines::fill_lines;
-use holder_lines::scratch::HeldLines;
+use holder_lines::scratch::HolderLines;
 use member_lines::line_of_members;
 use number_writer::put_numbers;
 use tables::parts::RunTable;
 
 // Writes the lines of sets of an accepted table, one after another, to the front of a buffer that has room
-// for them, from a scratch that has the lines of single holders.
-fn put_each(table: RunTable, sets: &[u32], scratch: &[u16], answer: &mut [u8])
-    requires lines_of { LinesOf table.bytes.now scratch.now }
-    requires sets_in_bounds { 2 * process_count (decode table.bytes.now) * length sets.now ≤ length answer.old }
+// for them, from the lines of its single holders.
+fn put_each(holders: HolderLines, sets: &[u32], answer: &mut [u8])
+    requires sets_in_bounds { 2 * process_count (decode holders.table.bytes.now) * length sets.now
+        ≤ length answer.old }
     ensures { answer.new ≡ put_at answer.old 0 (u16s (rows
-        (λ k. line_of (decode table.entry.bytes.now) (member (get_or sets.now k 0)))
+        (λ k. line_of (decode holders.entry.table.bytes.now) (member (get_or sets.now k 0)))
         (length sets.now))) }
 {
-    let n = table.process_count();
-    let counts = table.count_array();
-    let lines = HeldLines {
-        numbers: scratch,
-        n,
-    };
+    let counts = holders.table.count_array();
+    let lines = holders.lines();
     let mut at = 0;
     for set in sets {
         let line = line_of_members(lines, counts, *set);
-        put_numbers(answer, at, &line[..n]);
-        at += 2 * n;
+        put_numbers(answer, at, &line[..lines.n]);
+        at += 2 * lines.n;
     }
 }
 
@@ -53,5 +48,5 @@ pub fn put_lines_of_sets(table: RunTable, sets: &[u32], scratch: &mut [u16], ans
         (length sets.now))) }
 {
     fill_lines(table, scratch);
-    put_each(table, sets, scratch, answer);
+    put_each(HolderLines { table, scratch }, sets, answer);
 }

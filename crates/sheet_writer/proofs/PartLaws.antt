@@ -82,7 +82,7 @@ module _ (bytes : List ℕ) (k q : ℕ) (x : MutBor (List ℕ)) where
   abbrev all_four : List ℕ
   all_four = of (Sizes k q) ++ last_three
 
-  module _ {s : List ℕ} (asked : CanPutSheet bytes s k q x.now) where
+  module _ (asked : CanPutSheet bytes k q x.now) where
     parts_are : u16s all_four ≡ sheet (decode bytes)
     unfolding sheet numbers_of
     parts_are = rw (asked.kept_is, asked.logged_is)
@@ -99,17 +99,17 @@ module _ (bytes : List ℕ) (k q : ℕ) (x : MutBor (List ℕ)) where
     fits_one : numbered.at + 2 * length (of Positions) ≤ length numbered.buffer.now
     fits_one = put_room (put_written processed (of (Kept Number))) (of Positions) fits_two
 
-    pub can_sizes : CanPut (Sizes k q) bytes s begun.at begun.buffer.now
-    can_sizes = record { given = asked.given; room = omega (arith, fits_four, length-append (of (Sizes k q)) last_three) }
+    pub can_sizes : CanPut (Sizes k q) bytes begun.at begun.buffer.now
+    can_sizes = omega (arith, fits_four, length-append (of (Sizes k q)) last_three)
 
-    pub can_processes : CanPut (Kept Process) bytes s sized.at sized.buffer.now
-    can_processes = record { given = asked.given; room = omega (arith, fits_three, length-append (of (Kept Process)) last_two) }
+    pub can_processes : CanPut (Kept Process) bytes sized.at sized.buffer.now
+    can_processes = omega (arith, fits_three, length-append (of (Kept Process)) last_two)
 
-    pub can_checkpoints : CanPut (Kept Number) bytes s processed.at processed.buffer.now
-    can_checkpoints = record { given = asked.given; room = omega (arith, fits_two, length-append (of (Kept Number)) (of Positions)) }
+    pub can_checkpoints : CanPut (Kept Number) bytes processed.at processed.buffer.now
+    can_checkpoints = omega (arith, fits_two, length-append (of (Kept Number)) (of Positions))
 
-    pub can_positions : CanPut Positions bytes s numbered.at numbered.buffer.now
-    can_positions = record { given = asked.given; room = fits_one }
+    pub can_positions : CanPut Positions bytes numbered.at numbered.buffer.now
+    can_positions = fits_one
 
     all_put : Put x.now filled.buffer.now 0 all_four filled.at
     all_put =
@@ -123,23 +123,23 @@ module _ (bytes : List ℕ) (k q : ℕ) (x : MutBor (List ℕ)) where
     same_size = put_length all_put fits_four
 
 -- ---- the writers, as the code hands them on: each is what the one before it becomes
-module _ (bytes : List ℕ) (k q : ℕ) (x : MutBor (List ℕ)) (s : List ℕ) (asked : CanPutSheet bytes s k q x.now) where
+module _ (bytes : List ℕ) (k q : ℕ) (x : MutBor (List ℕ)) (asked : CanPutSheet bytes k q x.now) where
   module _ (w₁ : SheetWriter) (e₁ : w₁ ≡ sized bytes k q x) where
-    pub processes_next : CanPut (Kept Process) bytes s w₁.at w₁.buffer.now
+    pub processes_next : CanPut (Kept Process) bytes w₁.at w₁.buffer.now
     processes_next = rw e₁ (can_processes bytes k q x asked)
 
     module _ (w₂ : SheetWriter) (e₂ : w₂ ≡ written w₁ (numbers_of (Kept Process) (decode bytes))) where
       after_processes : w₂ ≡ processed bytes k q x
       after_processes = e₂ ∙ ap (λ (w : SheetWriter). written w (numbers_of (Kept Process) (decode bytes))) e₁
 
-      pub checkpoints_next : CanPut (Kept Number) bytes s w₂.at w₂.buffer.now
+      pub checkpoints_next : CanPut (Kept Number) bytes w₂.at w₂.buffer.now
       checkpoints_next = rw after_processes (can_checkpoints bytes k q x asked)
 
       module _ (w₃ : SheetWriter) (e₃ : w₃ ≡ written w₂ (numbers_of (Kept Number) (decode bytes))) where
         after_checkpoints : w₃ ≡ numbered bytes k q x
         after_checkpoints = e₃ ∙ ap (λ (w : SheetWriter). written w (numbers_of (Kept Number) (decode bytes))) after_processes
 
-        pub positions_next : CanPut Positions bytes s w₃.at w₃.buffer.now
+        pub positions_next : CanPut Positions bytes w₃.at w₃.buffer.now
         positions_next = rw after_checkpoints (can_positions bytes k q x asked)
 
         -- what the last writer leaves is the sheet

@@ -2,7 +2,6 @@
 -- Assumes nothing.
 use Rattle.std.specs.Prelude.{List, [], ◌∷◌, map, ◌≡◌, ℕ, ◌+◌, ◌*◌, ◌≤◌, length}
 use Rattle.consistency.specs.Lines.{Line}
-use Rattle.holder_lines.specs.Scratch.{LinesOf}
 use Rattle.keep_sheet.specs.Sheet.{kept_checkpoints, kept_messages}
 use Rattle.sheet_entries.specs.Kept.{kept_of}
 use Rattle.sheet_writer.specs.declared.writing.Column.{Column}
@@ -33,15 +32,13 @@ column_at column i kept = map (number_in column i) kept
 unfoldable pub column_of : Column → ℕ → (ℕ → Line) → List ℕ → List ℕ
 column_of column n line counts = rows (λ i. column_at column i (kept_of n line i (count_at counts i))) n
 
--- A part of the sheet of an accepted table can be put, given a scratch with the lines of its single holders: the buffer
--- has room for it from a place on.
-pub record CanPut (part : Part) (table scratch : List ℕ) (at : ℕ) (buffer : List ℕ) : Type 0 where
-  pub given : LinesOf table scratch
-  pub room : at + 2 * length (numbers_of part (decode table)) ≤ length buffer
+-- A part of the sheet of an accepted table can be put, given the lines of its single holders: the buffer has room for
+-- it from a place on.
+abbrev pub CanPut : Part → List ℕ → ℕ → List ℕ → Type 0
+CanPut part table at buffer = at + 2 * length (numbers_of part (decode table)) ≤ length buffer
 
--- The sheet can be put: K and Q are known, and the buffer has room for all of it.
-pub record CanPutSheet (table scratch : List ℕ) (kept logged : ℕ) (buffer : List ℕ) : Type 0 where
-  pub given : LinesOf table scratch
+-- The sheet can be put, given the same: K and Q are known, and the buffer has room for all of it.
+pub record CanPutSheet (table : List ℕ) (kept logged : ℕ) (buffer : List ℕ) : Type 0 where
   pub kept_is : kept ≡ length (kept_checkpoints (decode table))
   pub logged_is : logged ≡ length (kept_messages (decode table))
   pub room : 4 + 4 * length (kept_checkpoints (decode table)) + 2 * length (kept_messages (decode table))

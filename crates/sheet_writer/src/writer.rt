@@ -7,7 +7,7 @@ ghost use Rattle.sheet_writer.specs.Writers.{written};
 ghost use Rattle.tables.specs.Format.{decode};
 
 use crate::writing::{Part, put_part};
-use tables::parts::RunTable;
+use holder_lines::scratch::HolderLines;
 
 #[derive(Drop)]
 pub struct SheetWriter<'a> {
@@ -17,22 +17,23 @@ pub struct SheetWriter<'a> {
 
 impl<'a> SheetWriter<'a> {
     // Puts a part of the sheet, and goes on to the next place.
-    pub fn put_next(&mut self, part: Part, table: RunTable, scratch: &[u16])
-        requires { CanPut part table.bytes.now scratch.now self.old.at self.old.buffer.now }
-        ensures written { self.new ≡ written self.old (numbers_of part (decode table.entry.bytes.now)) }
+    pub fn put_next(&mut self, part: Part, holders: HolderLines)
+        requires { CanPut part holders.table.bytes.now self.old.at self.old.buffer.now }
+        ensures written { self.new
+            ≡ written self.old (numbers_of part (decode holders.entry.table.bytes.now)) }
         ensures same_reference { self.new.buffer.ghost_name ≡ self.old.buffer.ghost_name }
     {
         let at = self.at;
-        self.at = put_part(&mut *self.buffer, at, part, table, scratch);
+        self.at = put_part(&mut *self.buffer, at, part, holders);
     }
 
     // Puts a part of the sheet, and hands the writer back at the next place.
-    pub fn put(self, part: Part, table: RunTable, scratch: &[u16]) -> SheetWriter<'a>
-        requires { CanPut part table.bytes.now scratch.now self.at self.buffer.now }
-        ensures { result ≡ written self.entry (numbers_of part (decode table.entry.bytes.now)) }
+    pub fn put(self, part: Part, holders: HolderLines) -> SheetWriter<'a>
+        requires { CanPut part holders.table.bytes.now self.at self.buffer.now }
+        ensures { result ≡ written self.entry (numbers_of part (decode holders.entry.table.bytes.now)) }
     {
         let mut writer = self;
-        writer.put_next(part, table, scratch);
+        writer.put_next(part, holders);
         writer
     }
 }

@@ -8,12 +8,11 @@ ghost use Rattle.sheet_writer.specs.Writing.{Put};
 ghost use Rattle.tables.specs.Format.{decode};
 ghost use Rattle.tables.specs.Parts.{Counts, Messages};
 
-use holder_lines::scratch::HeldLines;
+use holder_lines::scratch::{HeldLines, HolderLines};
 use sheet_entries::checkpoints::next_kept;
 use sheet_entries::messages::LinesWithLowest;
 use tables::messages::MessageParts;
 use tables::numbers::{put_u16, u16_at};
-use tables::parts::RunTable;
 
 // The two arrays of the kept checkpoints: their processes, and their numbers.
 #[derive(Clone, Copy, PartialEq, Eq, Debug)]
@@ -121,17 +120,14 @@ fn put_positions(buffer: &mut [u8], at: usize, lines: HeldLines, messages: Messa
     next
 }
 
-// Puts a part of the sheet of an accepted table, given a scratch with the lines of its single holders.
-pub fn put_part(buffer: &mut [u8], at: usize, part: Part, table: RunTable, scratch: &[u16]) -> usize
-    requires { CanPut part table.bytes.now scratch.now at buffer.old }
+// Puts a part of the sheet of an accepted table, given the lines of its single holders.
+pub fn put_part(buffer: &mut [u8], at: usize, part: Part, holders: HolderLines) -> usize
+    requires { CanPut part holders.table.bytes.now at buffer.old }
     ensures { Put buffer.old buffer.new at
-        (numbers_of part (decode table.entry.bytes.now)) result }
+        (numbers_of part (decode holders.entry.table.bytes.now)) result }
 {
-    let n = table.process_count();
-    let lines = HeldLines {
-        numbers: scratch,
-        n,
-    };
+    let table = holders.table;
+    let lines = holders.lines();
     match part {
         Part::Sizes(kept, logged) => put_sizes(buffer, at, kept, logged),
         Part::Kept(column) => put_column(buffer, at, column, lines, table.counts()),

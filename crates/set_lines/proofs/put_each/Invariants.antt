@@ -3,4 +3,4 @@ use Rattle.set_lines.proofs.EachLaws.{PutsLines}
 use Rattle.set_lines.proofs.put_each.Given as goal
 
 abbrev pub invariant-loop-set : goal.invariant-loop-set
-invariant-loop-set l = PutsLines l.table.bytes.now l.sets l.scratch l.fn.answer l.n l.counts l.answer l.at l.set-index
+invariant-loop-set l = PutsLines l.holders.table.bytes.now l.sets l.lines.numbers.now l.fn.answer l.lines.n l.counts l.answer l.at l.set-index

@@ -32,5 +32,5 @@ unfolding rollback_answer table_refusal
 returns c =
     let here = quiet_table _ c.in_ok-table.ensures.refusal refl in
     let all = fits (rollback_judged here (rw c.in_ok-table.ensures.table at c.count_remaining-m.ensures))
-    (rw c.in_ok-table.ensures.table at c.rollback_size.ensures) c.in_ok-size.ensures (rw c.in_ok-table.ensures.table at c.put_rollback.ensures) in
+    (rw c.in_ok-table.ensures.table at c.rollback_size.ensures) c.in_ok-size.ensures (rw c.in_ok-table.ensures.table at c.put.ensures) in
     record { outcome = all.0; table = all.1 }

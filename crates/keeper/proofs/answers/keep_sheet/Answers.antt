@@ -32,13 +32,8 @@ pub fill_lines-requires : goal.fill_lines-requires
 fill_lines-requires c =
     record { table_in_bounds = rw c.in_ok-table.ensures.table (scratch_long _ _ (quiet_sheet _ _ c.in_ok-table.ensures.refusal refl)) }
 
-pub count_checkpoints-kept-requires : goal.count_checkpoints-kept-requires
-count_checkpoints-kept-requires c =
-    lined (goal.at.count_checkpoints-kept-requires c).After-fill_lines
-
-pub count_messages-logged-requires : goal.count_messages-logged-requires
-count_messages-logged-requires c =
-    lined (goal.at.count_messages-logged-requires c).After-fill_lines
+pub invariant_of-holders : goal.invariant_of-holders
+invariant_of-holders c = record { lines_of = lined (goal.at.invariant_of-holders c).After-fill_lines }
 
 pub sheet_size-requires : goal.sheet_size-requires
 sheet_size-requires c =
@@ -59,7 +54,6 @@ returns-in_err-size-clause-lines c =
 pub put_sheet-requires : goal.put_sheet-requires
 put_sheet-requires c =
     record {
-      given = lined (goal.at.put_sheet-requires c).After-fill_lines;
       kept_is = c.count_checkpoints-kept.ensures;
       logged_is = c.count_messages-logged.ensures;
       room = omega (arith, c.in_ok-size.ensures, c.sheet_size.ensures);

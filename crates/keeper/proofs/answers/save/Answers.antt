@@ -18,9 +18,10 @@ returns-in_err-size-clause-outcome c =
     short_exit c.from_residual-in_err-size.result _ c.from_residual-in_err-size.ensures.1 (checkpoint_judged _ _ here)
     (rw c.in_ok-table.ensures.table at c.same_size.ensures) c.in_err-size.ensures
 
-pub put_checkpoint-requires-clause-can_receive : goal.put_checkpoint-requires-clause-can_receive
-put_checkpoint-requires-clause-can_receive c =
-    rw c.in_ok-table.ensures.table (can_receive _ _ (quiet_receipt _ _ _ (quiet_save _ _ _ c.in_ok-table.ensures.refusal refl)))
+pub invariant_of-receipt : goal.invariant_of-receipt
+invariant_of-receipt c = record {
+  can_receive = rw c.in_ok-table.ensures.table (can_receive _ _ (quiet_receipt _ _ _ (quiet_save _ _ _ c.in_ok-table.ensures.refusal refl)));
+}
 
 pub returns : goal.returns
 unfolding checkpoint_answer
