@@ -4,7 +4,7 @@
 --     select_next, select_last, tallied_next, tallied_last    from one number that passes a test to the next
 --     received-before                 a message that crosses no line
 --     .. -kept                        whether a message is kept
---     message_beside    message k, by its receiver
+--     message_beside                message k, by its receiver
 --     keeps_at                        what a loop over the messages tests
 --     kept_number, checkpoints_counted, checkpoints_few    the kept checkpoints of each process, counted
 -- Assumes nothing.
@@ -12,7 +12,7 @@ use mathlib.Core.Bool.{Bool, true, false, and-false}
 use mathlib.Core.List.{List, [], ◌∷◌, ◌++◌}
 use mathlib.Core.Logic.{⊎_elim}
 use mathlib.Core.Path.{◌≡◌, refl, sym, ap, ap₂, ◌∙◌}
-use Prim.Native.Nat.{ℕ, zero, suc, ◌+◌, ◌*◌, ◌<◌, ◌≤◌, zero-le}
+use Prim.Native.Nat.{ℕ, zero, suc, ◌+◌, ◌<◌, ◌≤◌, zero-le}
 use native.Mathlib.Nat.{eq-or-lt_of_le, le_of_suc-le-suc, le_refl, mul-le-mul}
 use native.Mathlib.Omega.{arith}
 use borrow.Author.Tests.{eqb-false, eqb-true, ne_eqb, le-ltb}
@@ -21,15 +21,17 @@ use lib.ListN.{length, get_or, length-append, length-map}
 use Rattle.std.proofs.Common.{Option, Some, None, map, sum, unwrap_or}
 use Rattle.std.specs.List.{range_with_len}
 use Rattle.consistency.specs.Lines.{Line}
+use Rattle.holder_lines.specs.Held.{line_held}
 use Rattle.holder_lines.specs.Scratch.{HoldsLines, lines_in}
+use Rattle.holder_lines.specs.declared.scratch.HeldLines.{HeldLines}
 use Rattle.sheet_entries.proofs.ChainLaws.{sum_of_sizes}
 use Rattle.keep_sheet.specs.Sheet.{crosses}
 use Rattle.tables.proofs.ArrayLaws.{array_at}
 use Rattle.tables.proofs.ListLaws.{any_below_none, found_below, get_or_tabulate, length-tabulate, none_below, rows_most, select_gap, select_more}
 use Rattle.tables.proofs.SelectLaws.{Tallied, select_few}
-use Rattle.tables.specs.Format.{checkpoint_at, count_at, message_at, process_at}
+use Rattle.tables.specs.Format.{count_at, message_at}
+use Rattle.tables.specs.declared.messages.MessageParts.{MessageParts}
 use Rattle.tables.specs.Lists.{First, any_below, select, tabulate}
-use Rattle.tables.specs.Numbers.{u16_at}
 use Rattle.tables.specs.Parts.{MessageThere}
 use Rattle.tables.specs.Table.{Message, most_processes}
 use Rattle.sheet_entries.specs.Kept.{FirstBelow, MessageBeside, checkpoints_at, checkpoints_of, crosses_line, is_kept, kept_of, least_below, lowest_at}
@@ -138,8 +140,8 @@ message_beside {n} {scratch = scratch} holds there read lowest_is =
     }
 
 -- what a loop over the messages tests of message k
-abbrev pub keeps_at : ℕ → List ℕ → List ℕ → List ℕ → ℕ → Bool
-keeps_at n scratch sends receipts k = is_kept n (lines_in scratch n) (message_at sends receipts k)
+abbrev pub keeps_at : HeldLines → MessageParts → ℕ → Bool
+keeps_at lines messages k = is_kept lines.n (line_held lines) (message_at messages.sends.now messages.receipts.now k)
 
 -- ---- the kept checkpoints of n processes, counted one process after another
 module _ (n : ℕ) (line : ℕ → Line) (counts : List ℕ) where
