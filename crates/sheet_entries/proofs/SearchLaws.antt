@@ -4,7 +4,7 @@
 --     select_next, select_last, tallied_next, tallied_last    from one number that passes a test to the next
 --     received-before                 a message that crosses no line
 --     .. -kept                        whether a message is kept
---     message_beside                message k, by its receiver
+--     message_beside                  message k, by its receiver
 --     keeps_at                        what a loop over the messages tests
 --     kept_number, checkpoints_counted, checkpoints_few    the kept checkpoints of each process, counted
 -- Assumes nothing.
