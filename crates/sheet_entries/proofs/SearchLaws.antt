@@ -4,7 +4,7 @@
 --     select_next, select_last, tallied_next, tallied_last    from one number that passes a test to the next
 --     received-before                 a message that crosses no line
 --     .. -kept                        whether a message is kept
---     message_beside    message k, by its receiver
+--     message_beside                  message k, by its receiver
 --     keeps_at                        what a loop over the messages tests
 --     kept_number, checkpoints_counted, checkpoints_few    the kept checkpoints of each process, counted
 -- Assumes nothing.
@@ -21,13 +21,16 @@ use lib.ListN.{length, get_or, length-append, length-map}
 use Rattle.std.proofs.Common.{Option, Some, None, map, sum, unwrap_or}
 use Rattle.std.specs.List.{range_with_len}
 use Rattle.consistency.specs.Lines.{Line}
+use Rattle.holder_lines.specs.Held.{line_held}
 use Rattle.holder_lines.specs.Scratch.{HoldsLines, lines_in}
+use Rattle.holder_lines.specs.declared.scratch.HeldLines.{HeldLines}
 use Rattle.sheet_entries.proofs.ChainLaws.{sum_of_sizes}
 use Rattle.keep_sheet.specs.Sheet.{crosses}
 use Rattle.tables.proofs.ArrayLaws.{array_at}
 use Rattle.tables.proofs.ListLaws.{any_below_none, found_below, get_or_tabulate, length-tabulate, none_below, rows_most, select_gap, select_more}
 use Rattle.tables.proofs.SelectLaws.{Tallied, select_few}
 use Rattle.tables.specs.Format.{count_at, message_at}
+use Rattle.tables.specs.declared.messages.MessageParts.{MessageParts}
 use Rattle.tables.specs.Lists.{First, any_below, select, tabulate}
 use Rattle.tables.specs.Parts.{MessageThere}
 use Rattle.tables.specs.Table.{Message, most_processes}
@@ -137,8 +140,8 @@ message_beside {n} {scratch = scratch} holds there read lowest_is =
     }
 
 -- what a loop over the messages tests of message k
-abbrev pub keeps_at : ℕ → List ℕ → List ℕ → List ℕ → ℕ → Bool
-keeps_at n scratch sends receipts k = is_kept n (lines_in scratch n) (message_at sends receipts k)
+abbrev pub keeps_at : HeldLines → MessageParts → ℕ → Bool
+keeps_at lines messages k = is_kept lines.n (line_held lines) (message_at messages.sends.now messages.receipts.now k)
 
 -- ---- the kept checkpoints of n processes, counted one process after another
 module _ (n : ℕ) (line : ℕ → Line) (counts : List ℕ) where

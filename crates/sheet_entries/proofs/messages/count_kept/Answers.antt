@@ -13,6 +13,7 @@ pub returns : goal.returns
 unfolding positions_of
 returns c =
     count_from_yields_List c.filter.result c.count.result c.count.ensures.ran
-    (YieldsList-from_filter _ (keeps_at c.args.lines.n c.args.lines.numbers.now c.args.messages.sends.now c.args.messages.receipts.now)
-    (YieldsList-from_range 0 c.args.messages.count c.args.messages.count c.filter.ensures.source (omega arith)) c.filter.ensures.closure (λ x b q k. search (rules, tests)))
+    (YieldsList-from_filter _ (keeps_at c.args.lines c.args.messages)
+    (YieldsList-from_range 0 c.args.messages.count c.args.messages.count c.filter.ensures.source (omega arith))
+    c.filter.ensures.closure (λ x b q k. search (rules, tests)))
     ∙ ap length (filter_of_range _ c.args.messages.count)

@@ -6,4 +6,4 @@ use Rattle.sheet_writer.proofs.writing.put_positions.Given as goal
 
 abbrev pub invariant-loop-position : goal.invariant-loop-position
 invariant-loop-position l =
-    PuttingNumbers (select (keeps_at l.lines.n l.lines.numbers.now l.messages.sends.now l.messages.receipts.now)) l.messages.count l.fn.buffer l.at l.buffer l.next l.position
+    PuttingNumbers (select (keeps_at l.lines l.messages)) l.messages.count l.fn.buffer l.at l.buffer l.next l.position
