@@ -52,6 +52,7 @@ pub struct Receipt<'a> {
     pub ghost can_receive: { CanReceive table.bytes.now process list.now },
 }
 
+// Each method asks for room by a clause of its own: the prover covers no ghost field beside a buffer lent as `&mut`.
 impl<'a> Receipt<'a> {
     // Writes the table after the process received the list, with its count grown by the checkpoints that it took,
     // none or one, to the front of a buffer that has room for it.
