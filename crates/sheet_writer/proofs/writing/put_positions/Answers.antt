@@ -11,7 +11,8 @@ unfolding positions_of
 loop-position-init c = select_none _ c.requires.m_in_bounds
 
 -- what was found of a message, of the lines as they were given
-found : (c : After-is_kept) → c.is_kept.result ≡ keeps_at c.args.lines.n c.args.lines.numbers.now c.args.sends.now c.args.receipts.now c.loop-position.position
+found : (c : After-is_kept)
+    → c.is_kept.result ≡ keeps_at c.args.lines.n c.args.lines.numbers.now c.args.sends.now c.args.receipts.now c.loop-position.position
 found c = rw (← c.of-with_lowest.ensures) c.is_kept.ensures
 
 pub put_number-next-requires : goal.put_number-next-requires
