@@ -13,6 +13,7 @@ use Prim.Native.Nat.{ℕ, zero, suc, ◌+◌, ◌*◌, ◌≤◌, ◌<◌}
 use native.Mathlib.Nat.{mul-le-mul}
 use native.Mathlib.Omega.{arith}
 use borrow.Author.Tests.{ltb-false, ltb-true}
+use denote.Ref.{MutBor}
 use lib.Dec.{ltb}
 use lib.ListN.{length, take, drop, get_or, length-append, length-drop, length-take, take-append-drop}
 use lib.Seq.{get_or-drop, take_all, take-append_seam}
@@ -38,6 +39,7 @@ use Rattle.listings.specs.Listing.{EndsInShare, checkpoint_row, hold_row, line_r
 use Rattle.listings.specs.Listing.{refused_row, share, share_row}
 use Rattle.listing_text.specs.Rows.{Answered, checkpoint_at, checkpoint_rows, hold_rows, line_at, message_rows}
 use Rattle.text_writer.specs.Text.{Laid, each, overlay}
+use Rattle.text_writer.specs.Writers.{standing}
 use Rattle.tables.proofs.AcceptLaws.{front_refused}
 use Rattle.tables.proofs.ArrayLaws.{array_front, array_length}
 use Rattle.tables.proofs.CheckLaws.{are_refusals, quiet_none}
@@ -202,8 +204,8 @@ module _ {table : List ℕ} {n : ℕ} {line scratch bytes : List ℕ} {k q : ℕ
       omega (arith, kept_is, r.q_is, logged_read table r.accepted scratch bytes r.answered, sheet_room table r.accepted scratch bytes r.answered)
 
   -- the listing, in the parts that the code puts
-  pub listing_left : {before : List ℕ} {s : ℕ} → s ≡ share t₃
-      → Left (listing t₃) before 0 before 0
+  pub listing_left : {text : MutBor (List ℕ)} {s : ℕ} → s ≡ share t₃
+      → Left (listing t₃) (standing text 0) (standing text 0)
       (line_row (take n line) ∷ hold_rows scratch n ∷ checkpoint_rows bytes k ∷ message_rows bytes k q ∷ share_row s ∷ [])
   unfolding listing each
   listing_left {s = s} is =

@@ -23,6 +23,7 @@ use tables::lookups;
 use tables::numbers::u16_at;
 use tables::parts::RunTable;
 use tables::refusal::Refusal;
+use text_writer::TextWriter;
 
 // The bytes of a buffer that every listing fits: what `fits`, below, promises.
 pub const LISTING_ROOM: usize = 80000;
@@ -56,15 +57,17 @@ fn put_listing(text: &mut [u8], table: RunTable, scratch: &[u16], sheet: &[u8]) 
     let kept = u16_at(sheet, 0) as usize;
     let logged = u16_at(sheet, 2) as usize;
     let line = recovery_line(table);
-    let after_line = rows::put_line(text, 0, &line[..n]);
     let lines = HeldLines {
         numbers: scratch,
         n,
     };
-    let after_holds = rows::put_holds(text, after_line, lines);
-    let after_checkpoints = rows::put_checkpoints(text, after_holds, sheet, kept);
-    let after_messages = rows::put_messages(text, after_checkpoints, sheet, kept, logged);
-    rows::put_row(text, after_messages, b"share", share_of(table, kept))
+    let mut writer = TextWriter { text, at: 0 };
+    rows::put_line(&mut writer, &line[..n]);
+    rows::put_holds(&mut writer, lines);
+    rows::put_checkpoints(&mut writer, sheet, kept);
+    rows::put_messages(&mut writer, sheet, kept, logged);
+    rows::put_row(&mut writer, b"share", share_of(table, kept));
+    writer.at
 }
 
 // Puts the listing of bytes, a table or not, given the outcome of the call for its keep sheet.
@@ -81,7 +84,11 @@ fn put_text(
 {
     match kept {
         Ok(_) => put_listing(text, RunTable { bytes: table }, scratch, sheet),
-        Err(refusal) => rows::put_row(text, 0, b"refused", u32::from(refusal)),
+        Err(refusal) => {
+            let mut writer = TextWriter { text, at: 0 };
+            rows::put_row(&mut writer, b"refused", u32::from(refusal));
+            writer.at
+        }
     }
 }
 

@@ -1,8 +1,8 @@
 -- Text laid over a buffer, numbers in decimal, and rows.
 --     overlay-..                      text over a buffer
---     laid_none, laid_then, ..        text after text
---     Left, all_left, part_room, ..   a text that is laid part by part
---     Laying, laying-..               a loop that lays one text after another
+--     written_none, byte_within, ..   text after text
+--     Left, all_left, part_room, ..   a text that is put part by part
+--     Putting, putting-..             a loop that puts one text after another
 --     one_digit, more_digits, ..      a number's digits
 --     each_rows, letters              the texts of a list's entries, by their places
 --     field_parts, row_parts, ..      a field and a row, part by part
@@ -11,21 +11,17 @@ use mathlib.Core.Bool.{Bool, true, false}
 use mathlib.Core.List.{List, [], ◌∷◌, ◌++◌, append_assoc, append-nil}
 use mathlib.Core.Path.{◌≡◌, refl, sym, ap, ap₂, ◌∙◌, subst}
 use Prim.Native.Nat.{ℕ, zero, suc, ◌+◌, ◌*◌, ◌/◌, ◌%◌, ◌≤◌, ◌<◌}
+use denote.Ref.{at_last}
 use borrow.Author.Tests.{le-ltb, lt-ltb, ltb-false, ltb-true}
 use native.Mathlib.Nat.{le_antisymm}
 use native.Mathlib.Omega.{arith}
 use lib.Dec.{ltb}
 use lib.ListN.{length, drop, get_or, set, length-append}
 use Rattle.text_writer.specs.Text.{Fits, Laid, decimal, digits, each, field, overlay, row}
+use Rattle.text_writer.specs.Writers.{standing, written}
+use Rattle.text_writer.specs.declared.TextWriter.{TextWriter}
 use Rattle.tables.proofs.ListLaws.{rows_more, rows_room}
 use Rattle.tables.specs.Lists.{rows}
-
-overlay-length : (b : List ℕ) (at : ℕ) (xs : List ℕ) → length (overlay b at xs) ≡ length b
-unfolding overlay
-overlay-length [] at xs = refl
-overlay-length (x ∷ b) zero [] = refl
-overlay-length (x ∷ b) zero (y ∷ xs) = ap suc (overlay-length b zero xs)
-overlay-length (x ∷ b) (suc at) xs = ap suc (overlay-length b at xs)
 
 overlay_none : (b : List ℕ) (at : ℕ) → overlay b at [] ≡ b
 unfolding overlay
@@ -64,90 +60,92 @@ overlay_front (x ∷ b) [] l = refl
 overlay_front (x ∷ b) (y ∷ xs) l = ap (λ (r : List ℕ). y ∷ r) (overlay_front b xs (omega (arith, l)))
 
 -- ---- text after text
-pub laid_none : (before : List ℕ) (at : ℕ) → Laid before before at [] at
-laid_none before at = record { contents = sym (overlay_none before at); place = omega arith }
+abbrev left_with : TextWriter → ℕ → List ℕ → TextWriter
+left_with w at text = standing (at_last w.text text) at
+
+written_none : (w : TextWriter) → w ≡ written w []
+written_none w = ap₂ (left_with w) (omega arith) (sym (overlay_none w.text.now w.at))
+
+written_more : (w : TextWriter) (xs ys : List ℕ) → written (written w xs) ys ≡ written w (xs ++ ys)
+written_more w xs ys = ap₂ (left_with w) (omega (arith, length-append xs ys)) (overlay_more w.text.now w.at xs ys)
 
 -- a byte: beyond the end, and within
-pub laid_beyond : (before : List ℕ) (at c : ℕ) → length before ≤ at → Laid before before at (c ∷ []) (at + 1)
-laid_beyond before at c l = record { contents = sym (overlay_beyond before at (c ∷ []) l); place = refl }
+pub byte_beyond : (w : TextWriter) (c : ℕ) → length w.text.now ≤ w.at → standing w.text (w.at + 1) ≡ written w (c ∷ [])
+byte_beyond w c l = ap (left_with w (w.at + 1)) (sym (overlay_beyond w.text.now w.at (c ∷ []) l))
 
-pub laid_byte : (before : List ℕ) (at c : ℕ) → at < length before → Laid before (set before at c) at (c ∷ []) (at + 1)
-laid_byte before at c l = record { contents = sym (overlay_one before at c l); place = refl }
+pub byte_within : (w : TextWriter) (c : ℕ) → w.at < length w.text.now
+    → standing (at_last w.text (set w.text.now w.at c)) (w.at + 1) ≡ written w (c ∷ [])
+byte_within w c l = ap (left_with w (w.at + 1)) (sym (overlay_one w.text.now w.at c l))
 
-pub laid_length : {before after : List ℕ} {at : ℕ} {xs : List ℕ} {next : ℕ} → Laid before after at xs next → length after ≡ length before
-laid_length {before} {after} {at} {xs} p = ap length p.contents ∙ overlay-length before at xs
-
-module _ (before after : List ℕ) (at : ℕ) (xs : List ℕ) (next : ℕ) (p : Laid before after at xs next) where
-  pub laid_then : (later ys : List ℕ) (end : ℕ) → Laid after later next ys end → Laid before later at (xs ++ ys) end
-  laid_then later ys end q = record {
-    contents = q.contents ∙ ap₂ (λ (b : List ℕ) (i : ℕ). overlay b i ys) p.contents p.place ∙ overlay_more before at xs ys;
-    place = omega (arith, length-append xs ys, p.place, q.place);
-  }
+-- what a writer has put lies over its buffer
+pub text_laid : {w after : TextWriter} {text : List ℕ} → after ≡ written w text → Laid w.text.now after.text.now w.at text after.at
+text_laid e = record { contents = ap (λ (w : TextWriter). w.text.now) e; place = ap (λ (w : TextWriter). w.at) e }
 
 -- the same text
 pub laid_same : {before after xs ys : List ℕ} {at next : ℕ} → xs ≡ ys → Laid before after at xs next → Laid before after at ys next
 laid_same e p = rw e at p
 
--- ---- a text that is laid part by part
+-- ---- a text that is put part by part
 abbrev pub joined : List (List ℕ) → List ℕ
 joined = each (λ part. part)
 
--- Parts of a whole text are left to be laid, at the next place; once they are, the whole is.
-pub record Left (whole before : List ℕ) (at : ℕ) (after : List ℕ) (next : ℕ) (parts : List (List ℕ)) : Type 0 where
-  pub room : Fits next (joined parts)
-  pub ends : {later : List ℕ} {end : ℕ} → Laid after later next (joined parts) end → Laid before later at whole end
+-- Parts of a whole text are left to be put; once they are, the whole is.
+pub record Left (whole : List ℕ) (before after : TextWriter) (parts : List (List ℕ)) : Type 0 where
+  pub room : Fits after.at (joined parts)
+  pub ends : {later : TextWriter} → later ≡ written after (joined parts) → later ≡ written before whole
 
 -- all of it is left at first, and nothing in the end
-pub all_left : {whole before : List ℕ} {at : ℕ} {parts : List (List ℕ)} → whole ≡ joined parts → Fits at whole
-    → Left whole before at before at parts
-all_left e room = record { room = rw (← e) room; ends = λ laid. rw e laid }
+pub all_left : {whole : List ℕ} {before : TextWriter} {parts : List (List ℕ)} → whole ≡ joined parts → Fits before.at whole
+    → Left whole before before parts
+all_left e room = record { room = rw (← e) room; ends = λ put. rw e put }
 
-pub none_left : {whole before : List ℕ} {at : ℕ} {after : List ℕ} {next : ℕ} → Left whole before at after next [] → Laid before after at whole next
+pub none_left : {whole : List ℕ} {before after : TextWriter} → Left whole before after [] → after ≡ written before whole
 unfolding each
-none_left left = left.ends (laid_none _ _)
+none_left left = left.ends (written_none _)
 
-module _ {whole before : List ℕ} {at : ℕ} {after : List ℕ} {next : ℕ} {part : List ℕ} {parts : List (List ℕ)}
-    (left : Left whole before at after next (part ∷ parts)) where
-  pub part_room : Fits next part
+module _ {whole : List ℕ} {before after : TextWriter} {part : List ℕ} {parts : List (List ℕ)} (left : Left whole before after (part ∷ parts)) where
+  pub part_room : Fits after.at part
   unfolding each
   part_room = omega (arith, left.room, length-append part (joined parts))
 
-  pub part_laid : {later : List ℕ} {end : ℕ} → Laid after later next part end → Left whole before at later end parts
+  pub part_put : {later : TextWriter} → later ≡ written after part → Left whole before later parts
   unfolding each
-  part_laid {later} {end} laid = record {
-    room = omega (arith, left.room, laid.place, length-append part (joined parts));
-    ends = λ rest. left.ends (laid_then after later next part end laid _ (joined parts) _ rest);
-  }
+  part_put {later} put =
+      let place : later.at ≡ after.at + length part = ap (λ (w : TextWriter). w.at) put in
+      record {
+        room = omega (arith, left.room, place, length-append part (joined parts));
+        ends = λ rest. left.ends (rest ∙ ap (λ (w : TextWriter). written w (joined parts)) put ∙ written_more after part (joined parts));
+      }
 
--- ---- a loop that lays the texts of n places, one after another, has laid those of k places
-pub record Laying (f : ℕ → List ℕ) (n : ℕ) (whole before : List ℕ) (at : ℕ) (after : List ℕ) (next k : ℕ) : Type 0 where
+-- ---- a loop that puts the texts of n places, one after another, has put those of k places
+pub record Putting (f : ℕ → List ℕ) (n : ℕ) (whole : List ℕ) (before after : TextWriter) (k : ℕ) : Type 0 where
   pub all : rows f n ≡ whole
-  pub room : Fits at whole
+  pub room : Fits before.at whole
   pub within : k ≤ n
-  pub laid : Laid before after at (rows f k) next
+  pub put : after ≡ written before (rows f k)
 
-pub laying_none : {f : ℕ → List ℕ} {n : ℕ} {whole before : List ℕ} {at : ℕ} → rows f n ≡ whole → Fits at whole
-    → Laying f n whole before at before at 0
+pub putting_none : {f : ℕ → List ℕ} {n : ℕ} {whole : List ℕ} {before : TextWriter} → rows f n ≡ whole → Fits before.at whole
+    → Putting f n whole before before 0
 unfolding rows
-laying_none all room = record { all = all; room = room; within = omega arith; laid = laid_none _ _ }
+putting_none all room = record { all = all; room = room; within = omega arith; put = written_none _ }
 
-module _ {f : ℕ → List ℕ} {n : ℕ} {whole before : List ℕ} {at : ℕ} {after : List ℕ} {next k : ℕ}
-    (h : Laying f n whole before at after next k) where
+module _ {f : ℕ → List ℕ} {n : ℕ} {whole : List ℕ} {before after : TextWriter} {k : ℕ} (h : Putting f n whole before after k) where
   -- the text that comes next
   module _ {text : List ℕ} (is : text ≡ f k) (l : k < n) where
-    pub laying_room : Fits next text
-    laying_room = omega (arith, h.room, h.laid.place, rows_room f k n l, ap length h.all, ap length is)
+    pub putting_room : Fits after.at text
+    putting_room = omega (arith, h.room, ap (λ (w : TextWriter). w.at) h.put, rows_room f k n l, ap length h.all, ap length is)
 
-    pub laying_more : {later : List ℕ} {end : ℕ} → Laid after later next text end → Laying f n whole before at later end (k + 1)
-    laying_more {later} {end} q = record {
+    pub putting_more : {later : TextWriter} → later ≡ written after text → Putting f n whole before later (k + 1)
+    putting_more put = record {
       all = h.all;
       room = h.room;
       within = omega arith;
-      laid = rw (rows_more f k, sym is) (laid_then before after at (rows f k) next h.laid later text end q);
+      put =
+          put ∙ ap₂ written h.put is ∙ written_more before (rows f k) (f k) ∙ ap (written before) (sym (rows_more f k));
     }
 
-  pub laying_all : n ≤ k → Laid before after at whole next
-  laying_all l = subst (λ (text : List ℕ). Laid before after at text next) (ap (rows f) (le_antisymm h.within l) ∙ h.all) h.laid
+  pub putting_all : n ≤ k → after ≡ written before whole
+  putting_all l = h.put ∙ ap (written before) (ap (rows f) (le_antisymm h.within l) ∙ h.all)
 
 -- ---- a number's digits
 -- steps beyond those that are enough change nothing
@@ -173,12 +171,12 @@ decimal_more n l =
     rw (le-ltb n 10 l) (ap (λ (r : List ℕ). r ++ ((48 + n % 10) ∷ [])) (digits_enough n (suc (n / 10)) (n / 10) (omega arith) (omega arith)))
 
 -- a number of one digit, put by its byte; one of more digits: those of its tenth, and its last
-pub one_digit : {n at : ℕ} {before : List ℕ} → n < 10 → Fits at (decimal n) → Left (decimal n) before at before at (((48 + n) ∷ []) ∷ [])
+pub one_digit : {n : ℕ} {before : TextWriter} → n < 10 → Fits before.at (decimal n) → Left (decimal n) before before (((48 + n) ∷ []) ∷ [])
 unfolding each
 one_digit {n} l = all_left (decimal_small n l)
 
-pub more_digits : {n at : ℕ} {before : List ℕ} → 10 ≤ n → Fits at (decimal n)
-    → Left (decimal n) before at before at (decimal (n / 10) ∷ ((48 + n % 10) ∷ []) ∷ [])
+pub more_digits : {n : ℕ} {before : TextWriter} → 10 ≤ n → Fits before.at (decimal n)
+    → Left (decimal n) before before (decimal (n / 10) ∷ ((48 + n % 10) ∷ []) ∷ [])
 unfolding each
 more_digits {n} l = all_left (decimal_more n l)
 
@@ -219,23 +217,23 @@ pub letters : (word : List ℕ) → rows (λ k. get_or word k 0 ∷ []) (length 
 letters word = sym (each_rows (λ c. c ∷ []) 0 word) ∙ each_self word
 
 -- ---- fields and rows, part by part
-pub field_parts : (n : ℕ) {at : ℕ} {before : List ℕ} → Fits at (field n) → Left (field n) before at before at ((32 ∷ []) ∷ decimal n ∷ [])
+pub field_parts : (n : ℕ) {before : TextWriter} → Fits before.at (field n) → Left (field n) before before ((32 ∷ []) ∷ decimal n ∷ [])
 unfolding field each
 field_parts n = all_left (ap (λ (r : List ℕ). 32 ∷ r) (sym (append-nil (decimal n))))
 
 behind : (word : List ℕ) {xs ys : List ℕ} → xs ≡ ys → word ++ xs ≡ word ++ ys
 behind word e = ap (λ (r : List ℕ). word ++ r) e
 
-module _ (word : List ℕ) {at : ℕ} {before : List ℕ} where
-  pub row_parts : (ns : List ℕ) → Fits at (row word ns) → Left (row word ns) before at before at (word ∷ each field ns ∷ (10 ∷ []) ∷ [])
+module _ (word : List ℕ) {before : TextWriter} where
+  pub row_parts : (ns : List ℕ) → Fits before.at (row word ns) → Left (row word ns) before before (word ∷ each field ns ∷ (10 ∷ []) ∷ [])
   unfolding row each
   row_parts ns = all_left refl
 
-  pub row_more : (n : ℕ) (ns : List ℕ) → Fits at (row word (n ∷ ns))
-      → Left (row word (n ∷ ns)) before at before at (word ∷ field n ∷ each field ns ∷ (10 ∷ []) ∷ [])
+  pub row_more : (n : ℕ) (ns : List ℕ) → Fits before.at (row word (n ∷ ns))
+      → Left (row word (n ∷ ns)) before before (word ∷ field n ∷ each field ns ∷ (10 ∷ []) ∷ [])
   unfolding row each
   row_more n ns = all_left (behind word (append_assoc (field n) (each field ns) (10 ∷ [])))
 
-  pub row_one : (n : ℕ) → Fits at (row word (n ∷ [])) → Left (row word (n ∷ [])) before at before at (word ∷ field n ∷ (10 ∷ []) ∷ [])
+  pub row_one : (n : ℕ) → Fits before.at (row word (n ∷ [])) → Left (row word (n ∷ [])) before before (word ∷ field n ∷ (10 ∷ []) ∷ [])
   unfolding row each
   row_one n = all_left (behind word (append_assoc (field n) [] (10 ∷ [])))

@@ -4,11 +4,11 @@ use Rattle.listing_text.proofs.put_text.Goals as goal
 use Rattle.listing_text.proofs.put_text.Goals.{In-Ok}
 use Rattle.listings.proofs.SizeLaws.{refused_few}
 use Rattle.listings.specs.Listing.{refused_row}
-use Rattle.std.proofs.Common.{ap, arith, sym, ◌∙◌, ◌≡◌}
+use Rattle.std.proofs.Common.{ap, arith, rules, sym, ◌∙◌, ◌≡◌}
 use Rattle.tables.proofs.RefusedLaws.{refused_some}
 use Rattle.tables.specs.Checks.{table_refusal}
 use Rattle.tables.specs.Refusals.{refusal_in}
-use Rattle.text_writer.proofs.TextLaws.{laid_same}
+use Rattle.text_writer.proofs.TextLaws.{laid_same, text_laid}
 
 -- the call answered, and so the table is accepted
 accepted : (c : In-Ok) → table_refusal c.args.table.now ≡ 0
@@ -28,4 +28,5 @@ pub returns-in-Err : goal.returns-in-Err
 unfolding refused_row
 returns-in-Err c =
     let is = c.from.ensures ∙ sym (ap refusal_in c.in-Err.is) ∙ c.requires.refusal_value in
-    laid_same (refused_text _ _ is (λ none. refused_some _ (sym c.from.ensures ∙ none))) c.put_row.ensures
+    let laid = laid_same (refused_text _ _ is (λ none. refused_some _ (sym c.from.ensures ∙ none))) (text_laid c.put_row.ensures) in
+    search (rules, laid)

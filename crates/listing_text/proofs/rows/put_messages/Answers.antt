@@ -1,5 +1,5 @@
--- The row of each position is laid behind those before it.
-use Rattle.text_writer.proofs.TextLaws.{laying_all, laying_more, laying_none, laying_room}
+-- The row of each position is put behind those before it.
+use Rattle.text_writer.proofs.TextLaws.{putting_all, putting_more, putting_none, putting_room}
 use Rattle.listings.specs.Listing.{message_row}
 use Rattle.listing_text.specs.Rows.{message_rows}
 use mathlib.Core.Path.{ap, refl, ◌∙◌}
@@ -7,16 +7,16 @@ use Rattle.listing_text.proofs.rows.put_messages.Goals as goal
 
 pub loop-e-init : goal.loop-e-init
 unfolding message_rows message_row
-loop-e-init c = laying_none refl c.requires.fits
+loop-e-init c = putting_none refl c.requires.fits
 
-pub put_row-next-requires : goal.put_row-next-requires
+pub put_row-requires : goal.put_row-requires
 unfolding message_rows message_row
-put_row-next-requires c = laying_room c.loop-e.invariant (ap message_row (c.from.ensures ∙ c.u16_at-position.ensures)) c.loop-e-test.true
+put_row-requires c = putting_room c.loop-e.invariant (ap message_row (c.from.ensures ∙ c.u16_at-position.ensures)) c.loop-e-test.true
 
 pub loop-e-preserved : goal.loop-e-preserved
 unfolding message_rows message_row
-loop-e-preserved c = laying_more c.loop-e.invariant (ap message_row (c.from.ensures ∙ c.u16_at-position.ensures)) c.loop-e-test.true c.put_row-next.ensures
+loop-e-preserved c = putting_more c.loop-e.invariant (ap message_row (c.from.ensures ∙ c.u16_at-position.ensures)) c.loop-e-test.true c.put_row.ensures
 
 pub returns : goal.returns
 unfolding message_rows message_row
-returns c = laying_all c.loop-e.invariant c.loop-e-test.false
+returns c = putting_all c.loop-e.invariant c.loop-e-test.false
