@@ -147,7 +147,7 @@ pub fn check(bytes: &[u8]) -> Result<RunTable<'_>, Refusal>
 }
 
 // Checks 5 to 9 and 23, on the three parts of a table whose sizes and length are right. It takes them apart, and
-// makes one value of them behind check 5: with one made before, the check of a table took a third longer.
+// makes one value of them behind check 5: where it is made before, the check of a table takes a third longer.
 fn entry_checks(
     counts: &[u8],
     sends: &[u8],
