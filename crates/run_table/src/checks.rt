@@ -5,10 +5,10 @@ ghost use Rattle.tables.specs.Checks.{table_refusal};
 ghost use Rattle.tables.specs.Format.{count_at, process_at};
 ghost use Rattle.tables.specs.Lists.{any_below};
 ghost use Rattle.tables.specs.Refusals.{refusal_in};
-ghost use Rattle.run_table.specs.Entries.{FirstOf, checks_of, refusal_of};
-ghost use Rattle.run_table.specs.EntryChecks.{bad_count_at, checks_at, checks_below};
-ghost use Rattle.run_table.specs.EntryChecks.{first_place, message_refusals, refusal_at, to_itself_at};
-ghost use Rattle.run_table.specs.EntryChecks.{unknown_at};
+ghost use Rattle.run_table.specs.Entries.{FirstOf, checks_of};
+ghost use Rattle.run_table.specs.EntryChecks.{Sized, bad_count_at, checks_at, checks_below};
+ghost use Rattle.run_table.specs.EntryChecks.{first_place, message_refusals, parts_refusal};
+ghost use Rattle.run_table.specs.EntryChecks.{refusal_at, to_itself_at, unknown_at};
 
 use crate::entries::Entries;
 use channels::behind_neighbour;
@@ -19,33 +19,21 @@ use tables::numbers::u16_at;
 use tables::parts::RunTable;
 use tables::refusal::Refusal;
 
+// Whether one of the n counts of a part is 0 or above 4,096 (check 5).
+fn bad_count(counts: &[u8], n: usize) -> bool
+    requires { length counts.now ≡ 2 * n }
+    ensures { result ≡ any_below n (bad_count_at counts.now) }
+{
+    for p in 0..n {
+        let count = u16_at(counts, 2 * p);
+        if count == 0 || MOST_CHECKPOINTS < count {
+            return true;
+        }
+    }
+    false
+}
+
 impl<'a> Entries<'a> {
-    // Checks 5 to 9 and 23.
-    fn entry_checks(self) -> Result<(), Refusal>
-        ensures { refusal_in result ≡ refusal_of self.entry }
-    {
-        if self.bad_count() {
-            return Err(Refusal::CountOutOfRange);
-        }
-        match self.first_caught() {
-            Some(caught) => Err(self.first_fault(caught)),
-            None => Ok(()),
-        }
-    }
-
-    // Whether one of the n counts is 0 or above 4,096 (check 5).
-    fn bad_count(self) -> bool
-        ensures { result ≡ any_below self.entry.n (bad_count_at self.entry.counts.now) }
-    {
-        for p in 0..self.n {
-            let count = u16_at(self.counts, 2 * p);
-            if count == 0 || MOST_CHECKPOINTS < count {
-                return true;
-            }
-        }
-        false
-    }
-
     // The first of the m messages that a check catches or that is out of turn. An accepted table, the usual
     // case, is gone through here alone.
     fn first_caught(self) -> Option<usize>
@@ -151,13 +139,37 @@ pub fn check(bytes: &[u8]) -> Result<RunTable<'_>, Refusal>
     }
     let sends_start = sends_at(n);
     let receipts_start = receipts_at(n, m);
+    let counts = &bytes[COUNTS_AT..sends_start];
+    let sends = &bytes[sends_start..receipts_start];
+    let receipts = &bytes[receipts_start..];
+    entry_checks(counts, sends, receipts, n, m)?;
+    Ok(RunTable { bytes })
+}
+
+// Checks 5 to 9 and 23, on the three parts of a table whose sizes and length are right. It takes them apart, and
+// makes one value of them behind check 5: where it is made before, the check of a table takes a third longer.
+fn entry_checks(
+    counts: &[u8],
+    sends: &[u8],
+    receipts: &[u8],
+    n: usize,
+    m: usize,
+) -> Result<(), Refusal>
+    requires { Sized n m counts.now sends.now receipts.now }
+    ensures { refusal_in result ≡ parts_refusal n m counts.now sends.now receipts.now }
+{
+    if bad_count(counts, n) {
+        return Err(Refusal::CountOutOfRange);
+    }
     let entries = Entries {
-        counts: &bytes[COUNTS_AT..sends_start],
-        sends: &bytes[sends_start..receipts_start],
-        receipts: &bytes[receipts_start..],
+        counts,
+        sends,
+        receipts,
         n,
         m,
     };
-    entries.entry_checks()?;
-    Ok(RunTable { bytes })
+    match entries.first_caught() {
+        Some(caught) => Err(entries.first_fault(caught)),
+        None => Ok(()),
+    }
 }

@@ -1,8 +1,8 @@
-// The entries of a table: its three parts, where its sizes and its length are right. They are a file of their
-// own because the definitions that the contracts of their methods cite name them (specs/Entries.antt).
+// The entries of a table, its three parts. The definitions that the contracts of their methods cite name them, so
+// the methods stand in another file (`checks`): a file of a ghost field imports all that it cites.
 ghost use Rattle.run_table.specs.EntryChecks.{Sized};
 
-// The counts, the sends and the receipts of a table of n processes and m messages.
+// The counts, the sends and the receipts of a table of n processes and m messages, whose sizes and length are right.
 #[derive(Clone, Copy)]
 pub struct Entries<'a> {
     pub counts: &'a [u8],

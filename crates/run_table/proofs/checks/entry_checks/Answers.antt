@@ -1,6 +1,6 @@
 -- What `entry_checks` returns is the refusal of the parts: by check 5, by the first check of messages that catches, or by nothing.
 use Rattle.run_table.proofs.EntryLaws.{refused_count, refused_message, refused_nothing}
-use Rattle.run_table.proofs.entries.Entries.entry_checks.Goals as goal
+use Rattle.run_table.proofs.checks.entry_checks.Goals as goal
 use Rattle.std.proofs.Common.{sym, ◌∙◌}
 
 pub returns-then-bad_count : goal.returns-then-bad_count

@@ -1,8 +1,8 @@
 -- A count is bad where it is 0 or above 4,096.
 use Rattle.run_table.proofs.ScanLaws.{bad_is}
-use Rattle.run_table.proofs.entries.Entries.bad_count.Goals as goal
-use Rattle.run_table.proofs.entries.Entries.bad_count.Goals.{then-count-eq0-via-else-count-eq0+then-count-gt-MOST_CHECKPOINTS}
-use Rattle.run_table.proofs.entries.Entries.bad_count.Goals.{then-count-eq0-via-then-count-eq0}
+use Rattle.run_table.proofs.checks.bad_count.Goals as goal
+use Rattle.run_table.proofs.checks.bad_count.Goals.{then-count-eq0-via-else-count-eq0+then-count-gt-MOST_CHECKPOINTS}
+use Rattle.run_table.proofs.checks.bad_count.Goals.{then-count-eq0-via-then-count-eq0}
 use Rattle.tables.proofs.CheckLaws.{inside, outside_above, outside_zero}
 use Rattle.tables.proofs.SearchedLaws.{searched_all, searched_here, searched_more, searched_none}
 
