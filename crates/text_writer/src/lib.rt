@@ -19,11 +19,10 @@ impl<'a> TextWriter<'a> {
         requires { Fits self.old.at (byte ∷ []) }
         ensures { self.new ≡ written self.old (byte ∷ []) }
     {
-        let at = self.at;
-        if at < self.text.len() {
-            self.text[at] = byte;
+        if self.at < self.text.len() {
+            self.text[self.at] = byte;
         }
-        self.at = at + 1;
+        self.at += 1;
     }
 
     // Puts a word.

@@ -1,6 +1,6 @@
 -- Each field is put behind those before it.
 use Rattle.std.proofs.Common.{ap, sym}
-use Rattle.text_writer.proofs.TextLaws.{each_rows, putting_all, putting_more, putting_none, putting_room}
+use Rattle.text_writer.proofs.TextLaws.{each_rows, putting_more, putting_none, putting_room}
 use Rattle.text_writer.specs.Text.{field}
 use Rattle.text_writer.proofs.TextWriter.put_fields.Goals as goal
 
@@ -12,6 +12,3 @@ put_field-requires c = putting_room c.loop-n.invariant (ap field c.from.ensures)
 
 pub loop-n-preserved : goal.loop-n-preserved
 loop-n-preserved c = putting_more c.loop-n.invariant (ap field c.from.ensures) c.loop-n-test.true c.put_field.ensures
-
-pub returns : goal.returns
-returns c = putting_all c.loop-n.invariant c.loop-n-test.false
