@@ -18,7 +18,8 @@ use std::io;
 use std::io::Write;
 use test_kit::guards::{GUARDS, MOST_ROOM, answer_end, is_guarded};
 use test_kit::{
-    SPACE, all_are, answered, asked, build, comment, end, first, length_of, value, values_end, word,
+    SPACE, all_are, asked, build, comment, end, first, length_of, numbers, told, value, values_end,
+    word,
 };
 use test_script::{Line, MOST_CEILINGS, extended, numbers_in, says};
 use whole_input::read_into;
@@ -58,7 +59,8 @@ fn show<W: Write>(
 {
     let to = answer_end(number, written, room);
     let zeros_end = values_end(marks, GUARDS, marks_end, 0);
-    answered(out, number, written, &space[GUARDS..to])?;
+    told(out, number, written)?;
+    numbers(out, &space[GUARDS..to])?;
     word(out, b" marks")?;
     value(out, (zeros_end - GUARDS) as u64)?;
     if is_guarded(space, GUARDS, to)

@@ -18,7 +18,7 @@ use std::io;
 use std::io::Write;
 use tables::format::MOST_PROCESSES;
 use test_kit::guards::{GUARDS, MOST_ROOM, answer_end, is_guarded};
-use test_kit::{SPACE, answered, asked, build, comment, end, first, length_of, numbers, word};
+use test_kit::{SPACE, asked, build, comment, end, first, length_of, numbers, told, word};
 use test_script::{Line, extended, numbers_in, says};
 use whole_input::read_into;
 
@@ -74,7 +74,8 @@ fn show<W: Write>(
     let lines_end = lines_at + 2 * line_numbers(number, n);
     let mut bytes = [0u8; 2 * SCRATCH];
     put_numbers(&mut bytes, 0, scratch);
-    answered(out, number, written, &space[GUARDS..to])?;
+    told(out, number, written)?;
+    numbers(out, &space[GUARDS..to])?;
     word(out, b" scratch")?;
     numbers(out, &bytes[lines_at..lines_end])?;
     if is_guarded(space, GUARDS, to) && is_guarded(&bytes, lines_at, lines_end) {

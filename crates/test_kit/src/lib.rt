@@ -191,16 +191,13 @@ pub fn numbers<W: Write>(out: &mut W, bytes: &[u8]) -> io::Result<()> {
     Ok(())
 }
 
-// Prints what a call answers: its number, what stands at `written` afterwards and the numbers of its answer.
-pub fn answered<W: Write>(
-    out: &mut W,
-    number: u32,
-    written: usize,
-    answer: &[u8],
-) -> io::Result<()> {
+// Prints what a call tells: its number, and what stands at `written` afterwards.
+pub fn told<W: Write>(out: &mut W, number: u32, written: usize) -> io::Result<()>
+    ensures { OnOk result (Appends (W.contents out.old) (W.contents out.new)
+        ((32 ∷ decimal number) ++ (32 ∷ decimal written))) }
+{
     value(out, u64::from(number))?;
-    value(out, written as u64)?;
-    numbers(out, answer)
+    value(out, written as u64)
 }
 
 // A checksum of some bytes.
