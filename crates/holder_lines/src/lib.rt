@@ -29,7 +29,7 @@ pub fn propagating(table: RunTable) -> [bool; 32]
 
 // The line of process k alone in an accepted table. Where a rollback of k does not propagate, it is the
 // ceiling, and nothing is looked at. Else a few passes are tried first where `few` says so, and it says
-// afterwards whether they are worth another try.
+// afterwards whether they are worth another try; it goes on to the next line, and is no answer beside this one.
 pub fn line_of_holder(table: RunTable, k: usize, propagates: bool, few: &mut bool) -> [u16; 32]
     requires k_bound { k < 32 }
     requires propagates_value { propagates ≡ propagates_from (decode table.bytes.now) k }

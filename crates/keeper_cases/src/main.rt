@@ -89,7 +89,7 @@ fn call_of(text: &[u8]) -> Option<Call> {
     }
 }
 
-// Makes a call with the numbers of a line, and answers its number.
+// Makes a call with the numbers of a line, and answers its number. A match, since each call takes other arguments.
 fn ask(
     call: Call,
     table: &[u8],
@@ -264,6 +264,8 @@ fn change(table: &mut [u8], text: &[u8], line: &Line, kept: &[u8]) {
     }
 }
 
+// Goes over the lines of a script. The programs have such a loop each: one for all would take a closure that writes
+// their buffers, of which a proof would no longer know how long they are.
 fn run<W: Write>(
     out: &mut W,
     script: &[u8],

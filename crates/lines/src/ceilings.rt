@@ -19,7 +19,7 @@ fn height(count: u16, holds: bool) -> u16
     count
 }
 
-// The ceiling of a set, from a part of n counts of which none is 0.
+// The ceiling of a set, from a part of n counts of which none is 0: callers have N, which would be a division here.
 pub fn ceiling(counts: &[u8], n: usize, set: u32) -> [u16; 32]
     requires { Counts n counts.now }
     ensures { result ≡ tabulate 32 (height_at n set counts.now) }

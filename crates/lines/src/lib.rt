@@ -19,7 +19,8 @@ use settling::settle;
 use tables::parts::RunTable;
 
 // The line under a ceiling in an accepted table. A few passes are tried first where `few` says so; it
-// says afterwards whether they are worth another try: not once they did not settle a line.
+// says afterwards whether they are worth another try: not once they did not settle a line. It goes on from
+// line to line, and is no answer beside this one.
 pub fn settled_line(table: RunTable, ceiling: [u16; 32], few: &mut bool) -> [u16; 32]
     ensures { result ≡ line_under (decode table.entry.bytes.now).messages ceiling }
 {
@@ -55,7 +56,8 @@ pub fn recovery_line(table: RunTable) -> [u16; 32]
     line_of_set(table, process_set::ALL)
 }
 
-// Writes a line of an accepted table, N numbers, to the front of a buffer that has room for it.
+// Writes a line of an accepted table, N numbers, to the front of a buffer that has room for it. Room in a lent
+// buffer is a clause here and elsewhere: a ghost field beside a `&mut` is not covered by the prover.
 pub fn put_line(table: RunTable, line: [u16; 32], answer: &mut [u8])
     requires table_in_bounds { 2 * process_count (decode table.bytes.now) ≤ length answer.old }
     ensures { answer.new

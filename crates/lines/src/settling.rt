@@ -20,6 +20,8 @@ fn chase_and_lower(start: [u16; 32], n: usize, messages: MessageParts) -> [u16; 
 
 // The line under a ceiling, of the messages between n processes. A few passes are tried first where `few`
 // says so; it says afterwards whether they are worth another try: not once they did not settle a line.
+// It is no answer beside the line, which is settled either way, but goes on from line to line. N stands beside
+// the messages, since most functions that read messages have no use for it.
 pub fn settle(ceiling: [u16; 32], n: usize, messages: MessageParts, few: &mut bool) -> [u16; 32]
     requires n_le_most_processes { n ≤ most_processes }
     ensures { result ≡ line_under (all_messages messages.entry) ceiling }

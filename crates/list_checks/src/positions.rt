@@ -23,7 +23,8 @@ pub(crate) fn entry_waits(receipts: &[u8], process: u16, k: usize) -> bool
     u16_at(receipts, 4 * k) == process && u16_at(receipts, 4 * k + 2) == 0
 }
 
-// Whether a position of the list is not that of an entry, of m receipts, that waits for the process.
+// Whether a position of the list is not that of an entry, of m receipts, that waits for the process. The caller has
+// M, which would be a division here.
 pub fn not_waiting(receipts: &[u8], m: usize, process: u16, list: &[u16]) -> bool
     requires { length receipts.now ≡ 4 * m }
     ensures { result ≡ any (bad_entry receipts.now m process) list.now }

@@ -16,7 +16,8 @@ use whole_input::read_front;
 
 // Puts the listing of an input, of which the first bytes of a buffer were read, all that it has room for
 // or the whole input: its length. A longer input than the largest table is refused by its front, so room
-// for one byte more is enough.
+// for one byte more is enough. The buffer stands whole beside the length, since what is said depends on whether
+// the input filled it.
 fn list_input(buffer: &[u8], len: usize, text: &mut [u8]) -> usize
     requires largest_table_in_bounds { largest_table < length buffer.now }
     requires prefix_len { len ≤ length buffer.now }

@@ -19,7 +19,8 @@ use lines::put_line;
 use marks::{Layout, clear};
 use tables::parts::{RunTable, number_array};
 
-// Marks the states behind the roots, where nothing is marked.
+// Marks the states behind the roots, where nothing is marked. Layout, roots and marks go together through what
+// follows, and `Lent` stays a clause: a ghost field beside a `&mut` is not covered by the prover.
 fn mark_behind(layout: &Layout, roots: &[u16], marks: &mut [u8])
     requires lent { Lent (decode layout.now.table.bytes.now) roots.now marks.old }
     requires unmarked { Unmarked (decode layout.now.table.bytes.now) marks.old }

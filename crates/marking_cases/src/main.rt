@@ -129,6 +129,8 @@ fn answer<W: Write>(
     Ok(())
 }
 
+// Goes over the lines of a script. The programs have such a loop each: one for all would take a closure that writes
+// their buffers, of which a proof would no longer know how long they are.
 fn run<W: Write>(
     out: &mut W,
     script: &[u8],

@@ -51,6 +51,8 @@ fn answer<W: Write>(out: &mut W, text: &[u8], buffer: &[u8], line: &Line) -> io:
     }
 }
 
+// Goes over the lines of a script. The programs have such a loop each: one for all would take a closure that writes
+// their buffers, of which a proof would no longer know how long they are.
 fn run<W: Write>(out: &mut W, script: &[u8], buffer: &mut [u8]) -> io::Result<()> {
     for text in script.split(|byte| *byte == b'\n') {
         let line = numbers_in(text);

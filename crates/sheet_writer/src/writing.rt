@@ -120,7 +120,8 @@ fn put_positions(buffer: &mut [u8], at: usize, lines: HeldLines, messages: Messa
     next
 }
 
-// Puts a part of the sheet of an accepted table, given the lines of its single holders.
+// Puts a part of the sheet of an accepted table, given the lines of its single holders. A match, since each part
+// is put from something else.
 pub fn put_part(buffer: &mut [u8], at: usize, part: Part, holders: HolderLines) -> usize
     requires { CanPut part holders.table.bytes.now at buffer.old }
     ensures { Put buffer.old buffer.new at

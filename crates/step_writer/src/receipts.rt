@@ -27,7 +27,7 @@ pub fn set_receipts(receipts: &mut [u8], list: &[u16], number: u16)
 }
 
 // Writes the receipts of m messages, those at the listed positions with a new number, to a place of a
-// buffer that has room for them.
+// buffer that has room for them. The caller has M, which would be a division here.
 fn put_receipts(buffer: &mut [u8], at: usize, receipts: &[u8], m: usize, list: &[u16], number: u16)
     requires receipts_len { length receipts.now ≡ 4 * m }
     requires by_index { (a : ℕ) → a < length list.now → get_or list.now a 0 < m }

@@ -11,7 +11,8 @@ use table_writer::{put_entry, put_head};
 use tables::format::{receipts_at, sends_at};
 use tables::parts::RunTable;
 
-// Copies an array of m entries, and one entry more, to a place of a buffer that has room for them.
+// Copies an array of m entries, and one entry more, to a place of a buffer that has room for them. The caller
+// has M, which would be a division here.
 fn put_longer(buffer: &mut [u8], at: usize, part: &[u8], m: usize, process: u16, checkpoint: u16)
     requires part_len { length part.now ≡ 4 * m }
     requires m_in_bounds { at + 4 * (m + 1) ≤ length buffer.old }

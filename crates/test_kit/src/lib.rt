@@ -257,7 +257,7 @@ pub fn asked<W: Write>(out: &mut W, line: &[u8]) -> io::Result<()>
 //     all M J Y I R        the first M messages alike
 //     number AT VALUE      a number at a byte
 //     domino M, backward M a domino of M messages, in the order of sending or the other one
-// A line that says something else writes nothing, and is left to the caller.
+// A line that says something else writes nothing, and is left to the caller. A match, since each takes other numbers.
 pub fn build(buffer: &mut [u8], text: &[u8], line: &Line)
     ensures { length buffer.new ≡ length buffer.old }
 {
