@@ -22,8 +22,8 @@
 #![tactic(auto)]
 
 ghost use Rattle.std.specs.Prelude.{IfOk, ◌≡◌, ◌+◌, ◌≤◌, length};
-ghost use Rattle.keeper_cases.specs.Places.{line_numbers, scratch_size};
-ghost use Rattle.test_kit.specs.Guards.{guards, most_room, space_size};
+ghost use Rattle.keeper_cases.specs.Places.{line_numbers};
+ghost use Rattle.test_kit.specs.Guards.{guards, most_room};
 
 use number_writer::put_numbers;
 use std::io;
@@ -158,12 +158,11 @@ fn show<W: Write>(
     number: u32,
     written: usize,
     n: usize,
-    scratch: &[u16],
-    space: &[u8],
+    scratch: &[u16; SCRATCH],
+    space: &[u8; SPACE],
     room: usize,
 ) -> io::Result<usize>
-    requires scratch_len { length scratch.now ≡ scratch_size }
-    requires room_le_most_room { (room ≤ most_room) × (guards + room ≤ length space.now) }
+    requires { room ≤ most_room }
     ensures { IfOk result (λ len. len ≤ most_room) }
 {
     let to = answer_end(number, written, room);
@@ -187,10 +186,9 @@ fn guarded_call<W: Write>(
     text: &[u8],
     table: &[u8],
     line: &Line,
-    scratch: &mut [u16],
-    space: &mut [u8],
+    scratch: &mut [u16; SCRATCH],
+    space: &mut [u8; SPACE],
 ) -> io::Result<usize>
-    requires { (length scratch.old ≡ scratch_size) × (length space.old ≡ space_size) }
     ensures { IfOk result (λ len. len ≤ most_room) }
 {
     let Some(call) = call_of(text) else {
@@ -227,9 +225,8 @@ fn answer<W: Write>(
     text: &[u8],
     table: &[u8],
     line: &Line,
-    space: &mut [u8],
+    space: &mut [u8; SPACE],
 ) -> io::Result<usize>
-    requires { length space.old ≡ space_size }
     ensures { IfOk result (λ len. len ≤ most_room) }
 {
     comment(out, text)?;
@@ -270,11 +267,9 @@ fn run<W: Write>(
     out: &mut W,
     script: &[u8],
     table: &mut [u8],
-    space: &mut [u8],
+    space: &mut [u8; SPACE],
     kept: &mut [u8],
-) -> io::Result<()>
-    requires { length space.old ≡ space_size }
-{
+) -> io::Result<()> {
     let mut kept_len = 0;
     for text in script.split(|byte| *byte == b'\n') {
         let line = numbers_in(text);

@@ -12,7 +12,7 @@
 #![tactic(auto)]
 
 ghost use Rattle.std.specs.Prelude.{◌≡◌, ◌+◌, ◌≤◌, length};
-ghost use Rattle.test_kit.specs.Guards.{guards, most_room, space_size};
+ghost use Rattle.test_kit.specs.Guards.{guards, most_room};
 
 use std::io;
 use std::io::Write;
@@ -51,11 +51,11 @@ fn show<W: Write>(
     marks: &[u8],
     marks_end: usize,
     before: u8,
-    space: &[u8],
+    space: &[u8; SPACE],
     room: usize,
 ) -> io::Result<()>
     requires guards_le_marks_end { guards ≤ marks_end }
-    requires room_le_most_room { (room ≤ most_room) × (guards + room ≤ length space.now) }
+    requires room_le_most_room { room ≤ most_room }
 {
     let to = answer_end(number, written, room);
     let zeros_end = values_end(marks, GUARDS, marks_end, 0);
@@ -79,11 +79,9 @@ fn call<W: Write>(
     text: &[u8],
     table: &[u8],
     line: &Line,
-    marks: &mut [u8],
-    space: &mut [u8],
-) -> io::Result<()>
-    requires { (length marks.old ≡ space_size) × (length space.old ≡ space_size) }
-{
+    marks: &mut [u8; SPACE],
+    space: &mut [u8; SPACE],
+) -> io::Result<()> {
     let room = line.size_up_to(1, MOST_ROOM);
     let room_end = GUARDS + room;
     let marks_end = GUARDS + line.size_up_to(2, MOST_MARKS);
@@ -108,11 +106,9 @@ fn answer<W: Write>(
     text: &[u8],
     table: &[u8],
     line: &Line,
-    marks: &mut [u8],
-    space: &mut [u8],
-) -> io::Result<()>
-    requires { (length marks.old ≡ space_size) × (length space.old ≡ space_size) }
-{
+    marks: &mut [u8; SPACE],
+    space: &mut [u8; SPACE],
+) -> io::Result<()> {
     comment(out, text)?;
     if says(text, b"marked") {
         marks.fill(165);
@@ -135,11 +131,9 @@ fn run<W: Write>(
     out: &mut W,
     script: &[u8],
     table: &mut [u8],
-    marks: &mut [u8],
-    space: &mut [u8],
-) -> io::Result<()>
-    requires { (length marks.old ≡ space_size) × (length space.old ≡ space_size) }
-{
+    marks: &mut [u8; SPACE],
+    space: &mut [u8; SPACE],
+) -> io::Result<()> {
     for text in script.split(|byte| *byte == b'\n') {
         let line = numbers_in(text);
         build(table, text, &line);

@@ -11,7 +11,7 @@
 #![tactic(auto)]
 
 ghost use Rattle.std.specs.Prelude.{◌≡◌, ◌+◌, ◌≤◌, ◌<◌, length};
-ghost use Rattle.test_kit.specs.Guards.{guards, most_room, space_size};
+ghost use Rattle.test_kit.specs.Guards.{guards, most_room};
 
 use number_writer::put_numbers;
 use std::io;
@@ -62,12 +62,11 @@ fn show<W: Write>(
     number: u32,
     written: usize,
     n: usize,
-    scratch: &[u16],
-    space: &[u8],
+    scratch: &[u16; SCRATCH],
+    space: &[u8; SPACE],
     room: usize,
 ) -> io::Result<()>
-    requires scratch_len { length scratch.now ≡ 1132 }
-    requires room_le_most_room { (room ≤ most_room) × (guards + room ≤ length space.now) }
+    requires { room ≤ most_room }
 {
     let to = answer_end(number, written, room);
     let lines_at = 2 * GUARDS;
@@ -91,11 +90,9 @@ fn call<W: Write>(
     text: &[u8],
     table: &[u8],
     line: &Line,
-    scratch: &mut [u16],
-    space: &mut [u8],
-) -> io::Result<()>
-    requires { (length scratch.old ≡ 1132) × (length space.old ≡ space_size) }
-{
+    scratch: &mut [u16; SCRATCH],
+    space: &mut [u8; SPACE],
+) -> io::Result<()> {
     let room = line.size_up_to(1, MOST_ROOM);
     let room_end = GUARDS + room;
     let scratch_end = GUARDS + line.size_up_to(2, MOST_NUMBERS);
@@ -119,10 +116,8 @@ fn answer<W: Write>(
     text: &[u8],
     table: &[u8],
     line: &Line,
-    space: &mut [u8],
-) -> io::Result<()>
-    requires { length space.old ≡ space_size }
-{
+    space: &mut [u8; SPACE],
+) -> io::Result<()> {
     comment(out, text)?;
     if says(text, b"sets") {
         let mut scratch = [42405u16; SCRATCH];
@@ -141,9 +136,12 @@ fn answer<W: Write>(
 
 // Goes over the lines of a script. The programs have such a loop each: one for all would take a closure that writes
 // their buffers, of which a proof would no longer know how long they are.
-fn run<W: Write>(out: &mut W, script: &[u8], table: &mut [u8], space: &mut [u8]) -> io::Result<()>
-    requires { length space.old ≡ space_size }
-{
+fn run<W: Write>(
+    out: &mut W,
+    script: &[u8],
+    table: &mut [u8],
+    space: &mut [u8; SPACE],
+) -> io::Result<()> {
     for text in script.split(|byte| *byte == b'\n') {
         let line = numbers_in(text);
         build(table, text, &line);
