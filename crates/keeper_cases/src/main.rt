@@ -242,7 +242,8 @@ fn answer<W: Write>(
     )
 }
 
-// Keeps the answer in the guarded buffer for `use`, if there is one, and says how long the one kept is.
+// Keeps the answer in the guarded buffer for `use`, if there is one, and says how long the one kept is: the buffer is
+// the program's for all of its run, and no answer is made anew.
 fn keep(kept: &mut [u8], kept_len: usize, space: &[u8], len: usize) -> usize
     requires { guards + len ≤ length space.now }
 {

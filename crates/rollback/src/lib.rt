@@ -62,7 +62,8 @@ impl<'a> Rollback<'a> {
 
     // Writes the sends of the m messages that stay, at a place of a buffer that has room for them, and
     // behind these their receipts. Processes are read as the u16 that they are written as, which the methods of
-    // `MessageParts` do not give.
+    // `MessageParts` do not give. A table is written at two places at once, so the place is an argument, here and
+    // where numbers are put.
     fn put_messages(&self, m: usize, buffer: &mut [u8], at: usize)
         requires m_value { m ≡ message_count (after_rollback (decode self.now.table.bytes.now)) }
         requires m_in_bounds { at + 8 * m ≤ length buffer.old }
