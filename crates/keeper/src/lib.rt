@@ -3,7 +3,7 @@
 // buffer and its length in `written`; on a refusal nothing lent is changed, but that under 16 the
 // scratch of a keep sheet holds the lines.
 //
-// Each call finds its outcome by name, in `answers`, and tells it as numbers.
+// Each call finds its outcome by name, in `answers`, and tells it as numbers; the check of a table is `run_table`'s.
 #![tactic(auto)]
 
 pub mod answers;

@@ -7,7 +7,7 @@ ghost use Rattle.std.specs.Prelude.{drop, get_or, length, min, position, take};
 ghost use Rattle.tables.specs.Lists.{tabulate};
 ghost use Rattle.test_script.specs.Scripts.{extended, word_of};
 
-// The numbers of a line, of which it has so many. Those behind them are 0.
+// The numbers of a line, of which it has so many.
 #[derive(Clone, Copy)]
 pub struct Line {
     pub numbers: [u64; 16],
