@@ -73,7 +73,7 @@ class Function:
 
 def functions(path, text):
     out = []
-    for m in re.finditer(r"(?m)^ *((?:pub )?(?:const )?(?:extern \"C\" )?fn )([a-z0-9_]+)", text):
+    for m in re.finditer(r"(?m)^ *((?:pub(?:\(crate\))? )?(?:const )?(?:extern \"C\" )?fn )([a-z0-9_]+)", text):
         if text[m.end() :].lstrip().startswith(";"):
             continue
         try:
