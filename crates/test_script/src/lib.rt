@@ -54,7 +54,9 @@ fn value_of(digits: &[u8]) -> u64
 }
 
 // The numbers of a line: the first sixteen.
-pub fn numbers_in(text: &[u8]) -> Line {
+pub fn numbers_in(text: &[u8]) -> Line
+    ensures { result.count ≤ 16 }
+{
     let mut numbers = [0; 16];
     let mut count = 0;
     for digits in text.split(|byte| !byte.is_ascii_digit()) {
