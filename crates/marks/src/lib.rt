@@ -1,8 +1,8 @@
 // Marks of states as bits of a lent buffer, set and asked for in place.
 #![tactic(auto)]
 
-ghost use Rattle.std.specs.Prelude.{suc, ◌≡◌, ◌+◌, ◌*◌, ◌/◌, ◌≤◌, ◌<◌, length};
-ghost use Rattle.marks.specs.Bits.{Onwards, SetFrom, bit_at, first_bit, marked_in, with_bit};
+ghost use Rattle.std.specs.Prelude.{suc, ◌≡◌, ◌+◌, ◌*◌, ◌/◌, ◌≤◌, ◌<◌, get_or, length};
+ghost use Rattle.marks.specs.Bits.{Onwards, SetFrom, bit_at, first_bit, marked_in, most_bits, with_bit};
 ghost use Rattle.marks.specs.Room.{cleared, marks_size};
 ghost use Rattle.tables.specs.Format.{decode};
 ghost use Rattle.tables.specs.Lists.{tabulate};
@@ -11,7 +11,7 @@ ghost use Rattle.tables.specs.Table.{count_of, process_count};
 use tables::parts::RunTable;
 
 // Whether bit b is set.
-fn is_set(marks: &[u8], b: usize) -> bool
+pub fn is_marked(marks: &[u8], b: usize) -> bool
     requires { b / 8 < length marks.now }
     ensures { result ≡ bit_at marks.now b }
 {
@@ -27,13 +27,13 @@ fn set_bit(marks: &mut [u8], b: usize)
 }
 
 // Sets the bits from one on, before an end. Behind one that is set they all are, so it stops there.
-fn set_from(marks: &mut [u8], from: usize, end: usize)
+pub fn mark_from(marks: &mut [u8], from: usize, end: usize)
     requires end_bound { end ≤ 8 * length marks.old }
     requires onwards { Onwards from end marks.old }
     ensures { SetFrom from end marks.old marks.new }
 {
     for b in from..end {
-        if is_set(marks, b) {
+        if is_marked(marks, b) {
             return;
         }
         set_bit(marks, b);
@@ -49,7 +49,7 @@ pub fn clear(marks: &mut [u8], size: usize)
 }
 
 // The first bit of each process of an accepted table, and behind the last one the number of all bits.
-fn first_bits(table: RunTable) -> [usize; 33]
+pub fn first_bits(table: RunTable) -> [usize; 33]
     ensures { result ≡ tabulate 33 (first_bit (decode table.entry.bytes.now).counts) }
 {
     let counts = table.count_array();
@@ -58,6 +58,22 @@ fn first_bits(table: RunTable) -> [usize; 33]
         first[p + 1] = first[p] + 1 + usize::from(count);
     }
     first
+}
+
+// The bit of state y of process p, by the array of first bits.
+pub fn state_bit(first: &[usize], p: usize, y: u16) -> usize
+    requires { (p < length first.now) × (get_or first.now p 0 ≤ most_bits) }
+    ensures { result ≡ get_or first.now p 0 + y }
+{
+    first[p] + usize::from(y)
+}
+
+// The end of the bits of process p, by the array of first bits.
+pub fn row_end(first: &[usize], p: usize) -> usize
+    requires { p + 1 < length first.now }
+    ensures { result ≡ get_or first.now (p + 1) 0 }
+{
+    first[p + 1]
 }
 
 // Where the marks of the states of an accepted table stand: state y of process p has bit first[p] + y, and bit b
@@ -102,7 +118,7 @@ impl<'a> Layout<'a> {
         requires { p < process_count (decode self.now.table.bytes.now) }
         ensures { result ≡ first_bit (decode self.now.table.bytes.now).counts (suc p) }
     {
-        self.first[p + 1]
+        row_end(&self.first, p)
     }
 
     // Whether state y of process p is marked.
@@ -112,7 +128,7 @@ impl<'a> Layout<'a> {
         requires room { marks_size (decode self.now.table.bytes.now) ≤ length marks.now }
         ensures { result ≡ marked_in (decode self.now.table.bytes.now) marks.now p y }
     {
-        is_set(marks, self.bit(p, usize::from(y)))
+        is_marked(marks, state_bit(&self.first, p, y))
     }
 
     // Marks the states of process p from y on. Behind one that is marked they all are, so it stops there.
@@ -125,7 +141,7 @@ impl<'a> Layout<'a> {
         ensures { SetFrom (first_bit (decode self.now.table.bytes.now).counts p + y)
             (first_bit (decode self.now.table.bytes.now).counts (suc p)) marks.old marks.new }
     {
-        set_from(marks, self.bit(p, y), self.row_end(p));
+        mark_from(marks, self.bit(p, y), self.row_end(p));
     }
 }
 
