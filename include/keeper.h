@@ -172,7 +172,7 @@ static inline void keeper_put_u16(uint8_t *bytes, size_t place, uint16_t number)
     bytes[place + 1] = (uint8_t)(number >> 8);
 }
 
-/* The refusal of a table. Checks: the table's. Nothing is written. Stack: 2152. */
+/* The refusal of a table. Checks: the table's. Nothing is written. Stack: 2136. */
 uint32_t keeper_check_table(const uint8_t *table, size_t length);
 
 /* Lines. A line is one number for each process: that of one of its checkpoints, or its count, which
@@ -190,7 +190,7 @@ uint32_t keeper_check_table(const uint8_t *table, size_t length);
 
 /* The recovery line of the run: the latest consistent line at whose every process stands a checkpoint
    that the table has: the line under the last checkpoint of each. Checks: the table's, 16. The answer is N
-   numbers by process, 2N bytes. Stack: 2360. */
+   numbers by process, 2N bytes. Stack: 2344. */
 uint32_t keeper_recovery_line(const uint8_t *table, size_t length, uint8_t *answer, size_t room,
                               size_t *written);
 
@@ -199,7 +199,7 @@ uint32_t keeper_recovery_line(const uint8_t *table, size_t length, uint8_t *answ
    stand at their counts, with all that they have received. So where the processes of the set have failed and
    start again from a checkpoint, it says which of the others can go on as they are, and how far back the
    rest have to go. For the set of all N it is the recovery line, for the empty one it is the counts.
-   Checks: the table's, 12, 16. The answer is N numbers by process, 2N bytes. Stack: 2328. */
+   Checks: the table's, 12, 16. The answer is N numbers by process, 2N bytes. Stack: 2344. */
 uint32_t keeper_line_of_set(const uint8_t *table, size_t length, uint32_t set, uint8_t *answer,
                             size_t room, size_t *written);
 
@@ -227,7 +227,7 @@ uint32_t keeper_lines_of_sets(const uint8_t *table, size_t length, const uint32_
    recovery line. Nor does the keep sheet protect it: whoever discards by sheets may no longer have its
    checkpoints, or the logs of messages that cross it. Under the ceilings of a set the answer is that of
    keeper_line_of_set, byte for byte. Checks: the table's, 17, 18, 16. The answer is N numbers by process,
-   2N bytes. Stack: 2440. */
+   2N bytes. Stack: 2424. */
 uint32_t keeper_line_under(const uint8_t *table, size_t length, const uint16_t *ceilings,
                            size_t ceilings_length, uint8_t *answer, size_t room, size_t *written);
 
@@ -252,7 +252,7 @@ uint32_t keeper_line_under(const uint8_t *table, size_t length, const uint16_t *
    KEEPER_MARKS_SIZE(sum of the counts, N) bytes. The buffer may be longer. What stands in it before makes no
    difference. Under KEEPER_OK these first bytes are 0, and those beyond them are unchanged. Under a refusal,
    16 and 19 included, all are unchanged. Checks: the table's, 17, 18, 19, 16. The answer is N numbers by
-   process, 2N bytes. Stack: 3000. */
+   process, 2N bytes. Stack: 2984. */
 uint32_t keeper_marked_line(const uint8_t *table, size_t length, const uint16_t *ceilings,
                             size_t ceilings_length, uint8_t *marks, size_t marks_length, uint8_t *answer,
                             size_t room, size_t *written);
@@ -276,7 +276,7 @@ uint32_t keeper_marked_line(const uint8_t *table, size_t length, const uint16_t 
    Under KEEPER_OK `*written` tells the two apart. Yes: 2N, and the answer is N numbers by process, the latest
    of all consistent lines that have the named checkpoints. No: 0, and the answer buffer is unchanged, however
    short it is: check 16 is of a yes alone. What is said at keeper_line_under of what may be discarded holds
-   here too. Checks: the table's, 20, 21, 22, 16. Stack: 2408. */
+   here too. Checks: the table's, 20, 21, 22, 16. Stack: 2376. */
 uint32_t keeper_stand_together(const uint8_t *table, size_t length, const uint16_t *processes,
                                size_t processes_length, const uint16_t *states, size_t states_length,
                                uint8_t *answer, size_t room, size_t *written);
@@ -286,7 +286,7 @@ uint32_t keeper_stand_together(const uint8_t *table, size_t length, const uint16
 
 /* The table after a send: one message more, at position M, sent by `from` at its latest checkpoint (its
    count less one) and waiting for `to`. Checks: the table's, 10, 11, 14, 16. The answer has 8 bytes more
-   than the table. Stack: 2360. */
+   than the table. Stack: 2344. */
 uint32_t keeper_send(const uint8_t *table, size_t length, uint16_t from, uint16_t to, uint8_t *answer,
                      size_t room, size_t *written);
 
@@ -296,7 +296,7 @@ uint32_t keeper_send(const uint8_t *table, size_t length, uint16_t from, uint16_
    already, is not listed, and stays as it is. The list has `list_length` positions, strictly rising, each of
    a message that waits for the process; it may be empty, and then NULL. A channel delivers in the order sent:
    with a message the list has every message at an earlier position from the same sender that waits for the
-   process too. Checks: the table's, 10, 13, 24, 14, 16. The answer is as long as the table. Stack: 2440. */
+   process too. Checks: the table's, 10, 13, 24, 14, 16. The answer is as long as the table. Stack: 2424. */
 uint32_t keeper_save(const uint8_t *table, size_t length, uint16_t process, const uint16_t *list,
                      size_t list_length, uint8_t *answer, size_t room, size_t *written);
 
@@ -306,7 +306,7 @@ uint32_t keeper_save(const uint8_t *table, size_t length, uint16_t process, cons
    received and not saved yet waits no longer, and may not be listed again, neither here nor for a save.
    Where the list is empty the answer is the table, byte for byte. A process with 4,096 checkpoints receives
    too: there is no check 14. Checks: the table's, 10, 13, 24, 16. The answer is as long as the table.
-   Stack: 2472. */
+   Stack: 2456. */
 uint32_t keeper_receive(const uint8_t *table, size_t length, uint16_t process, const uint16_t *list,
                         size_t list_length, uint8_t *answer, size_t room, size_t *written);
 
@@ -314,7 +314,7 @@ uint32_t keeper_receive(const uint8_t *table, size_t length, uint16_t process, c
    stays where its send number is below L at its sender, and if its receipt number is above L at its
    receiver it waits again. What was received and not saved yet is always above L: it goes or waits again.
    Those that stay keep their order and move up. Checks: the table's, 16. The answer is as long as the table
-   or shorter, by 8 bytes for each message that goes. Stack: 2504.
+   or shorter, by 8 bytes for each message that goes. Stack: 2520.
 
    Numbers and positions are used again afterwards: a number above L names another checkpoint than before,
    and a position another message, since messages have gone and others have moved up. Contents that are

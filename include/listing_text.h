@@ -34,7 +34,7 @@ extern "C" {
    is changed. On KEEPER_OK the text stands at the front of `text` and its length in `*written`; the bytes
    beyond it are unchanged. The rules at the head of keeper.h hold: `table` may be NULL where `length` is
    0 and `text` where `room` is 0, `written` never; none of the three may overlap another; `table` is only
-   read. Stack: 17872, most of it for a keep sheet and its lines. */
+   read. Stack: 17000, most of it for a keep sheet and its lines. */
 uint32_t keeper_listing(const uint8_t *table, size_t length, uint8_t *text, size_t room,
                         size_t *written);
 

@@ -95,7 +95,7 @@ static inline const char *run_table_refusal_words(uint32_t refusal)
 }
 
 /* The number of the first check that catches, or RUN_TABLE_OK where none does: the table is accepted. A
-   check covers the whole table before the next begins. Stack: 2120. */
+   check covers the whole table before the next begins. Stack: 2136. */
 uint32_t run_table_check(const uint8_t *table, size_t length);
 
 /* The lookups answer for a refused table too: each byte beyond the end is read as 0, N and M are what

@@ -1,46 +1,12 @@
--- `check` makes checks 1 to 4 in the order of the list; `entry_checks` answers the rest.
-use Rattle.run_table.proofs.EntryLaws.{refused_length, refused_messages, refused_parts, refused_processes, refused_short}
+-- `check` meets its contract: it passes on a refusal, and where there is none the table is accepted.
 use Rattle.run_table.proofs.checks.check.Goals as goal
-use Rattle.run_table.proofs.checks.check.Goals.{Else-n-gt-MOST_PROCESSES, then-n-eq0-via-else-n-eq0+then-n-gt-MOST_PROCESSES, then-n-eq0-via-then-n-eq0}
-use Rattle.std.proofs.Common.{sym, ◌∙◌}
+use Rattle.std.proofs.Common.{sym}
 use Rattle.std.proofs.lemmas.Result.{err_from_is_err_and}
-use Rattle.tables.proofs.CheckLaws.{inside, outside_above, outside_zero}
 
-pub returns-then-bytes-lt4-clause-refusal : goal.returns-then-bytes-lt4-clause-refusal
-returns-then-bytes-lt4-clause-refusal c = refused_short _ c.if-bytes-lt4.true
-
-pub returns-then-n-eq0-clause-refusal : goal.returns-then-n-eq0-clause-refusal
-returns-then-n-eq0-clause-refusal c =
-    refused_processes (record { n_is = c.u16_at-n.ensures; m_is = c.u16_at-m.ensures }) c.if-bytes-lt4.false (elim c.then-n-eq0.branch [
-      | then-n-eq0-via-then-n-eq0 w ↦ outside_zero _ _ w.if-n-eq0.true
-      | then-n-eq0-via-else-n-eq0+then-n-gt-MOST_PROCESSES w ↦ outside_above _ _ w.if-n-gt-MOST_PROCESSES.true
-    ])
-
-pub returns-then-m-gt-MOST_MESSAGES-clause-refusal : goal.returns-then-m-gt-MOST_MESSAGES-clause-refusal
-returns-then-m-gt-MOST_MESSAGES-clause-refusal c =
-    refused_messages (record { n_is = c.u16_at-n.ensures; m_is = c.u16_at-m.ensures }) c.if-bytes-lt4.false
-    (inside _ _ c.if-n-eq0.false c.if-n-gt-MOST_PROCESSES.false) c.if-m-gt-MOST_MESSAGES.true
-
-pub returns-then-bytes-table_length-clause-refusal : goal.returns-then-bytes-table_length-clause-refusal
-returns-then-bytes-table_length-clause-refusal c =
-    refused_length (record { n_is = c.u16_at-n.ensures; m_is = c.u16_at-m.ensures }) c.if-bytes-lt4.false
-    (inside _ _ c.if-n-eq0.false c.if-n-gt-MOST_PROCESSES.false) c.if-m-gt-MOST_MESSAGES.false c.table_length.ensures c.if-bytes-table_length.true
-
-pub returns-in_err-entry_checks-clause-refusal : goal.returns-in_err-entry_checks-clause-refusal
-returns-in_err-entry_checks-clause-refusal c =
+pub returns-in_err-all_checks-clause-refusal : goal.returns-in_err-all_checks-clause-refusal
+returns-in_err-all_checks-clause-refusal c =
     let p = err_from_is_err_and c.from_residual.result c.from_residual.ensures.1 in
-    rw (p.1, p.2)
-    (c.in_err-entry_checks.ensures
-    ∙ refused_parts (record { n_is = c.u16_at-n.ensures; m_is = c.u16_at-m.ensures }) c.if-bytes-lt4.false
-    (inside _ _ c.if-n-eq0.false c.if-n-gt-MOST_PROCESSES.false) c.if-m-gt-MOST_MESSAGES.false c.table_length.ensures c.if-bytes-table_length.false
-    c.sends_at-sends_start.ensures c.receipts_at-receipts_start.ensures)
+    rw (p.1, p.2) c.in_err-all_checks.ensures
 
 pub invariant_of-result : goal.invariant_of-result
-invariant_of-result c = record {
-  accepted =
-      sym
-      (c.in_ok-entry_checks.ensures
-      ∙ refused_parts (record { n_is = c.u16_at-n.ensures; m_is = c.u16_at-m.ensures }) c.if-bytes-lt4.false
-      (inside _ _ c.if-n-eq0.false c.if-n-gt-MOST_PROCESSES.false) c.if-m-gt-MOST_MESSAGES.false c.table_length.ensures c.if-bytes-table_length.false
-      c.sends_at-sends_start.ensures c.receipts_at-receipts_start.ensures);
-}
+invariant_of-result c = record { accepted = sym c.in_ok-all_checks.ensures }
