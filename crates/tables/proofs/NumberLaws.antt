@@ -2,6 +2,7 @@
 --     number_at_beyond, u16_at_last              a number at the end of the bytes
 --     number_at-take, number_at-drop, number_at-rest    a number in a part of the bytes
 --     length_bytes, length-all, all_append, all-rows    the bytes of numbers
+--     bytes_split                               those of a number, in two parts
 --     four_bytes                                 those of 32 bits, as std has them
 --     length-put_at, put_at_none, put_at_one, part_put, put_at_more  bytes put into a buffer
 --     number_at-all                             the numbers that bytes were made of, read again
@@ -84,6 +85,17 @@ all-rows w f (suc n) = all_append w (rows f n) (f n) ∙ ap (λ (l : List ℕ). 
 
 pub u16s-append : (xs ys : List ℕ) → u16s (xs ++ ys) ≡ u16s xs ++ u16s ys
 u16s-append = all_append 2
+
+-- of a number: those of its low 16 bits, and those of what is left
+pub bytes_split : (w n : ℕ) → bytes_of (suc (suc w)) n ≡ bytes_of 2 (n % 65536) ++ bytes_of w (n / 65536)
+unfolding bytes_of
+bytes_split w n =
+    let rest : n / 256 / 256 ≡ n / 65536 = omega arith in
+    let whole : n % 65536 ≡ n % 256 + 256 * (n / 256 % 256) = omega (arith, rest) in
+    let low : n % 65536 % 256 ≡ n % 256 = omega (arith, whole) in
+    let high : n % 65536 / 256 ≡ n / 256 % 256 = omega (arith, whole) in
+    let same : n / 256 % 256 % 256 ≡ n / 256 % 256 = omega arith in
+    rw (low, high, same, rest)
 
 -- the four bytes of a number of 32 bits, as std has them
 pub four_bytes : (n : ℕ) → to_le_bytes w32 n ≡ u32_bytes n

@@ -1,6 +1,7 @@
 -- Text laid over a buffer, numbers in decimal, and rows.
 --     overlay-..                      text over a buffer
 --     written_none, byte_within, ..   text after text
+--     text_laid, laid_length          what a writer has put lies over its buffer, and leaves its length
 --     Left, all_left, part_room, ..   a text that is put part by part
 --     Putting, putting-..             a loop that puts one text after another
 --     one_digit, more_digits, ..      a number's digits
@@ -9,7 +10,7 @@
 -- Assumes nothing.
 use mathlib.Core.Bool.{Bool, true, false}
 use mathlib.Core.List.{List, [], ◌∷◌, ◌++◌, append_assoc, append-nil}
-use mathlib.Core.Path.{◌≡◌, refl, sym, ap, ap₂, ◌∙◌, subst}
+use mathlib.Core.Path.{◌≡◌, refl, sym, ap, ap₂, ◌∙◌}
 use Prim.Native.Nat.{ℕ, zero, suc, ◌+◌, ◌*◌, ◌/◌, ◌%◌, ◌≤◌, ◌<◌}
 use denote.Ref.{at_last}
 use borrow.Author.Tests.{le-ltb, lt-ltb, ltb-false, ltb-true}
@@ -22,6 +23,13 @@ use Rattle.text_writer.specs.Writers.{standing, written}
 use Rattle.text_writer.specs.declared.TextWriter.{TextWriter}
 use Rattle.tables.proofs.ListLaws.{rows_more, rows_room}
 use Rattle.tables.specs.Lists.{rows}
+
+overlay-length : (b : List ℕ) (at : ℕ) (xs : List ℕ) → length (overlay b at xs) ≡ length b
+unfolding overlay
+overlay-length [] at xs = refl
+overlay-length (x ∷ b) zero [] = refl
+overlay-length (x ∷ b) zero (y ∷ xs) = ap suc (overlay-length b zero xs)
+overlay-length (x ∷ b) (suc at) xs = ap suc (overlay-length b at xs)
 
 overlay_none : (b : List ℕ) (at : ℕ) → overlay b at [] ≡ b
 unfolding overlay
@@ -80,6 +88,10 @@ byte_within w c l = ap (left_with w (w.at + 1)) (sym (overlay_one w.text.now w.a
 -- what a writer has put lies over its buffer
 pub text_laid : {w after : TextWriter} {text : List ℕ} → after ≡ written w text → Laid w.text.now after.text.now w.at text after.at
 text_laid e = record { contents = ap (λ (w : TextWriter). w.text.now) e; place = ap (λ (w : TextWriter). w.at) e }
+
+-- text that is laid over a buffer leaves its length
+pub laid_length : {before after : List ℕ} {at : ℕ} {xs : List ℕ} {next : ℕ} → Laid before after at xs next → length after ≡ length before
+laid_length {before} {after} {at} {xs} p = ap length p.contents ∙ overlay-length before at xs
 
 -- the same text
 pub laid_same : {before after xs ys : List ℕ} {at next : ℕ} → xs ≡ ys → Laid before after at xs next → Laid before after at ys next
