@@ -219,7 +219,7 @@ changed include/keeper.h '/^\/\* The table after a receipt/,/^uint32_t keeper_re
 changed include/keeper.h '/^\/\* Whether named checkpoints/,/^uint32_t keeper_stand_together/s/Stack: [0-9]*/Stack: 22/'
 changed include/keeper.h '/^\/\* The lines of many sets/,/^uint32_t keeper_lines_of_sets/s/Stack: [0-9]*/Stack: 22/'
 changed include/listing_text.h 's/Stack: \([0-9]*\)[0-9],/Stack: \1,/'
-changed include/run_table.h 's/Stack: 2136/Stack: 2137/'
+changed include/run_table.h 's/Stack: [0-9][0-9]*/Stack: 22/'
 changed man/keeper.3 's/^\.It Fn keeper_save Ta [0-9]*/&0/'
 changed man/keeper.3 '/^\.It Fn keeper_listing Ta /d'
 changed man/keeper.3 '/^\.It Fn keeper_line_under Ta /d'
